@@ -59,13 +59,17 @@ check:
 
 words: bin/zebraidx
 	@tests/words/run
+	@tests/words/run --leaves
 	@tests/words/finds
+	@tests/words/finds --leaves
 	@tests/words/registers
 	@tests/words/folders
 	@tests/words/faults
 	@tests/words/nightly
 	@tests/words/front_end
 	@tests/words/one_file
+	@tests/words/leaves
+	@tests/words/one_file --leaves
 	@tests/words/causes
 
 session: bin/zebraidx
@@ -79,9 +83,13 @@ examples:
 
 hostile: bin/zebraidx
 	@tests/hostile/greatest
+	@tests/hostile/greatest --leaves
 	@tests/hostile/failing_calls
+	@tests/hostile/failing_calls --leaves
 	@tests/hostile/drawn --seconds $(or $(SECONDS),60)
+	@tests/hostile/drawn --leaves --seconds $(or $(SECONDS),60)
 	@tests/hostile/drawn_tables $(if $(SECONDS),--seconds $(SECONDS))
+	@tests/hostile/drawn_tables --leaves $(if $(SECONDS),--seconds $(SECONDS))
 
 allocations:
 	@tests/each_allocation.py

@@ -102,14 +102,14 @@ def scan_here(query):
 
 
 class Ours:
-    """This program over a register on disk."""
+    """This program over a register on disk, in packed blocks or in leaves."""
 
-    def __init__(self, program, rules, folder):
+    def __init__(self, program, rules, folder, leaves=False):
         folder.mkdir()
         self.folder, self.program = folder, program
         self.file, self.log = folder / "made.db", folder / "made.db-wal"
         (folder / "zebra.cfg").write_text("store made.db\nidentifier 001\n" + rules, encoding="utf-8")
-        self.run("init")
+        self.run("init", *(["--leaves"] if leaves else []))
 
     def run(self, *words):
         return ran([self.program, *words], self.folder, [self.log])

@@ -13,6 +13,7 @@ _zebraidx() {
     :-d) COMPREPLY=() ;;
     :*) mapfile -t COMPREPLY < <(compgen -W "-c -d -s --help --version init create drop update delete adelete stat dump check reindex upgrade find scan batch shell" -- "$word") ;;
     update:* | delete:* | adelete:*) mapfile -t COMPREPLY < <(compgen -f -- "$word") ;;
+    init:* | upgrade:*) mapfile -t COMPREPLY < <(compgen -W "--leaves" -- "$word") ;;
     find:*) mapfile -t COMPREPLY < <(compgen -W "--first --count" -- "$word") ;;
     scan:*) mapfile -t COMPREPLY < <(compgen -W "--number --position" -- "$word") ;;
   esac

@@ -14,10 +14,12 @@ from repository import ROOT
 A_FILE = "a file"
 PROGRAM = "crates/zeb_words/src/program.rt"
 FUNCTION = re.compile(r"^(?:pub\(crate\) )?fn (\w+)<'a>\((.*?)^}", re.M | re.S)
-COMMAND = re.compile(r'\b(plain|naming|changing)\(\s*alloc,\s*"(\w+)",\s*"([^"]*)"')
+COMMAND = re.compile(r'\b(plain|founding|naming|changing)\(\s*alloc,\s*"(\w+)",\s*"([^"]*)"')
 # Options of a command, and those of the program with a value and without one.
 NUMBER = re.compile(r'\bnumber\(\s*alloc,\s*"(\w+)"')
 VALUED = re.compile(r'\boption\(\s*alloc,\s*"\w+",\s*\'(\w)\',\s*"(\w+)"')
+# The function whose flag the commands of `founding` take.
+LAYOUT = "leaves"
 FLAG = re.compile(r"\.(short|long)\(['\"](\w+)['\"]\)")
 
 
@@ -29,16 +31,22 @@ def program_takes():
     """What the program's source declares, and the text of each command."""
     # The parser's own.
     taken, texts = {("", "--help")}, {}
-    for _, body in FUNCTION.findall(read(PROGRAM)):
+    founding, layouts = set(), set()
+    for function, body in FUNCTION.findall(read(PROGRAM)):
         commands = COMMAND.findall(body)
+        founding |= {name for kind, name, _ in commands if kind == "founding"}
         for kind, name, text in commands:
             texts[name] = text
             taken |= {("", name)} | ({(name, A_FILE)} if kind == "changing" else set())
         taken |= {(commands[0][1], f"--{it}") for it in NUMBER.findall(body)}
         for letter, value in VALUED.findall(body):
             taken |= {("", f"-{letter}")} | ({(f"-{letter}", A_FILE)} if value == "FILE" else set())
-        taken |= {("", f"-{name}" if kind == "short" else f"--{name}") for kind, name in FLAG.findall(body)}
-    return taken, texts
+        flags = {f"-{name}" if kind == "short" else f"--{name}" for kind, name in FLAG.findall(body)}
+        if function == LAYOUT:
+            layouts |= flags
+        else:
+            taken |= {("", it) for it in flags}
+    return taken | {(name, it) for name in founding for it in layouts}, texts
 
 
 def table(text, head):

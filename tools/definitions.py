@@ -55,7 +55,7 @@ OWN = {
     "zeb_change": "what becomes of the records of files; kept records",
     "zeb_register": "the six tables, and the contents of registers",
     "zeb_blocks": "the bytes of blocks",
-    "zeb_leaf": "the bytes of leaves, of a layout to come",
+    "zeb_leaf": "the bytes of leaves",
     "zeb_keys": "the order of keys",
     "zeb_program": "what is written, by lines and by words",
     "zeb_words": "which command words name",

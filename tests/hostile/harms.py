@@ -3,6 +3,7 @@ import random
 import string
 
 import image
+from leaf_harms import LeafRows
 from rows import record
 from stories import Drawn
 from tables import TABLES
@@ -32,10 +33,10 @@ SPELLINGS = (b"", b"\0", b"\1\1", b"\1\1\1\0\0\0", b"\0\1\1", b"\xff" * 9 + b"\2
 
 
 class Register:
-    """Rows of a register's file, read and written as they come, by lot."""
+    """Rows of a register's file, read and written as they come, by lot. The version is that in which it is made anew."""
 
-    def __init__(self, seed, profile, connection):
-        self.random, self.profile, self.connection = random.Random(f"rows {seed}"), profile, connection
+    def __init__(self, seed, profile, connection, version):
+        self.random, self.profile, self.connection, self.version = random.Random(f"rows {seed}"), profile, connection, version
         self.drawn = Drawn(f"bytes {seed}")
         connection.text_factory = bytes
         self.columns = {it: self.columns_of(it) for it in TABLES}
@@ -106,7 +107,7 @@ class Harmless:
     """What harms no register; each of these is drawn alone."""
 
     def __init__(self, register):
-        self.register, self.random = register, register.random
+        self.register, self.random, self.leaves = register, register.random, LeafRows(register)
 
     def nothing(self):
         pass
@@ -140,8 +141,8 @@ class Harmless:
             last = self.random.choice((0, *NUMBERS))
             self.register.run("INSERT OR IGNORE INTO databases (name, last) VALUES (CAST(? AS TEXT), ?)", name, last)
 
-    def remake(self, version=image.PACKED):
-        """Records have other numbers, and all rows are made anew."""
+    def remake(self, version=None):
+        """Records have other numbers, and all rows are made anew, in another version where one is given."""
         tables = self.register.tables()
         databases, records = [], []
         for db, name, _ in tables["databases"]:
@@ -149,27 +150,42 @@ class Harmless:
             numbers = self.random.sample(NUMBERS, len(kept)) if len(kept) <= len(NUMBERS) else [it[1] for it in kept]
             records += [(db, number, *it[2:]) for number, it in zip(numbers, kept)]
             databases.append((db, name, max([*numbers, self.random.choice((0, *NUMBERS))])))
-        self.register.write(image.image(self.register.profile, databases, records, version))
+        self.register.write(image.image(self.register.profile, databases, records, version or self.register.version))
 
-    def be_plain(self):
-        """The rows are those of a register of the first version."""
-        self.remake(image.PLAIN)
+    def be_of_another_version(self):
+        """The rows are those of a register of another version: the first, or where this is the last, the one before it."""
+        others = [it for it in image.VERSIONS if it < self.register.version]
+        self.remake(self.random.choice(others))
+
+    def change_leaves(self):
+        """What harms no leaves, some times over, where the register is in leaves now."""
+        if (b"version", image.LEAVES) in self.register.tables()["meta"]:
+            kinds = LeafRows.HARMLESS
+            for kind in self.random.choices(list(kinds), list(kinds.values()), k=self.random.randint(1, 6)):
+                kind(self.leaves)
 
     def draw(self):
-        kinds = (self.nothing, self.raise_lasts, self.put_back, self.give_another_id, self.add_databases, self.remake, self.be_plain)
+        kinds = (self.nothing, self.raise_lasts, self.put_back, self.give_another_id, self.add_databases, self.remake, self.be_of_another_version)
         weights = (3, 2, 4, 3, 2, 8, 2)
         for kind in self.random.choices(kinds, weights, k=self.random.randint(1, 3)):
             kind()
+        if self.register.version == image.LEAVES:
+            self.change_leaves()
 
 
 class Harmful:
     """What harms most registers."""
 
     def __init__(self, register):
-        self.register, self.random = register, register.random
+        self.register, self.random, self.leaves = register, register.random, LeafRows(register)
 
     def table(self):
         return self.random.choices(TABLES, weights=(3, 5, 8, 2, 8, 7))[0]
+
+    def change_leaves(self):
+        """One of what harms most leaves."""
+        kinds = LeafRows.HARMFUL
+        self.random.choices(list(kinds), list(kinds.values()))[0](self.leaves)
 
     def alter(self):
         """One column, or two, of a row."""
@@ -232,11 +248,13 @@ class Harmful:
             self.register.turn(table, other, {**second, column: row[column]})
 
     def be_of_both(self):
-        """The rows of the other format too, of all records or of some."""
+        """The rows of another version too, of all records or of some."""
         tables = self.register.tables()
         kept = [it for it in tables["records"] if image.fields(it[3]) is not None]
         kept = self.random.sample(kept, self.random.randint(0, len(kept)))
-        version = image.PLAIN if tables["blocks"] else image.PACKED
+        version = image.PLAIN if tables["blocks"] else self.register.version
+        if self.register.version == image.LEAVES and self.random.random() < 0.5:
+            version = image.PACKED
         made = image.image(self.register.profile, tables["databases"], kept, version)
         for table in ("postings", "blocks", "dict"):
             for row in made[table]:
@@ -253,8 +271,8 @@ class Harmful:
     def draw(self):
         rows = (self.alter, self.double, self.add, self.take, self.empty)
         several = (self.post, self.take_word, self.exchange, self.be_of_both, self.reach_the_last_rowid)
-        weights = (12, 5, 5, 4, 0.5, 4, 2, 3, 2, 0.7)
-        for kind in self.random.choices((*rows, *several), weights, k=self.random.choice((1, 1, 1, 2, 3, 6))):
+        weights = (12, 5, 5, 4, 0.5, 4, 2, 3, 2, 0.7, 30 if self.register.version == image.LEAVES else 0)
+        for kind in self.random.choices((*rows, *several, self.change_leaves), weights, k=self.random.choice((1, 1, 1, 2, 3, 6))):
             kind()
 
 

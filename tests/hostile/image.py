@@ -12,6 +12,7 @@ sys.dont_write_bytecode = True
 ROOT = pathlib.Path(__file__).resolve().parents[2]
 sys.path += [str(ROOT / "bench"), str(ROOT / "tests/words")]
 from counted import Rules
+from leaves import are_leaves, leaf_rows, spelled_number
 
 END_OF_FIELD, END_OF_RECORD, CODE = b"\x1e", b"\x1d", b"\x1f"
 # What a leader says at these places, where it says a digit.
@@ -19,7 +20,8 @@ LEADER = {10: b"2", 11: b"2", 20: b"4", 21: b"5", 22: b"0"}
 DATABASE = re.compile(rb"[A-Za-z0-9_.-]{1,64}")
 CONTROL = re.compile("[\0-\x1f\x7f-\x9f]")
 GREATEST = 999_999_999
-PLAIN, PACKED = b"1", b"2"
+# The versions of registers: a row for each posting, blocks of postings, and leaves of blocks.
+VERSIONS = PLAIN, PACKED, LEAVES = b"1", b"2", b"3"
 
 
 def fields(record):
@@ -92,11 +94,6 @@ class Profile:
         return [(b"identifier", self.pattern.encode()), (b"profile", self.text), (b"version", version)]
 
 
-def number(value):
-    """The shortest bytes of a number, seven bits in each."""
-    return bytes([value]) if value < 128 else bytes([value % 128 + 128]) + number(value // 128)
-
-
 def spelled(block, postings):
     """The bytes of a block for these postings, which rise."""
     data, last = b"", (256 * block, 0, 0)
@@ -104,20 +101,25 @@ def spelled(block, postings):
         is_same = at > 0 and sysno == last[0]
         from_seq = last[1] if is_same else 0
         from_pos = last[2] if is_same and seq == from_seq else 0
-        data += number(sysno - last[0]) + number(seq - from_seq) + number(pos - from_pos)
+        data += spelled_number(sysno - last[0]) + spelled_number(seq - from_seq) + spelled_number(pos - from_pos)
         last = sysno, seq, pos
     return data
 
 
-def packed(postings):
-    """The rows of `blocks` and of `dict` for those of `postings`."""
-    blocks, terms = [], []
+def blocks_of(postings):
+    """The blocks for the rows of `postings`: each its key, its number, how many records it has, and its bytes."""
+    blocks = []
     for key, rows in itertools.groupby(sorted(postings), key=lambda it: it[:4]):
-        places = [it[4:] for it in rows]
-        terms.append((*key, len({it[0] for it in places})))
-        for block, part in itertools.groupby(places, key=lambda it: it[0] // 256):
-            blocks.append((*key, block, spelled(block, part)))
-    return blocks, terms
+        for block, part in itertools.groupby([it[4:] for it in rows], key=lambda it: it[0] // 256):
+            places = list(part)
+            blocks.append((*key, block, len({it[0] for it in places}), spelled(block, places)))
+    return blocks
+
+
+def packed(blocks):
+    """The rows of `blocks` and of `dict` for these blocks."""
+    terms = [(*key, sum(it[5] for it in each)) for key, each in itertools.groupby(blocks, key=lambda it: it[:4])]
+    return [(*it[:5], it[6]) for it in blocks], terms
 
 
 def are_kept(profile, databases, records):
@@ -128,15 +130,27 @@ def are_kept(profile, databases, records):
     )
 
 
+def postings_of(profile, records):
+    """The rows of `postings` for these records."""
+    return sorted((db, *it[:3], sysno, *it[3:]) for db, sysno, _, record in records for it in profile.occurrences(record))
+
+
+def registers_of(postings, version):
+    """The rows of `postings`, `blocks` and `dict` of a register with these postings; of several, where there are leaves, the fullest ones."""
+    if version == PLAIN:
+        return postings, [], []
+    blocks = blocks_of(postings)
+    return ([], leaf_rows(blocks), []) if version == LEAVES else ([], *packed(blocks))
+
+
 def image(profile, databases, records, version=PACKED):
     """The tables of a register with these databases and records."""
-    postings = sorted((db, *it[:3], sysno, *it[3:]) for db, sysno, _, record in records for it in profile.occurrences(record))
-    blocks, terms = packed(postings) if version == PACKED else ([], [])
+    postings, blocks, terms = registers_of(postings_of(profile, records), version)
     return {
         "meta": profile.texts(version),
         "databases": sorted(databases),
         "records": sorted(records),
-        "postings": [] if version == PACKED else postings,
+        "postings": postings,
         "blocks": blocks,
         "dict": terms,
     }
@@ -145,4 +159,10 @@ def image(profile, databases, records, version=PACKED):
 def is_image(profile, tables, version=PACKED):
     """Whether the tables are those of a register."""
     lists = tables["databases"], tables["records"]
-    return are_kept(profile, *lists) and tables == image(profile, *lists, version)
+    if not are_kept(profile, *lists):
+        return False
+    made = image(profile, *lists, version)
+    if version != LEAVES:
+        return tables == made
+    beside = [it for it in made if it != "blocks"]
+    return all(tables[it] == made[it] for it in beside) and are_leaves(tables["blocks"], blocks_of(postings_of(profile, lists[1])))

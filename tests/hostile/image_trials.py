@@ -1,5 +1,6 @@
-"""Trials of tests/hostile/image.py: records, blocks and tables that were worked out by hand."""
+"""Trials of tests/hostile/image.py and leaves.py: records, blocks, leaves and tables that were worked out by hand."""
 import image
+import leaves
 from rows import record
 
 PROFILE = """identifier 001
@@ -30,6 +31,27 @@ BLOCKS = [
     (1, [(256, 2, 2)], "000202"),
     (1, [(256, 2, 2), (256, 300, 1)], "00020200aa0201"),
 ]
+# A leaf, each entry its term, its block, its records and its block's bytes, and the leaf's bytes.
+LEAVES = [
+    ([], ""),
+    ([(b"dick", 0, 1, b"\1\2\2"), (b"moby", 0, 1, b"\1\2\1")], "00046469636b000103010202" "00046d6f6279000103010201"),
+    ([(b"dick", 0, 1, b"\1\2\2"), (b"dock", 0, 1, b"\1\2\2")], "00046469636b000103010202" "01036f636b000103010202"),
+    ([(b"dick", 0, 1, b"\xff\1\2\2"), (b"dick", 300, 2, b"\0\2\2\1\2\2")], "00046469636b000104ff010202" "0400ac020206000202010202"),
+]
+# Bytes that are no leaf: cut, a byte shared with none, a shared byte said again, terms and blocks that don't rise, a term that is no text, no
+# record, more than 256, a number that could be shorter, and one of more than 64 bits.
+NO_LEAVES = [
+    "00046469636b0001030102",
+    "01036469630001030102",
+    "00046469636b00010301020200046f636b64000103010202" "0004646f636b000103010202",
+    "00046d6f627900010302010100046469636b000103010202",
+    "00046469636b010103010202" "0400000103010202",
+    "00046469ff6b000103010202",
+    "00046469636b000003010202",
+    "00046469636b00810203010202",
+    "00046469636b8000010301 0202".replace(" ", ""),
+    "00046469636bffffffffffffffffff020103010202",
+]
 # Bytes in place of others in Moby Dick, and whether a record comes of it.
 CHANGED = [
     (b" 4500", b"     ", True),
@@ -46,11 +68,22 @@ CHANGED = [
 ]
 
 
+def is_malformed(data):
+    try:
+        return leaves.read_leaf(data) is None
+    except leaves.Malformed:
+        return True
+
+
 def trials():
     """What isn't as it was worked out."""
     profile = image.Profile(PROFILE)
     for block, postings, data in BLOCKS:
         yield data, image.spelled(block, postings).hex() == data
+    for entries, data in LEAVES:
+        yield data, leaves.spelled_leaf(entries).hex() == data and leaves.read_leaf(bytes.fromhex(data)) == entries
+    for data in NO_LEAVES:
+        yield f"no leaf {data}", is_malformed(bytes.fromhex(data))
     for old, new, is_record in CHANGED:
         yield new, MOBY.count(old) == 1 and (image.fields(MOBY.replace(old, new)) is not None) == is_record
     yield "a record without a field", image.fields(b"00026nam a2200025 a 4500\x1e\x1d") == []
@@ -64,6 +97,7 @@ def trials():
     one = image.Profile("identifier 001\natt 1016 Any\nmelm 245$a Any:w\nall Any:w\n")
     yield "a target twice", len(one.occurrences(MOBY)) == 6
     yield from tables(profile)
+    yield from tables_of_leaves(profile)
 
 
 def tables(profile):
@@ -85,6 +119,53 @@ def tables(profile):
         yield f"last {last}", image.are_kept(profile, [(7, b"x", last)], [(7, 1, b"a1", MOBY)]) == is_sound
     for name, is_sound in ((b"-", True), (b"n" * 64, True), (b"n" * 65, False), (b"a b", False), (b"", False), (b"x\n", False)):
         yield f"name {name}", image.are_kept(profile, [(7, name, 1)], []) == is_sound
+
+
+def tables_of_leaves(profile):
+    """Trials of whole tables of leaves, whose rows of titles' words are changed."""
+    lists = [(7, b"Default", 1)], [(7, 1, b"a1", MOBY)]
+    made = image.image(profile, *lists, image.LEAVES)
+    yield "rows of leaves", [len(it) for it in made.values()] == [3, 1, 1, 0, 4, 0]
+    title, rest = made["blocks"][0], made["blocks"][1:]
+    yield "a leaf", title[:5] == (7, 0, 0, b"", 0) and title[5].startswith(bytes.fromhex("00046469636b000103010202" "00046d6f6279000103010201"))
+    entries = leaves.read_leaf(title[5])
+    first, second = leaves.spelled_leaf(entries[:2]), leaves.spelled_leaf(entries[2:])
+    other = leaves.spelled_leaf([entries[0], (b"moby", 0, 2, entries[1][3]), *entries[2:]])
+    for rows, is_sound in (
+        ([(b"", 0, title[5])], True),
+        ([(b"", 0, first), (b"or", 0, second)], True),
+        ([(b"", 0, first), (b"moby", 1, b""), (b"n", 7, second)], True),
+        ([(b"", 0, title[5]), (b"zz", 0, b"")], True),
+        ([], False),
+        ([(b"", 0, second), (b"or", 0, first)], False),
+        ([(b"or", 0, second)], False),
+        ([(b"", 0, title[5]), (b"or", 0, b"")], False),
+        ([(b"", 0, first), (b"p", 0, second)], False),
+        ([(b"a", 0, title[5])], False),
+        ([(b"", 1, title[5])], False),
+        ([(b"", 0, title[5]), (b"zz", -1, b"")], False),
+        ([(b"", 0, title[5]), (b"\xff", 0, b"")], False),
+        ([(b"", 0, title[5][:-1])], False),
+        ([(b"", 0, other)], False),
+    ):
+        blocks = sorted([*((7, 0, 0, *it) for it in rows), *rest])
+        yield f"leaves {rows}", image.is_image(profile, {**made, "blocks": blocks}, image.LEAVES) == is_sound
+    yield from greater_leaves()
+
+
+def greater_leaves():
+    """Trials of leaves of several entries at and above their greatest length."""
+    # The first entry takes seven bytes beside its block's, and the second one six.
+    entries = [(b"a", 0, 1, b"\0" * 2984), (b"b", 0, 1, b"")]
+    blocks = [(7, 0, 0, *it) for it in entries]
+    yield "at most 3,000 bytes", len(leaves.spelled_leaf(entries)) == 2997 and len(leaves.cut(entries)) == 1
+    longer = [(b"a", 0, 1, b"\0" * 2988), (b"b", 0, 1, b"")]
+    yield "more than 3,000", len(leaves.spelled_leaf(longer)) == 3001 and len(leaves.cut(longer)) == 2
+    yield "several", leaves.are_leaves([(7, 0, 0, b"", 0, leaves.spelled_leaf(entries))], blocks)
+    longer_blocks = [(7, 0, 0, *it) for it in longer]
+    yield "too long", not leaves.are_leaves([(7, 0, 0, b"", 0, leaves.spelled_leaf(longer))], longer_blocks)
+    yield "parted", leaves.are_leaves(leaves.leaf_rows(longer_blocks), longer_blocks)
+    yield "one alone", leaves.are_leaves([(7, 0, 0, b"", 0, leaves.spelled_leaf([(b"a", 0, 1, b"\0" * 9000)]))], [(7, 0, 0, b"a", 0, 1, b"\0" * 9000)])
 
 
 def failures():

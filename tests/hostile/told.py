@@ -45,17 +45,19 @@ class Command:
     query: str = ""
     file: str = ""
     records: tuple = ()
+    # Whether a register in leaves is asked for, which words can, and no line.
+    leaves: bool = False
 
     def words(self):
         """The words of a command that changes something."""
         named = [self.name] if self.kind in ("create", "drop") else []
-        return [*(["-d", self.name] if self.file else []), self.kind, *named, *([self.file] if self.file else [])]
+        return [*(["-d", self.name] if self.file else []), self.kind, *["--leaves"] * self.leaves, *named, *([self.file] if self.file else [])]
 
     def line(self):
-        """Its line in a batch."""
+        """Its line in a batch, if it can be one."""
         name = "" if self.kind in OF_ALL else self.name
         shown = f"{NUMBER} {POSITION}" if self.kind == "scan" else ""
-        return " ".join(it for it in (self.kind, name, shown, self.query, self.file) if it).encode()
+        return " ".join(it for it in (self.kind, "--leaves" * self.leaves, name, shown, self.query, self.file) if it).encode()
 
 
 def is_readable(text):
@@ -176,10 +178,16 @@ class Tables:
 
     def __init__(self, profile, rows):
         self.profile, self.rows, self.texts = profile, rows, dict(rows["meta"])
+        # The version by which the program goes: that of leaves where it is kept.
+        self.version = image.LEAVES if self.texts.get(b"version") == image.LEAVES else image.PACKED
 
     @functools.cached_property
     def is_image(self):
-        return image.is_image(self.profile, self.rows)
+        return image.is_image(self.profile, self.rows, self.version)
+
+    def goal(self, command):
+        """The version that an init or an upgrade has for its goal."""
+        return image.LEAVES if command.leaves else self.version
 
     @functools.cached_property
     def held(self):
@@ -189,8 +197,9 @@ class Tables:
             records[db][sysno] = ident, record
         return {name: (last, records[db]) for db, name, last in self.rows["databases"]}
 
-    def unready(self, version=image.PACKED):
-        """How the texts refuse a command that goes by this version."""
+    def unready(self, version=None):
+        """How the texts refuse a command that goes by this version, or by the program's."""
+        version = version or self.version
         return self.refused_by(b"version", version, OTHER_FORMAT) or self.refused_by(b"profile", self.profile.text, OTHER_PROFILE)
 
     def refused_by(self, name, wanted, otherwise):
@@ -204,15 +213,17 @@ class Tables:
     def checked(self):
         return self.unready() or (OK if self.is_image else DAMAGED)
 
-    def upgraded(self):
-        if self.texts.get(b"version") != image.PLAIN:
-            return self.unready() or OK
-        return self.unready(image.PLAIN) or (OK if image.is_image(self.profile, self.rows, image.PLAIN) else DAMAGED)
+    def upgraded(self, command):
+        goal, kept = self.goal(command), self.texts.get(b"version")
+        earlier = [it for it in image.VERSIONS if it < goal]
+        if kept not in earlier:
+            return self.unready(goal) or OK
+        return self.unready(kept) or (OK if image.is_image(self.profile, self.rows, kept) else DAMAGED)
 
     def reindexed(self):
         """The answers that a reindex may give: two where all records are sound, but a row of the lists can't be read."""
         rule = self.profile.pattern.encode()
-        refused = self.refused_by(b"version", image.PACKED, OTHER_FORMAT) or self.refused_by(b"identifier", rule, OTHER_RULE)
+        refused = self.refused_by(b"version", self.version, OTHER_FORMAT) or self.refused_by(b"identifier", rule, OTHER_RULE)
         databases = self.rows["databases"]
         kept = [it for it in self.rows["records"] if it[0] in {db for db, _, _ in databases}]
         if refused or not all(sysno < 0 or self.is_sound(sysno, ident, record) for _, sysno, ident, record in kept):
@@ -229,7 +240,7 @@ class Tables:
         if command.kind == "reindex":
             return answer in self.reindexed()
         if command.kind in OF_ALL:
-            return answer == {"init": lambda: OK, "check": self.checked, "upgrade": self.upgraded}[command.kind]()
+            return answer == {"init": lambda: OK, "check": self.checked, "upgrade": lambda: self.upgraded(command)}[command.kind]()
         if self.unready():
             return answer == self.unready()
         if self.is_image:

@@ -11,12 +11,13 @@ each with lines below it that begin with two spaces:
     rows SUBJECT         commands and what they are answered with, one after the other
 
 A row is `COMMAND => ANSWER`. The query of a find or a scan is the rest of the command, as it stands. The answer's lines are divided by `; `,
-and `nothing` is none; `1: TEXT` is the status 1 with the line `zebraidx: TEXT`; `bytes of FILE` are those. A find whose answer doesn't begin
+and `nothing` is none; `1: TEXT` is the status 1 with the line `zebraidx: TEXT`; `bytes of FILE FILE` are those. A find whose answer doesn't begin
 with `hits` lists all its hits.
 """
 import argparse
 import concurrent.futures
 import dataclasses
+import itertools
 import pathlib
 import re
 import subprocess
@@ -77,7 +78,7 @@ class Row:
         if refused:
             return int(refused[1]), b"", b"zebraidx: " + bytes_of(refused[2]) + b"\n"
         if self.answer.startswith("bytes of "):
-            return 0, (folder / self.answer.removeprefix("bytes of ")).read_bytes(), b""
+            return 0, b"".join((folder / it).read_bytes() for it in self.answer.removeprefix("bytes of ").split()), b""
         lines = [] if self.answer == "nothing" else self.answer.split("; ")
         if b"find" in self.words() and not self.answer.startswith("hits "):
             lines = [f"hits {len(lines)}", *lines]
@@ -88,7 +89,7 @@ class Row:
         ran = subprocess.run([program, *self.words()], cwd=folder, stdin=subprocess.DEVNULL, capture_output=True)
         # Below `bad usage` the parser says why, in words of its own, and below a fault stands its cause: tests/words/causes looks at these.
         lines = ran.stderr.splitlines(keepends=True)
-        fault = b"".join(it for it in lines[: 1 if ran.returncode == 2 else None] if not re.match(rb"zebraidx: (cause: |file [0-9]+ is )", it))
+        fault = b"".join(it for it in lines[: 1 if ran.returncode == 2 else None] if not re.match(rb"zebraidx: (cause: |register is |file [0-9]+ is )", it))
         if (ran.returncode, ran.stdout, fault) == self.wanted(folder):
             return None
         return f"{self.place}: {self.command[:200]}\n  wanted {self.answer[:300]}\n  status {ran.returncode}, {ran.stdout[:300]!r} {ran.stderr[:300]!r}"
@@ -151,12 +152,22 @@ def write(part, folder):
         (folder / name).write_bytes(b"".join(bytes_of(it) for it in lines))
 
 
+def in_leaves(folders):
+    """The same folders, whose registers are begun in leaves."""
+    for part in itertools.chain(*folders):
+        if part.head == "rows":
+            part.lines = [(place, re.sub(r"^((?:-\S+ \S+ )*init) =>", r"\1 --leaves =>", text)) for place, text in part.lines]
+    return folders
+
+
 def run_all(usage, folders, run):
     """Runs `run(program, folder, given)` for each of `folders` in an empty folder of its own, side by side; it gives how many rows passed and
     what differs. Prints both, and gives the process's status."""
     parser = argparse.ArgumentParser(usage=usage)
     parser.add_argument("--program", default=ROOT / "bin/zebraidx", type=pathlib.Path)
-    program = parser.parse_args().program.resolve()
+    parser.add_argument("--leaves", action="store_true")
+    given = parser.parse_args()
+    program, folders = given.program.resolve(), in_leaves(folders) if given.leaves else folders
     with tempfile.TemporaryDirectory(prefix="zebraidx-rows-") as name, concurrent.futures.ThreadPoolExecutor() as threads:
         places = [pathlib.Path(name) / str(at) for at in range(len(folders))]
         for it in places:

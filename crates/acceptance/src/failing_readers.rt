@@ -3,6 +3,8 @@
 use command_rows::stories::tell;
 use std::alloc::{AllocError, AllocGlobal, Global};
 use std::test::Fail;
+use zeb_leaves::Leaves;
+use zeb_packed::Blocks;
 
 /// Readers of a change, and why it is refused: of those that had failed the first is named, whatever the ones before it would give. `dock` gives
 /// that record and ends, `cafe!` fails behind it, and `cafe?` had failed.
@@ -50,7 +52,7 @@ fn add_changes(story: &mut String, row: &str) -> Result<(), AllocError> {
 /// Before the register is begun, before it has the database, and beside two records.
 #[test]
 fn a_reader_that_had_failed_is_named(rt: HostRuntime) -> Result<(), Fail> {
-    let mut story = String::from_str(rt.alloc(), "packed books")?;
+    let mut story = String::from_str(rt.alloc(), "either books")?;
     for line in BEFORE.split('\n') {
         write!(story, "\n{line}")?;
         for row in HAD_FAILED.split('\n') {
@@ -58,7 +60,8 @@ fn a_reader_that_had_failed_is_named(rt: HostRuntime) -> Result<(), Fail> {
         }
     }
     write!(story, "\n{STILL_LOADED}")?;
-    tell(rt.alloc(), &story)?;
+    tell::<Blocks>(rt.alloc(), &story)?;
+    tell::<Leaves>(rt.alloc(), &story)?;
     Ok(())
 }
 
@@ -75,10 +78,11 @@ fn add_failures(alloc: Global, story: &mut String, row: &str) -> Result<(), Allo
 
 #[test]
 fn a_reader_that_fails_is_named(rt: HostRuntime) -> Result<(), Fail> {
-    let mut story = ["packed books\n", BEFORE].concat(rt.alloc())?;
+    let mut story = ["either books\n", BEFORE].concat(rt.alloc())?;
     for row in FAIL.split('\n') {
         add_failures(rt.alloc(), &mut story, row)?;
     }
-    tell(rt.alloc(), &story)?;
+    tell::<Blocks>(rt.alloc(), &story)?;
+    tell::<Leaves>(rt.alloc(), &story)?;
     Ok(())
 }

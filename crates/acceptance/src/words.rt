@@ -5,12 +5,14 @@ use std::process::Abort;
 use zeb_words::{Usage, Words, read_words};
 
 /// Words with one space between, and what is read: the profile's file, the database and the command, or why there is none.
-static ROWS: &str = r#"init -> zebra.cfg Default Init
+static ROWS: &str = r#"init -> zebra.cfg Default Init(Unsaid)
+init --leaves -> zebra.cfg Default Init(Leaves)
 stat -> zebra.cfg Default Stat
 dump -> zebra.cfg Default Dump
 check -> zebra.cfg Default Check
 reindex -> zebra.cfg Default Reindex
-upgrade -> zebra.cfg Default Upgrade
+upgrade -> zebra.cfg Default Upgrade(Unsaid)
+upgrade --leaves -> zebra.cfg Default Upgrade(Leaves)
 batch -> zebra.cfg Default Batch
 shell -> zebra.cfg Default Shell
 create Books -> zebra.cfg Default Create(DbName { text: "Books" })

@@ -6,7 +6,6 @@ use sqlite::{Alter, Connection};
 use std::alloc::{AllocError, Global};
 use worked_samples::{profile, records};
 use zeb_engine::{Limits, Refusal, Reply, Session, refusal_line, render, status};
-use zeb_packed::Blocks;
 use zeb_profile::Profile;
 use zeb_register::{Layout, Rows};
 
@@ -74,9 +73,10 @@ fn ask_in<S: Alter + Drop, L: Layout>(
     }
 }
 
-/// The answer to a line by a session of its own over a store, which is given back. The setting is `plain PROFILE` or `packed PROFILE`, or
-/// `limited PROFILE`: packed, with one record in a command at most, and one number. `alter STATEMENT` changes one row.
-pub fn ask<S: Alter + Drop>(
+/// The answer to a line by a session of its own over a store, which is given back. The setting is `either PROFILE`, over the layout `L`, or
+/// `limited PROFILE`: the same with one record in a command at most, and one number; or `plain PROFILE`, over a row for each posting.
+/// `alter STATEMENT` changes one row.
+pub fn ask<S: Alter + Drop, L: Layout>(
     alloc: Global,
     mut store: Connection<S>,
     setting: &str,
@@ -89,8 +89,8 @@ pub fn ask<S: Alter + Drop>(
     let (word, profile) = cut(setting);
     match word {
         "plain" => ask_in::<S, Rows>(alloc, store, (profile, Limits::GREATEST), line),
-        "limited" => ask_in::<S, Blocks>(alloc, store, (profile, Limits::new(1, 1)), line),
-        _ => ask_in::<S, Blocks>(alloc, store, (profile, Limits::GREATEST), line),
+        "limited" => ask_in::<S, L>(alloc, store, (profile, Limits::new(1, 1)), line),
+        _ => ask_in::<S, L>(alloc, store, (profile, Limits::GREATEST), line),
     }
 }
 

@@ -4,6 +4,7 @@ use crate::sessions::{Answer, Stopped, ask, lacks_memory, prints};
 use sqlite::{Alter, Connection, MemStore};
 use std::alloc::{AllocError, Global};
 use tables::queries::state;
+use zeb_register::{Layout, Rows};
 
 /// A command of a story, the setting that it is asked under, and what is printed for it.
 #[derive(Clone, Copy)]
@@ -49,7 +50,7 @@ fn add_rows<'a>(
 /// A store in memory with the tables of a register, and no row.
 pub fn new_store(alloc: Global) -> Result<Connection<MemStore>, AllocError> {
     let new = Connection::open_in_memory(alloc).or(Err(AllocError))?;
-    let (store, _) = ask(alloc, new, "plain books", "check");
+    let (store, _) = ask::<MemStore, Rows>(alloc, new, "plain books", "check");
     Ok(store)
 }
 
@@ -59,14 +60,14 @@ fn rows_in<S: Alter>(alloc: Global, store: &mut Connection<S>) -> Result<String,
 }
 
 /// The answer to a line. A refusal leaves all rows as they were.
-fn asked_once<S: Alter + Drop>(
+fn asked_once<S: Alter + Drop, L: Layout>(
     alloc: Global,
     mut store: Connection<S>,
     setting: &str,
     command: &str,
 ) -> Result<(Connection<S>, Answer), Stopped> {
     let before = rows_in(alloc, &mut store)?;
-    let (left, answer) = ask(alloc, store, setting, command);
+    let (left, answer) = ask::<S, L>(alloc, store, setting, command);
     store = left;
     if answer.is_err() && rows_in(alloc, &mut store)?.as_str() != before.as_str() {
         return Err(Stopped::Otherwise(format!(in alloc; "{command}: other rows")?));
@@ -75,24 +76,24 @@ fn asked_once<S: Alter + Drop>(
 }
 
 /// The same, asked again where memory is refused for it: at most one request is refused in a run.
-pub fn asked<S: Alter + Drop>(
+pub fn asked<S: Alter + Drop, L: Layout>(
     alloc: Global,
     store: Connection<S>,
     setting: &str,
     command: &str,
 ) -> Result<(Connection<S>, Answer), Stopped> {
-    let (store, answer) = asked_once(alloc, store, setting, command)?;
+    let (store, answer) = asked_once::<S, L>(alloc, store, setting, command)?;
     if lacks_memory(&answer) {
-        return asked_once(alloc, store, setting, command);
+        return asked_once::<S, L>(alloc, store, setting, command);
     }
     Ok((store, answer))
 }
 
-/// Takes a new store through a story.
-pub fn tell(alloc: Global, story: &str) -> Result<(), Stopped> {
+/// Takes a new store through a story, over the layout `L`.
+pub fn tell<L: Layout>(alloc: Global, story: &str) -> Result<(), Stopped> {
     let mut store = new_store(alloc)?;
     for row in &rows_of(alloc, story)? {
-        let (left, answer) = asked(alloc, store, row.setting, row.command)?;
+        let (left, answer) = asked::<MemStore, L>(alloc, store, row.setting, row.command)?;
         prints(alloc, &answer, row.command, row.wanted)?;
         store = left;
     }

@@ -1,5 +1,5 @@
-//! Registers made by commands that are drawn by lot, side by side in either layout, whose rows are then changed by lot. Each command
-//! returns; one that is refused leaves all rows as they were; both layouts answer alike; and a check finds a register sound just where
+//! Registers made by commands that are drawn by lot, side by side in each layout, whose rows are then changed by lot. Each command
+//! returns; one that is refused leaves all rows as they were; all layouts answer alike; and a check finds a register sound just where
 //! nothing was done that harms it.
 
 use command_rows::lots::Draw;
@@ -9,13 +9,15 @@ use sqlite::{Connection, MemStore, params};
 use std::alloc::{AllocError, AllocGlobal, Global};
 use std::process::Abort;
 use std::test::Fail;
+use zeb_leaves::Leaves;
+use zeb_packed::Blocks;
+use zeb_register::{Layout, Rows};
 
 /// How many registers are made in each layout.
 const REGISTERS: usize = 500;
 
-const PLAIN: &str = "plain books";
-
-const PACKED: &str = "packed books";
+/// The profile of each, under the layout in question.
+const SETTING: &str = "either books";
 
 /// Of which commands a register is made.
 static MAKING: [&str; 13] = [
@@ -42,8 +44,8 @@ static HARMLESS: [&str; 4] = [
     "UPDATE meta SET value = value WHERE ?1 > 0",
 ];
 
-/// What harms each register of which it changes a row, by a number of 1 to 9.
-static HARMFUL: [&str; 22] = [
+/// What harms each register of which it changes a row, by a number of 1 to 9. A leaf without entries is of no account.
+static HARMFUL: [&str; 24] = [
     "DELETE FROM meta WHERE name = 'identifier' AND ?1 > 0",
     "UPDATE meta SET value = '00' || ?1 WHERE name = 'identifier' AND ?1 > 1",
     "INSERT INTO meta VALUES ('more', ?1 || '')",
@@ -63,7 +65,9 @@ static HARMFUL: [&str; 22] = [
     "UPDATE postings SET seq = seq + 100 * ?1",
     "DELETE FROM postings WHERE seq % 3 = ?1 % 3",
     "UPDATE blocks SET block = block + ?1",
-    "DELETE FROM blocks WHERE idx = ?1 % 3",
+    "UPDATE blocks SET term = term || ?1",
+    "UPDATE blocks SET data = x'0102' WHERE ?1 > 0",
+    "DELETE FROM blocks WHERE idx = ?1 % 3 AND data <> x''",
     "UPDATE dict SET records = records + ?1",
     "DELETE FROM dict WHERE idx = ?1 % 3",
 ];
@@ -88,12 +92,12 @@ static ASKED: [&str; 14] = [
 
 type Store = Connection<MemStore>;
 
-/// A register that commands made, and what was printed for them.
-fn made(alloc: Global, draw: &mut Draw, setting: &str) -> Result<(Store, String), AllocError> {
-    let (mut store, _) = ask(alloc, new_store(alloc)?, setting, "init");
+/// A register of a layout that commands made, and what was printed for them.
+fn made<L: Layout>(alloc: Global, draw: &mut Draw) -> Result<(Store, String), AllocError> {
+    let (mut store, _) = ask::<MemStore, L>(alloc, new_store(alloc)?, SETTING, "init");
     let mut printed = String::new(alloc);
     for _ in 0..=draw.below(7) {
-        let (left, answer) = ask(alloc, store, setting, draw.one_of(&MAKING));
+        let (left, answer) = ask::<MemStore, L>(alloc, store, SETTING, draw.one_of(&MAKING));
         printed.push_str(told(alloc, &answer)?.as_str())?;
         store = left;
     }
@@ -119,60 +123,80 @@ fn is_harmed(store: &mut Store, draw: &mut Draw) -> bool {
 }
 
 /// A command prints this.
-fn gives(
+fn gives<L: Layout>(
     alloc: Global,
     store: Store,
-    setting: &str,
     line: &str,
     wanted: &str,
 ) -> Result<Store, Stopped> {
-    let (store, answer) = asked(alloc, store, setting, line)?;
+    let (store, answer) = asked::<MemStore, L>(alloc, store, SETTING, line)?;
     prints(alloc, &answer, line, wanted)?;
     Ok(store)
 }
 
 /// Everything is asked of a register, and what is printed is given. A check tells whether it was harmed; what wasn't is sound later too,
 /// and so is what is begun anew.
-fn all_asked(
-    alloc: Global,
-    store: Store,
-    setting: &str,
-    is_harmed: bool,
-) -> Result<String, Stopped> {
+fn all_asked<L: Layout>(alloc: Global, store: Store, is_harmed: bool) -> Result<String, Stopped> {
     let verdict = if is_harmed {
         "1: register damaged"
     } else {
         "ok"
     };
-    let mut store = gives(alloc, store, setting, "check", verdict)?;
+    let mut store = gives::<L>(alloc, store, "check", verdict)?;
     let mut printed = String::new(alloc);
     for line in &ASKED {
-        let (left, answer) = asked(alloc, store, setting, line)?;
+        let (left, answer) = asked::<MemStore, L>(alloc, store, SETTING, line)?;
         printed.push_str(told(alloc, &answer)?.as_str())?;
         store = left;
     }
     if !is_harmed {
-        store = gives(alloc, store, setting, "check", "ok")?;
+        store = gives::<L>(alloc, store, "check", "ok")?;
     }
-    let store = gives(alloc, store, setting, "init", "ok")?;
-    gives(alloc, store, setting, "check", "ok")?;
+    let store = gives::<L>(alloc, store, "init", "ok")?;
+    gives::<L>(alloc, store, "check", "ok")?;
     Ok(printed)
 }
 
-/// Makes a register in either layout by the same commands, changes their rows by the same statements, and asks everything of each. The
-/// same is printed for the commands, and for what is asked where neither was harmed: a statement may harm one of them alone.
+/// What a register printed that was made, changed and asked.
+#[derive(Drop)]
+struct Printed {
+    /// What was printed for the commands that made it.
+    made: String,
+    is_harmed: bool,
+    /// What was printed for all that was asked of it.
+    asked: String,
+}
+
+/// Makes a register of a layout, changes its rows, and asks everything of it.
+fn register<L: Layout>(alloc: Global, draw: &mut Draw) -> Result<Printed, Stopped> {
+    let (mut store, made) = made::<L>(alloc, draw)?;
+    let is_harmed = is_harmed(&mut store, draw);
+    let asked = all_asked::<L>(alloc, store, is_harmed)?;
+    Ok(Printed {
+        made,
+        is_harmed,
+        asked,
+    })
+}
+
+/// The same is printed for the commands of both, and for what is asked where neither was harmed: a statement may harm one of them alone.
+fn are_alike<H: Abort>(rt: &H, one: &Printed, other: &Printed) {
+    assert_eq!(rt; one.made.as_str(), other.made.as_str());
+    if !one.is_harmed && !other.is_harmed {
+        assert_eq!(rt; one.asked.as_str(), other.asked.as_str());
+    }
+}
+
+/// Makes a register in each layout by the same commands, changes their rows by the same statements, and asks everything of each.
 fn drawn<H: Abort + AllocGlobal>(rt: &H, draw: &mut Draw) -> Result<(), Stopped> {
     let mut again = *draw;
-    let (mut plain, printed) = made(rt.alloc(), draw, PLAIN)?;
-    let (mut packed, wanted) = made(rt.alloc(), &mut again, PACKED)?;
-    assert_eq!(rt; printed.as_str(), wanted.as_str());
-    let is_plain_harmed = is_harmed(&mut plain, draw);
-    let is_packed_harmed = is_harmed(&mut packed, &mut again);
-    let printed = all_asked(rt.alloc(), plain, PLAIN, is_plain_harmed)?;
-    let wanted = all_asked(rt.alloc(), packed, PACKED, is_packed_harmed)?;
-    if !is_plain_harmed && !is_packed_harmed {
-        assert_eq!(rt; printed.as_str(), wanted.as_str());
-    }
+    let mut once_more = *draw;
+    let plain = register::<Rows>(rt.alloc(), draw)?;
+    let packed = register::<Blocks>(rt.alloc(), &mut again)?;
+    let leaves = register::<Leaves>(rt.alloc(), &mut once_more)?;
+    are_alike(rt, &plain, &packed);
+    are_alike(rt, &plain, &leaves);
+    are_alike(rt, &packed, &leaves);
     Ok(())
 }
 

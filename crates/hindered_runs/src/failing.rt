@@ -9,6 +9,7 @@ use std::io::{self, BufWriter, ErrorKind, Read};
 use std::process::Abort;
 use std::test::Fail;
 use zeb_marc::{FromRead, Slice, Source};
+use zeb_packed::Blocks;
 use zeb_paths::Shelf;
 use zeb_program::{Sink, run};
 
@@ -93,7 +94,7 @@ fn reads_fail(rt: &(impl Abort + AllocGlobal), words: &str, lines: &str, most: u
             &format!(in rt.alloc(); "{begin}: cannot read input{cause}")?,
         )?;
         let mut input = FromRead::new(Torn { bytes, most });
-        let ends = Ends::run_loaded(OPEN, &row, &mut input)?;
+        let ends = Ends::run_loaded::<FromRead<Torn<'_>>, Blocks>(OPEN, &row, &mut input)?;
         ends.are(rt, &row, true, words);
     }
     Ok(())
@@ -111,7 +112,11 @@ fn lines_behind_a_read_that_fails_are_not_run(rt: HostRuntime) -> Result<(), Fai
 #[test]
 fn an_input_without_end_is_refused(rt: HostRuntime) -> Result<(), Fail> {
     let row = Row::read(rt.alloc(), " -> zebraidx: cannot read input; 3")?;
-    let ends = Ends::run_loaded(OPEN, &row, &mut FromRead::new(Endless))?;
+    let ends = Ends::run_loaded::<FromRead<Endless>, Blocks>(
+        OPEN,
+        &row,
+        &mut FromRead::new(Endless),
+    )?;
     ends.are(&rt, &row, true, "without end");
     Ok(())
 }
@@ -120,7 +125,7 @@ fn an_input_without_end_is_refused(rt: HostRuntime) -> Result<(), Fail> {
 fn is_hindered(rt: &impl Abort, row: &Row, input: &str, takes: Takes, fails: bool) -> Done {
     let alloc = *row.words.allocator();
     let mut source = Slice::new(input.as_bytes());
-    let ends = Ends::run_loaded(takes, row, &mut source)?;
+    let ends = Ends::run_loaded::<Slice<'_>, Blocks>(takes, row, &mut source)?;
     let place = format!(in alloc; "{:?}, {takes:?}", row.words)?;
     ends.are(rt, row, fails, &place);
     let mut rest = [0u8; 1024];

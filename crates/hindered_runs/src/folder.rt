@@ -2,23 +2,28 @@
 
 use crate::rows::Row;
 use crate::runs::{Ends, OPEN};
+use std::process::Abort;
 use std::test::Fail;
 use std::{env, fs, process};
 use worked_samples::record;
 use zeb_marc::Slice;
 use zeb_paths::Disk;
 
+/// Runs before those below: of a folder without a register, and of a register that is to be in leaves.
+const NONE: &str = "-c|%/zebra.cfg|stat -> 1: register not initialised; 1: register is %/books.db";
+
+const LEAVES: &str = "-c|%/zebra.cfg|init|--leaves -> ok";
+
 /// Runs of the program, each on what the ones before it left; `%` stands for the folder. A file that is there and can't be read is, on
 /// Linux, the process's own memory, from address 0 on. The last three: another profile, a store that can't be made, and no profile.
 static RUNS: &str = "\
--c|%/zebra.cfg|stat -> 1: register not initialised
 -c|%/zebra.cfg|batch < init; update Default %/in; find Default moby -> ok; \
 inserted 2 updated 0 deleted 0; hits 1; 1 a1
 -c|%/zebra.cfg|find|@or moby cafe -> hits 2; 1 a1; 2 b2
 -c|%/zebra.cfg|-s|update|%/in/a -> record 1 1 a1; Any:w 2 2 dick; Any:w 2 1 moby
 -c|%/zebra.cfg|update|%/in|%/none -> 3: cannot read %/none; 3: cause: nothing stands there
 -c|%/zebra.cfg|delete|%/in/b|/proc/self/mem -> 3: file 2: read fault; \
-3: file 2 is /proc/self/mem
+3: file 2 is /proc/self/mem; 3: cause: the system failed a call
 -c|%/zebra.cfg|-s|update|/proc/self/mem -> 3: cannot read /proc/self/mem; \
 3: cause: the system failed a call
 -c|%/zebra.cfg|stat -> records 2; last 2; Any:w 3 3
@@ -27,7 +32,7 @@ inserted 2 updated 0 deleted 0; hits 1; 1 a1
 -c|%/zebra.cfg|find|cafe -> hits 0
 -c|%/zebra.cfg|-d|X|find|cafe -> hits 1; 1 b2
 -c|%/other.cfg|find|moby -> 1: profile differs from the register's
--c|%/lost.cfg|init -> 3: store fault; 3: cause: no such folder
+-c|%/lost.cfg|init -> 3: store fault; 3: cause: no such folder; 3: register is %/none/books.db
 -c|%/none.cfg|init -> 3: cannot read %/none.cfg; 3: cause: nothing stands there";
 
 /// Profiles: their names, and their stores and what their indexes have.
@@ -54,18 +59,35 @@ fn write_files(rt: &HostRuntime, folder: &str) -> Result<(), Fail> {
     Ok(())
 }
 
+/// A run over the folder is answered as its line says; `stop` ends the test where it isn't.
+fn is_run_in(rt: &HostRuntime, stop: &impl Abort, folder: &str, line: &str) -> Result<(), Fail> {
+    let row = Row::read(rt.alloc(), &line.replace(rt.alloc(), '%', folder)?)?;
+    let mut input = Slice::new(row.input.as_bytes());
+    let ends = Ends::run(OPEN, &row, &mut input, &mut Disk::new(rt));
+    ends.are(stop, &row, false, line);
+    Ok(())
+}
+
+/// The runs in a folder of this name, behind this one.
+fn run_behind(rt: &HostRuntime, stop: &impl Abort, name: &str, first: &str) -> Result<(), Fail> {
+    let alloc = rt.alloc();
+    let (temporary, process) = (env::temp_dir(rt)?, process::id(rt.process()));
+    let folder = format!(in alloc; "{}/zebraidx-{name}-{process}", temporary.as_str())?;
+    write_files(rt, folder.as_str())?;
+    is_run_in(rt, stop, folder.as_str(), first)?;
+    for line in RUNS.split('\n') {
+        is_run_in(rt, stop, folder.as_str(), line)?;
+    }
+    fs::remove_dir_all(rt, folder.as_str())?;
+    Ok(())
+}
+
 #[test]
 fn keeps_a_register_on_disk(rt: HostRuntime) -> Result<(), Fail> {
-    let alloc = rt.alloc();
-    let (temporary, process) = (env::temp_dir(&rt)?, process::id(rt.process()));
-    let folder = format!(in alloc; "{}/zebraidx-{process}", temporary.as_str())?;
-    write_files(&rt, folder.as_str())?;
-    for line in RUNS.split('\n') {
-        let row = Row::read(alloc, &line.replace(alloc, '%', folder.as_str())?)?;
-        let mut input = Slice::new(row.input.as_bytes());
-        let ends = Ends::run(OPEN, &row, &mut input, &mut Disk::new(&rt));
-        ends.are(&rt, &row, false, line);
-    }
-    fs::remove_dir_all(&rt, folder.as_str())?;
-    Ok(())
+    run_behind(&rt, &rt, "blocks", NONE)
+}
+
+#[test]
+fn keeps_a_register_in_leaves_on_disk(rt: HostRuntime) -> Result<(), Fail> {
+    run_behind(&rt, &rt, "leaves", LEAVES)
 }

@@ -6,7 +6,10 @@ use crate::runs::{Ends, FAILED, OPEN};
 use std::alloc::{AllocError, AllocGlobal};
 use std::process::Abort;
 use std::test::Fail;
+use zeb_leaves::Leaves;
 use zeb_marc::Slice;
+use zeb_packed::Blocks;
+use zeb_register::Layout;
 
 /// Each kind of words, over a register that holds Moby Dick, and a script.
 static RUNS: &str = "\
@@ -36,10 +39,10 @@ fn is_failure(row: &Row, ends: &Ends) -> bool {
 }
 
 /// Whether a run gives its ordinary answer. Any other is a failure.
-fn is_answered(rt: &(impl Abort + AllocGlobal), line: &str) -> Result<bool, AllocError> {
+fn is_answered<H: Abort + AllocGlobal, L: Layout>(rt: &H, line: &str) -> Result<bool, AllocError> {
     let row = Row::read(rt.alloc(), line)?;
     let mut input = Slice::new(row.input.as_bytes());
-    let ends = Ends::run_loaded(OPEN, &row, &mut input)?;
+    let ends = Ends::run_loaded::<Slice<'_>, L>(OPEN, &row, &mut input)?;
     if ends.status == FAILED {
         assert!(rt; is_failure(&row, &ends), "{line}");
         return Ok(false);
@@ -48,12 +51,22 @@ fn is_answered(rt: &(impl Abort + AllocGlobal), line: &str) -> Result<bool, Allo
     Ok(true)
 }
 
-#[test]
-fn memory_or_the_ordinary_answer(rt: HostRuntime) -> Result<(), Fail> {
+/// Each run over a register of a layout, again where it failed.
+fn are_answered<H: Abort + AllocGlobal, L: Layout>(rt: &H) -> Result<(), Fail> {
     for line in RUNS.split('\n') {
-        if !matches!(is_answered(&rt, line), Ok(true)) {
-            assert!(rt; is_answered(&rt, line)?, "{line}");
+        if !matches!(is_answered::<H, L>(rt, line), Ok(true)) {
+            assert!(rt; is_answered::<H, L>(rt, line)?, "{line}");
         }
     }
     Ok(())
+}
+
+#[test]
+fn memory_or_the_ordinary_answer(rt: HostRuntime) -> Result<(), Fail> {
+    are_answered::<HostRuntime, Blocks>(&rt)
+}
+
+#[test]
+fn memory_or_the_ordinary_answer_in_leaves(rt: HostRuntime) -> Result<(), Fail> {
+    are_answered::<HostRuntime, Leaves>(&rt)
 }

@@ -13,6 +13,7 @@ use worked_samples::{profile, record};
 use zeb_marc::Source;
 use zeb_paths::{Paths, Shelf, Shelved};
 use zeb_program::{Output, Sink, run};
+use zeb_register::Layout;
 
 /// The status of a run in which something failed.
 pub const FAILED: u8 = 3;
@@ -114,8 +115,12 @@ impl Ends {
         }
     }
 
-    /// The same over some files and a register that holds Moby Dick.
-    pub fn run_loaded<R: Source>(takes: Takes, row: &Row, input: &mut R) -> Result<Ends, AllocError>
+    /// The same over some files and a register of the layout `L` that holds Moby Dick.
+    pub fn run_loaded<R: Source, L: Layout>(
+        takes: Takes,
+        row: &Row,
+        input: &mut R,
+    ) -> Result<Ends, AllocError>
         requires { R.has_failed input.old ≡ false }
     {
         let files = [
@@ -125,7 +130,7 @@ impl Ends {
             filed("in/b.mrc", record("cafe")),
             filed("in/a/dock.mrc", record("dock")),
         ];
-        let store = loaded(*row.words.allocator())?;
+        let store = loaded::<L>(*row.words.allocator())?;
         Ok(Ends::run(takes, row, input, &mut Shelf::new(&files, Some(store))))
     }
 
@@ -143,11 +148,11 @@ fn filed<'a>(path: &'a str, bytes: &'a [u8]) -> Shelved<'a> {
     Shelved { path, bytes }
 }
 
-/// A store in memory whose register holds Moby Dick in the database `Default`.
-fn loaded(alloc: Global) -> Result<Connection<MemStore>, AllocError> {
+/// A store in memory whose register, of the layout `L`, holds Moby Dick in the database `Default`.
+fn loaded<L: Layout>(alloc: Global) -> Result<Connection<MemStore>, AllocError> {
     let mut store = Connection::open_in_memory(alloc)?;
     for line in ["init", "update Default moby"] {
-        let (left, answer) = ask(alloc, store, "packed books", line);
+        let (left, answer) = ask::<MemStore, L>(alloc, store, "either books", line);
         store = left;
         if answer.is_err() {
             return Err(AllocError);

@@ -8,7 +8,9 @@ use std::process::Abort;
 use std::test::Fail;
 use tables::queries::state;
 use zeb_engine::{Command, Limits, Refusal};
+use zeb_leaves::Leaves;
 use zeb_packed::Blocks;
+use zeb_register::Layout;
 
 /// A list of commands of each kind, and what is printed for each.
 static LIST: &str = "\
@@ -49,10 +51,13 @@ fn listed(alloc: Global, left_out: usize) -> Result<Vec<Command>, AllocError> {
 
 /// The answers to these over a new register, and all rows behind them. A list that lacks memory as a whole has run nothing, and is run
 /// again.
-fn ran(rt: &(impl Abort + AllocGlobal), left_out: usize) -> Result<(Vec<Answer>, String), Stopped> {
+fn ran<H: Abort + AllocGlobal, L: Layout>(
+    rt: &H,
+    left_out: usize,
+) -> Result<(Vec<Answer>, String), Stopped> {
     let commands = listed(rt.alloc(), left_out)?;
     let new = Connection::open_in_memory(rt.alloc()).or(Err(AllocError))?;
-    let adopted = adopted::<MemStore, Blocks>(rt.alloc(), new, "books", Limits::GREATEST);
+    let adopted = adopted::<MemStore, L>(rt.alloc(), new, "books", Limits::GREATEST);
     let mut session = adopted.or(Err(AllocError))?;
     let answers = match session.run_all(&commands) {
         Ok(answers) => answers,
@@ -69,13 +74,13 @@ fn ran(rt: &(impl Abort + AllocGlobal), left_out: usize) -> Result<(Vec<Answer>,
 }
 
 /// The commands behind a place got the same answers, and all rows are the same, as where the one at it isn't given.
-fn is_without<H: Abort + AllocGlobal>(
+fn is_without<H: Abort + AllocGlobal, L: Layout>(
     rt: &H,
     answers: &[Answer],
     rows: &str,
     place: usize,
 ) -> Result<(), Stopped> {
-    let (without, wanted) = ran(rt, place)?;
+    let (without, wanted) = ran::<H, L>(rt, place)?;
     assert_eq!(rt; rows, wanted.as_str(), "{place}");
     let behind = answers.iter().skip(place.saturating_add(1));
     for (answer, wanted) in behind.zip(without.iter().skip(place)) {
@@ -85,11 +90,12 @@ fn is_without<H: Abort + AllocGlobal>(
     Ok(())
 }
 
-fn run_list(rt: &(impl Abort + AllocGlobal)) -> Result<(), Stopped> {
-    let (answers, rows) = ran(rt, usize::MAX)?;
+/// Runs the list: it is answered, or one of its commands lacks memory.
+fn run_list<H: Abort + AllocGlobal, L: Layout>(rt: &H) -> Result<(), Stopped> {
+    let (answers, rows) = ran::<H, L>(rt, usize::MAX)?;
     for (place, (answer, line)) in answers.iter().zip(LIST.split('\n')).enumerate() {
         if lacks_memory(answer) {
-            return is_without(rt, &answers, &rows, place);
+            return is_without::<H, L>(rt, &answers, &rows, place);
         }
         let (line, wanted) = line.split_once(" -> ").ok_or(AllocError)?;
         prints(rt.alloc(), answer, line, wanted)?;
@@ -97,11 +103,21 @@ fn run_list(rt: &(impl Abort + AllocGlobal)) -> Result<(), Stopped> {
     Ok(())
 }
 
-#[test]
-fn a_list_lacks_memory_or_one_command_does(rt: HostRuntime) -> Result<(), Fail> {
-    let mut outcome = run_list(&rt);
+/// The same, again where memory was refused beside the commands.
+fn is_run<H: Abort + AllocGlobal, L: Layout>(rt: &H) -> Result<(), Fail> {
+    let mut outcome = run_list::<H, L>(rt);
     if matches!(outcome, Err(Stopped::Memory)) {
-        outcome = run_list(&rt);
+        outcome = run_list::<H, L>(rt);
     }
     Ok(outcome?)
+}
+
+#[test]
+fn a_list_lacks_memory_or_one_command_does(rt: HostRuntime) -> Result<(), Fail> {
+    is_run::<HostRuntime, Blocks>(&rt)
+}
+
+#[test]
+fn a_list_in_leaves_lacks_memory_or_one_command_does(rt: HostRuntime) -> Result<(), Fail> {
+    is_run::<HostRuntime, Leaves>(&rt)
 }

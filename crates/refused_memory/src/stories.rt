@@ -1,12 +1,14 @@
-//! Commands that are accepted, and commands that are refused.
+//! Commands that are accepted, and commands that are refused, over packed blocks and over leaves.
 
 use crate::telling::told;
 use std::test::Fail;
 use zeb_engine::Limits;
+use zeb_leaves::Leaves;
+use zeb_packed::Blocks;
 
-/// Each command. Then a plain register is made anew under another profile, packed, and made anew under the first profile.
+/// Each command. Then a plain register is made anew under another profile, upgraded, and made anew under the first profile.
 static ACCEPTED: &str = "\
-packed titles
+either titles
 init; create Default -> ok
 update Default moby cafe -> inserted 2 updated 0 deleted 0
 find Default @attr 1=4 whale -> hits 1; 1 a1
@@ -25,19 +27,24 @@ update Default moby+cafe -> inserted 2 updated 0 deleted 0
 check -> ok
 plain titles
 reindex; check -> ok
-packed titles
+either titles
 upgrade; check -> ok
-packed books
+either books
 reindex; check; upgrade -> ok";
 
 #[test]
 fn memory_or_the_ordinary_answer(rt: HostRuntime) -> Result<(), Fail> {
-    told(rt.alloc(), ACCEPTED)
+    told::<Blocks>(rt.alloc(), ACCEPTED)
+}
+
+#[test]
+fn memory_or_the_ordinary_answer_in_leaves(rt: HostRuntime) -> Result<(), Fail> {
+    told::<Leaves>(rt.alloc(), ACCEPTED)
 }
 
 /// Changes from readers, those too that are refused, also as a reader fails.
 static BY_READERS: &str = "\
-packed books
+either books
 init -> ok
 from update Default moby cafe -> inserted 2 updated 0 deleted 0
 from update Default dock cut -> 1: file 2 record 1: Truncated
@@ -52,13 +59,18 @@ dump Default -> bytes of nothing";
 
 #[test]
 fn memory_or_the_ordinary_change(rt: HostRuntime) -> Result<(), Fail> {
-    told(rt.alloc(), BY_READERS)
+    told::<Blocks>(rt.alloc(), BY_READERS)
+}
+
+#[test]
+fn memory_or_the_ordinary_change_in_leaves(rt: HostRuntime) -> Result<(), Fail> {
+    told::<Leaves>(rt.alloc(), BY_READERS)
 }
 
 /// A register that isn't begun; a database that isn't there; another layout, another profile, another rule for identifiers; names and
-/// records; limits; a block that is cut, a term in no record, and a record that is none: what reads such a row is refused.
+/// records; limits.
 static REFUSED: &str = "\
-packed books
+either books
 check; reindex; upgrade; create Default; drop Default -> 1: register not initialised
 update Default moby; find Default moby; scan Default 3 1 moby -> 1: register not initialised
 stat Default; dump Default -> 1: register not initialised
@@ -68,11 +80,11 @@ stat Default; dump Default -> 1: diagnostic 235 at 0: Default
 update Default moby cafe -> inserted 2 updated 0 deleted 0
 plain books
 stat Default; reindex; upgrade -> 1: register has another format
-packed titles
+either titles
 update Default moby; check; upgrade -> 1: profile differs from the register's
-packed by-title
+either by-title
 reindex -> 1: identifier rule differs
-packed books
+either books
 create Default -> 1: database exists
 update Default dock bare -> 1: file 2 record 1: NoIdentifier
 update Default dock+cut -> 1: file 1 record 2: Truncated
@@ -88,8 +100,22 @@ update Default moby -> inserted 1 updated 0 deleted 0
 delete Default moby moby; analyse moby moby -> 1: too many records
 update Default cafe -> 1: database full
 update Default moby -> inserted 0 updated 1 deleted 0
-check -> ok
-packed books
+check -> ok";
+
+#[test]
+fn memory_or_the_ordinary_refusal(rt: HostRuntime) -> Result<(), Fail> {
+    assert_eq!(rt; Limits::GREATEST, Limits::new(1_000_000, 999_999_999));
+    told::<Blocks>(rt.alloc(), REFUSED)
+}
+
+#[test]
+fn memory_or_the_ordinary_refusal_in_leaves(rt: HostRuntime) -> Result<(), Fail> {
+    told::<Leaves>(rt.alloc(), REFUSED)
+}
+
+/// A block that is cut, a term in no record, and a record that is none: what reads such a row is refused.
+static DAMAGED_BLOCKS: &str = "\
+either books
 init -> ok
 update Default moby -> inserted 1 updated 0 deleted 0
 alter UPDATE blocks SET data = x'0102' WHERE idx = 0 AND reg = 0 AND term = 'moby' -> ok
@@ -100,16 +126,32 @@ scan Default 3 1 @attr 1=4 d; stat Default -> 1: register damaged
 update Default dock; delete Default moby -> 1: register damaged
 find Default @attr 1=4 whale -> hits 1; 1 a1";
 
+/// The leaf of the titles' words that is cut, and a record that is none: what reads such a row is refused.
+static DAMAGED_LEAVES: &str = "\
+either books
+init -> ok
+update Default moby -> inserted 1 updated 0 deleted 0
+alter UPDATE blocks SET data = x'0102' WHERE idx = 0 AND reg = 0 -> ok
+alter UPDATE records SET bytes = x'00' -> ok
+check; reindex; find Default @attr 1=4 moby; find Default @attr 1=4 whale -> 1: register damaged
+scan Default 3 1 @attr 1=4 d; stat Default -> 1: register damaged
+update Default dock; delete Default moby -> 1: register damaged
+find Default moby; find Default @attr 1=4 @attr 6=3 \"moby dick\" -> hits 1; 1 a1";
+
 #[test]
-fn memory_or_the_ordinary_refusal(rt: HostRuntime) -> Result<(), Fail> {
-    assert_eq!(rt; Limits::GREATEST, Limits::new(1_000_000, 999_999_999));
-    told(rt.alloc(), REFUSED)
+fn memory_or_the_refusal_of_damage(rt: HostRuntime) -> Result<(), Fail> {
+    told::<Blocks>(rt.alloc(), DAMAGED_BLOCKS)
+}
+
+#[test]
+fn memory_or_the_refusal_of_damage_in_leaves(rt: HostRuntime) -> Result<(), Fail> {
+    told::<Leaves>(rt.alloc(), DAMAGED_LEAVES)
 }
 
 /// Queries of each form: a word that is cut and one that isn't, words in their order, first in a unit, all of them or any; a whole title; what
 /// stands before or behind a text; any entry; numbers, of records too; no words; near words, and pairs.
 static FOUND: &str = "\
-packed books
+either books
 init -> ok
 update Default moby -> inserted 1 updated 0 deleted 0
 find Default whale; find Default @attr 1=4 @attr 5=1 mob -> hits 1; 1 a1
@@ -128,12 +170,17 @@ scan Default 1 1 @attr 1=31 @attr 4=109 1851 -> 1851 1";
 
 #[test]
 fn memory_or_the_ordinary_hits(rt: HostRuntime) -> Result<(), Fail> {
-    told(rt.alloc(), FOUND)
+    told::<Blocks>(rt.alloc(), FOUND)
+}
+
+#[test]
+fn memory_or_the_ordinary_hits_in_leaves(rt: HostRuntime) -> Result<(), Fail> {
+    told::<Leaves>(rt.alloc(), FOUND)
 }
 
 /// By the numbers of their diagnostics, but for long queries behind the others. No index of titles alone is for any words, which is 116.
 static QUERIES: &str = "\
-packed books
+either books
 init -> ok
 update Default moby -> inserted 1 updated 0 deleted 0
 page Default 2 1 @attr 1=4 whale -> 1: diagnostic 13 at 0: 2
@@ -161,11 +208,16 @@ scan X 3 1 moby -> 1: diagnostic 235 at 0: X
 find Default @attr 1=4 \"<65 w->\" -> 1: diagnostic 5 at 10
 find Default <101 @and x >y -> 1: diagnostic 6 at 700
 find Default <65536 a> -> 1: diagnostic 11 at 0
-packed titles
+either titles
 reindex -> ok
 find Default whale; scan Default 3 1 whale -> 1: diagnostic 116 at 0";
 
 #[test]
 fn memory_or_the_ordinary_diagnostic(rt: HostRuntime) -> Result<(), Fail> {
-    told(rt.alloc(), QUERIES)
+    told::<Blocks>(rt.alloc(), QUERIES)
+}
+
+#[test]
+fn memory_or_the_ordinary_diagnostic_in_leaves(rt: HostRuntime) -> Result<(), Fail> {
+    told::<Leaves>(rt.alloc(), QUERIES)
 }

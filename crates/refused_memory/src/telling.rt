@@ -5,6 +5,7 @@ use command_rows::sessions::Stopped;
 use command_rows::stories::tell;
 use std::alloc::{AllocError, Global};
 use std::test::Fail;
+use zeb_register::Layout;
 
 /// The text with `ababab` in place of `<3 ab>`.
 fn expanded(alloc: Global, text: &str) -> Result<String, AllocError> {
@@ -20,15 +21,15 @@ fn expanded(alloc: Global, text: &str) -> Result<String, AllocError> {
     Ok(whole)
 }
 
-fn tell_once(alloc: Global, story: &str) -> Result<(), Stopped> {
-    tell(alloc, &expanded(alloc, story)?)
+fn tell_once<L: Layout>(alloc: Global, story: &str) -> Result<(), Stopped> {
+    tell::<L>(alloc, &expanded(alloc, story)?)
 }
 
-/// Takes a new store through a story, again where memory was refused beside its commands.
-pub fn told(alloc: Global, story: &str) -> Result<(), Fail> {
-    let mut outcome = tell_once(alloc, story);
+/// Takes a new store through a story over a layout, again where memory was refused beside its commands.
+pub fn told<L: Layout>(alloc: Global, story: &str) -> Result<(), Fail> {
+    let mut outcome = tell_once::<L>(alloc, story);
     if matches!(outcome, Err(Stopped::Memory)) {
-        outcome = tell_once(alloc, story);
+        outcome = tell_once::<L>(alloc, story);
     }
     Ok(outcome?)
 }

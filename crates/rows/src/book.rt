@@ -3,11 +3,11 @@
 use crate::damages::Damages;
 use crate::faults::Fault;
 use crate::folder::Folder;
+use crate::layouts::{Counts, Kept, layouts_of};
 use crate::outcomes::{Outcome, shown};
 use crate::records::record_of;
-use crate::rows::{Line, Row, lines_of, script_of};
-use crate::runs::{run_input, run_words};
-use crate::stores::Kept;
+use crate::rows::{Line, Row, batch_of, lines_of, script_of};
+use crate::runs::{run_batch, run_input, run_words};
 use crate::stories::told;
 use crate::texts::{bytes_of, expanded};
 use std::alloc::Global;
@@ -30,7 +30,7 @@ pub struct Book<'a> {
     /// How many lines were read, or the number of the line that is at fault.
     pub number: usize,
     /// How many rows were run.
-    pub rows: usize,
+    pub counts: Counts,
     /// A line for each row that differs.
     pub differing: Vec<String>,
 }
@@ -47,7 +47,7 @@ impl<'a> Book<'a> {
                 lines: Vec::new(alloc),
             },
             number: 0,
-            rows: 0,
+            counts: Counts::NONE,
             differing: Vec::new(alloc),
         }
     }
@@ -91,13 +91,10 @@ impl<'a> Book<'a> {
             "record" => self.add_records(part),
             "sql" => self.set_statements(part),
             "script" => self.run_script(part),
-            "inputs" => self.run_each(part, false),
-            "words" => self.run_each(part, true),
-            "story" => self.run_story(part, None),
-            "both" => {
-                self.run_story(part, Some(Kept::Plain))?;
-                self.run_story(part, Some(Kept::Packed))
-            }
+            "inputs" => self.run_inputs(part),
+            "words" => self.run_words(part),
+            "story" => self.run_story(part.name, part, None),
+            "over" => self.run_over(part),
             "damages" => self.run_damages(part),
             _ => self.set(part),
         }
@@ -193,35 +190,90 @@ impl<'a> Book<'a> {
             self.number = line.number;
             rows.push(Row::read(&self.folder, line, is_words)?)?;
         }
-        self.rows = self.rows.saturating_add(rows.len());
         Ok(rows)
     }
 
-    /// Runs each row, by words or as a whole input.
-    fn run_each(&mut self, part: &Part<'_>, is_words: bool) -> Result<(), Fault> {
-        let rows = self.rows_of(part, is_words)?;
+    /// Runs each row as a whole input.
+    fn run_inputs(&mut self, part: &Part<'_>) -> Result<(), Fault> {
+        let rows = self.rows_of(part, false)?;
         for row in &rows {
-            let found = if is_words {
-                run_words(&self.folder, &row.input)?
-            } else {
-                run_input(&self.folder, &bytes_of(self.alloc, &row.input)?)?
-            };
-            self.compare(part.name, slice::from_ref(row), &found)?;
+            let found = run_input(&self.folder, &bytes_of(self.alloc, &row.input)?)?;
+            self.compare(part.name, Kept::Packed, slice::from_ref(row), &found)?;
+        }
+        self.counts.add(Kept::Packed, rows.len());
+        Ok(())
+    }
+
+    /// Runs each row by words, over each of the register's layouts.
+    fn run_words(&mut self, part: &Part<'_>) -> Result<(), Fault> {
+        let rows = self.rows_of(part, true)?;
+        for kept in &layouts_of(self.alloc, self.folder.layouts())? {
+            self.run_words_over(part.name, *kept, &rows)?;
         }
         Ok(())
     }
 
-    /// Runs all rows as the lines of one script.
+    fn run_words_over(&mut self, name: &str, kept: Kept, rows: &[Row]) -> Result<(), Fault> {
+        for row in rows {
+            let found = run_words(&self.folder, kept, &row.input)?;
+            self.compare(name, kept, slice::from_ref(row), &found)?;
+        }
+        self.counts.add(kept, rows.len());
+        Ok(())
+    }
+
+    /// Runs all rows as the lines of one script, and those from `init` on as a batch over a register in leaves.
     fn run_script(&mut self, part: &Part<'_>) -> Result<(), Fault> {
         let rows = self.rows_of(part, false)?;
         let found = run_input(&self.folder, &script_of(&self.folder, &rows)?)?;
-        self.compare(part.name, &rows, &found)
+        self.compare(part.name, Kept::Packed, &rows, &found)?;
+        self.counts.add(Kept::Packed, rows.len());
+        match rows.iter().position(|row| row.input.as_str() == "init") {
+            Some(first) => self.run_behind(part.name, Kept::Leaves, &rows, first),
+            None => Ok(()),
+        }
     }
 
-    /// Takes a new store through the lines.
-    fn run_story(&mut self, part: &Part<'_>, either: Option<Kept>) -> Result<(), Fault> {
-        let count = self.tell_lines(part.name, &part.lines, either)?;
-        self.rows = self.rows.saturating_add(count);
+    /// Runs the rows from one on as the lines of a batch, over a register in this layout.
+    fn run_behind(
+        &mut self,
+        name: &str,
+        kept: Kept,
+        rows: &[Row],
+        first: usize,
+    ) -> Result<(), Fault> {
+        let Some((before, rest)) = rows.split_at_checked(first) else {
+            return Ok(());
+        };
+        let batch = batch_of(&self.folder, before, rest)?;
+        let found = run_batch(&self.folder, kept, &batch)?;
+        self.compare(name, kept, rest, &found)?;
+        self.counts.add(kept, rest.len());
+        Ok(())
+    }
+
+    /// Takes a new store through the lines, over each layout that is named.
+    fn run_over(&mut self, part: &Part<'_>) -> Result<(), Fault> {
+        let Some((names, name)) = part.name.split_once(' ') else {
+            return Err(Fault::Line("no layouts"));
+        };
+        for kept in &layouts_of(self.alloc, names)? {
+            self.run_story(name, part, Some(*kept))?;
+        }
+        Ok(())
+    }
+
+    /// Takes a new store through the lines, of which `either` stands for this layout, if for one. Each counts for the layout of its session.
+    fn run_story(
+        &mut self,
+        name: &str,
+        part: &Part<'_>,
+        either: Option<Kept>,
+    ) -> Result<(), Fault> {
+        let layouts = self.tell_lines(name, &part.lines, either)?;
+        for kept in &layouts {
+            self.counts.add(*kept, 1);
+        }
         Ok(())
     }
 
@@ -230,51 +282,58 @@ impl<'a> Book<'a> {
         let Some(damages) = Damages::read(part.name) else {
             return Err(Fault::Line("no damages"));
         };
+        let layouts = layouts_of(self.alloc, damages.layouts)?;
         for line in part.lines.iter().filter(|line| !line.text.starts_with('#')) {
             self.number = line.number;
-            self.run_damage(&damages, line, Kept::Plain)?;
-            self.run_damage(&damages, line, Kept::Packed)?;
+            for kept in &layouts {
+                self.run_damage(&damages, line, *kept)?;
+            }
         }
         Ok(())
     }
 
-    /// Has a statement alter a register of this layout, where it is one of those that are asked for.
+    /// Has a statement alter a register of this layout.
     fn run_damage(&mut self, all: &Damages<'_>, line: &Line<'_>, kept: Kept) -> Result<(), Fault> {
-        if !all.has(kept) {
-            return Ok(());
-        }
         let story = all.story(self.alloc, kept, line.text)?;
         let lines = lines_of(self.alloc, &story, line.number)?;
         self.tell_lines(line.text, &lines, Some(kept))?;
-        self.rows = self.rows.saturating_add(1);
+        self.counts.add(kept, 1);
         Ok(())
     }
 
-    /// Takes a new store through these lines, and answers how many were answered.
+    /// Takes a new store through these lines, and answers the layout of each that was answered.
     fn tell_lines(
         &mut self,
         name: &str,
         lines: &[Line<'_>],
         either: Option<Kept>,
-    ) -> Result<usize, Fault> {
+    ) -> Result<Vec<Kept>, Fault> {
         let (answered, number, result) = told(&self.folder, either, lines)?;
         self.number = number;
-        for (row, found) in &answered {
-            self.compare(name, slice::from_ref(row), found)?;
+        let mut layouts = Vec::new(self.alloc);
+        for it in &answered {
+            self.compare(name, it.kept, slice::from_ref(&it.row), &it.found)?;
+            layouts.push(it.kept)?;
         }
         result?;
-        Ok(answered.len())
+        Ok(layouts)
     }
 
     /// Finds each row's answer behind that of the one before it. The first that isn't there is told, and nothing of those behind it.
-    fn compare(&mut self, name: &str, rows: &[Row], found: &Outcome) -> Result<(), Fault> {
+    fn compare(
+        &mut self,
+        name: &str,
+        kept: Kept,
+        rows: &[Row],
+        found: &Outcome,
+    ) -> Result<(), Fault> {
         let mut output = found.output.as_slice();
         let mut faults = found.faults.as_slice();
         for row in rows {
             let output_left = output.strip_prefix(row.wanted.output.as_slice());
             let faults_left = faults.strip_prefix(row.wanted.faults.as_slice());
             let (Some(behind), Some(faults_behind)) = (output_left, faults_left) else {
-                return self.tell(name, row, found, output);
+                return self.tell(name, kept, row, found, output);
             };
             output = behind;
             faults = faults_behind;
@@ -286,17 +345,25 @@ impl<'a> Book<'a> {
         if status == Some(found.status) && last.wanted.may_go_on(output, faults) {
             return Ok(());
         }
-        self.tell(name, last, found, output)
+        self.tell(name, kept, last, found, output)
     }
 
-    /// Notes that a row differs, with what came in place of its answer.
-    fn tell(&mut self, name: &str, row: &Row, found: &Outcome, output: &[u8]) -> Result<(), Fault> {
+    /// Notes that a row over a layout differs, with what came in place of its answer.
+    fn tell(
+        &mut self,
+        name: &str,
+        kept: Kept,
+        row: &Row,
+        found: &Outcome,
+        output: &[u8],
+    ) -> Result<(), Fault> {
         let came = shown(self.alloc, found.status, output, &found.faults)?;
         let wanted = &row.wanted;
         let wanted = shown(self.alloc, wanted.status, &wanted.output, &wanted.faults)?;
         let (number, input) = (row.number, row.input.get(..200).unwrap_or(&row.input));
         let line = format!(in self.alloc;
-            "{number}: {name}: {input}: {came} in place of {wanted}"
+            "{number}: {}: {name}: {input}: {came} in place of {wanted}",
+            kept.name()
         )?;
         self.differing.push(line)?;
         Ok(())

@@ -1,6 +1,6 @@
 //! What a register is asked once a statement has altered it.
 
-use crate::stores::Kept;
+use crate::layouts::Kept;
 use std::alloc::{AllocError, Global};
 
 const SOUND: &str = "ok";
@@ -10,8 +10,8 @@ const DAMAGED: &str = "1: register damaged";
 /// A register, and what it answers once a statement has altered it.
 #[derive(Drop)]
 pub struct Damages<'a> {
-    /// `plain`, `packed` or `each`.
-    layout: &'a str,
+    /// The names of the layouts that the register is kept in.
+    pub layouts: &'a str,
     /// The file of the lines that make it.
     path: &'a str,
     /// What a check answers, a reindex, and a check after it.
@@ -21,27 +21,19 @@ pub struct Damages<'a> {
 }
 
 impl<'a> Damages<'a> {
-    /// Reads `LAYOUT FILE CHECK, REINDEX, CHECK`.
+    /// Reads `LAYOUTS FILE CHECK, REINDEX, CHECK`.
     pub fn read(text: &'a str) -> Option<Damages<'a>> {
-        let (layout, text) = text.split_once(' ')?;
+        let (layouts, text) = text.split_once(' ')?;
         let (path, text) = text.split_once(' ')?;
         let (check, text) = text.split_once(", ")?;
         let (reindex, second) = text.split_once(", ")?;
         Some(Damages {
-            layout,
+            layouts,
             path,
             check,
             reindex,
             second,
         })
-    }
-
-    /// Whether the register is kept so.
-    pub fn has(&self, kept: Kept) -> bool {
-        match kept {
-            Kept::Plain => self.layout != "packed",
-            Kept::Packed => self.layout != "plain",
-        }
     }
 
     /// The lines of a story of the register. Neither a check nor what is refused changes a row. A reindex and an upgrade leave databases and
@@ -51,12 +43,11 @@ impl<'a> Damages<'a> {
         let mut story = format!(in alloc; "as {path}\nalter {statement}\nnote tables\n")?;
         write!(story, "either zebra.cfg\ncheck -> {check}\nsame\n")?;
         if check != SOUND {
-            let upgrade = self.upgrade(kept);
-            write!(story, "packed zebra.cfg\nupgrade -> {upgrade}\nsame\n")?;
+            self.add_refused_upgrades(&mut story, kept)?;
         }
         self.add_renewal(&mut story)?;
-        if self.check == SOUND {
-            story.push_str("packed zebra.cfg\nupgrade -> ok\ncheck -> ok\nsame\n")?;
+        if check == SOUND {
+            add_upgrades(&mut story, kept)?;
         }
         Ok(story)
     }
@@ -74,12 +65,29 @@ impl<'a> Damages<'a> {
         Ok(())
     }
 
-    /// What an upgrade answers where the check isn't `ok`. It turns a plain register just where a check finds it sound, and is refused as
-    /// the check is. A packed one is today's, whatever its rows.
-    fn upgrade(&self, kept: Kept) -> &'a str {
+    /// Adds the lines of upgrades where the check isn't `ok`. An earlier register is turned just where a check finds it sound, and is
+    /// refused as the check is. One of the upgrade's own layout stays as it is, whatever its rows.
+    fn add_refused_upgrades(&self, story: &mut String, kept: Kept) -> Result<(), AllocError> {
+        let check = self.check;
+        let own = if check == DAMAGED { SOUND } else { check };
         match kept {
-            Kept::Packed if self.check == DAMAGED => SOUND,
-            Kept::Plain | Kept::Packed => self.check,
+            Kept::Plain => {
+                write!(story, "packed zebra.cfg\nupgrade -> {check}\nsame\n")?;
+                write!(story, "leaves zebra.cfg\nupgrade -> {check}\nsame\n")
+            }
+            Kept::Packed => {
+                write!(story, "packed zebra.cfg\nupgrade -> {own}\nsame\n")?;
+                write!(story, "leaves zebra.cfg\nupgrade -> {check}\nsame\n")
+            }
+            Kept::Leaves => write!(story, "leaves zebra.cfg\nupgrade -> {own}\nsame\n"),
         }
     }
+}
+
+/// Adds the lines of upgrades of a sound register, to the next layout and the last one.
+fn add_upgrades(story: &mut String, kept: Kept) -> Result<(), AllocError> {
+    if !matches!(kept, Kept::Leaves) {
+        story.push_str("packed zebra.cfg\nupgrade -> ok\ncheck -> ok\nsame\n")?;
+    }
+    story.push_str("leaves zebra.cfg\nupgrade -> ok\ncheck -> ok\nsame\n")
 }

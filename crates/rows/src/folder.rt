@@ -1,7 +1,8 @@
 //! The files that cases run over, and the register that words find at their profile's path.
 
 use crate::faults::Fault;
-use crate::stores::{Kept, Store};
+use crate::layouts::Kept;
+use crate::stores::Store;
 use command_rows::lines::command_of;
 use sqlite::{Connection, MemStore};
 use std::alloc::{AllocError, Global};
@@ -25,6 +26,8 @@ pub struct Folder {
     files: Vec<Filed>,
     /// Empty where there is none, `new` without tables, `begun` without a record, or the file whose records are kept.
     register: String,
+    /// Its layout, where it has one alone.
+    kept: Option<Kept>,
     /// What alters the register before words find it.
     statements: Vec<String>,
 }
@@ -36,12 +39,18 @@ impl Folder {
             alloc,
             files: Vec::new(alloc),
             register: String::new(alloc),
+            kept: None,
             statements: Vec::new(alloc),
         }
     }
 
-    /// Has words find this register, not altered.
-    pub fn set_register(&mut self, register: &str) -> Result<(), Fault> {
+    /// Has words find this register, not altered; behind the name of a layout, in that one alone.
+    pub fn set_register(&mut self, text: &str) -> Result<(), Fault> {
+        let (kept, register) = match text.split_once(' ') {
+            Some((name, register)) => (Some(Kept::named(name)?), register),
+            None => (None, text),
+        };
+        self.kept = kept;
         self.register = String::from_str(self.alloc, register)?;
         self.set_statements(Vec::new(self.alloc));
         Ok(())
@@ -115,9 +124,19 @@ impl Folder {
         Ok(shelved)
     }
 
-    /// A new store with the folder's register in it, altered, or `None` where no store can be opened.
-    pub fn store(&self) -> Result<Option<Connection<MemStore>>, Fault> {
-        let Some(mut connection) = self.register()? else {
+    /// The names of the layouts in which words find the register: that which it has alone, or those in which the program begins one. Where
+    /// there is none the program takes its first.
+    pub fn layouts(&self) -> &'static str {
+        match (self.kept, self.register.as_str()) {
+            (Some(kept), _) => kept.name(),
+            (None, "" | "new") => "packed",
+            (None, _) => "packed,leaves",
+        }
+    }
+
+    /// A new store with the folder's register in it, in this layout and altered, or `None` where no store can be opened.
+    pub fn store(&self, kept: Kept) -> Result<Option<Connection<MemStore>>, Fault> {
+        let Some(mut connection) = self.register(kept)? else {
             return Ok(None);
         };
         for statement in &self.statements {
@@ -127,23 +146,28 @@ impl Folder {
     }
 
     /// The same, as it was before it was altered.
-    fn register(&self) -> Result<Option<Connection<MemStore>>, Fault> {
+    fn register(&self, kept: Kept) -> Result<Option<Connection<MemStore>>, Fault> {
         match self.register.as_str() {
             "" => Ok(None),
             "new" => Ok(Some(Store::new(self.alloc)?.take()?)),
-            "begun" => Ok(Some(self.filled(&["init"])?)),
+            "begun" => Ok(Some(self.begun(kept)?)),
             path => {
                 let digits = hex::encode(self.alloc, self.bytes(path)?)?;
                 let update = ["update Default hex:", &digits].concat(self.alloc)?;
-                Ok(Some(self.filled(&["init", &update])?))
+                Ok(Some(self.filled(kept, &["init", &update])?))
             }
         }
     }
 
-    /// A new store after these commands under the profile.
-    fn filled(&self, lines: &[&str]) -> Result<Connection<MemStore>, Fault> {
+    /// A new store with a register in this layout that holds nothing.
+    pub fn begun(&self, kept: Kept) -> Result<Connection<MemStore>, Fault> {
+        self.filled(kept, &["init"])
+    }
+
+    /// A new store after these commands under the profile, over this layout.
+    fn filled(&self, kept: Kept, lines: &[&str]) -> Result<Connection<MemStore>, Fault> {
         let mut store = Store::new(self.alloc)?;
-        store.begin(self.alloc, Kept::Packed, self.profile()?)?;
+        store.begin(self.alloc, kept, self.profile()?)?;
         for line in lines {
             if store.answer(&command_of(self.alloc, line)?)?.is_err() {
                 return Err(Fault::Line("the register is refused"));

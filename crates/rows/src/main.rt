@@ -5,6 +5,7 @@ mod book;
 mod damages;
 mod faults;
 mod folder;
+mod layouts;
 mod outcomes;
 mod records;
 mod rows;
@@ -34,7 +35,7 @@ fn run_files(rt: &HostRuntime) -> io::Result<bool> {
     Ok(are_well)
 }
 
-/// Runs the rows of a file below the working folder, and prints how many there are, behind those that differ.
+/// Runs the rows of a file below the working folder, and prints how many there were over each layout, behind those that differ.
 fn run_file(rt: &HostRuntime, name: &str) -> io::Result<bool> {
     let text = fs::read_to_string(rt, name)?;
     let mut book = Book::new(rt.alloc());
@@ -45,6 +46,6 @@ fn run_file(rt: &HostRuntime, name: &str) -> io::Result<bool> {
     if let Err(fault) = &read {
         println!(rt; "{name}:{}: {fault}", book.number)?;
     }
-    println!(rt; "{name}: {} rows", book.rows)?;
+    println!(rt; "{name}: {}", book.counts)?;
     Ok(read.is_ok() && book.differing.is_empty())
 }

@@ -52,9 +52,26 @@ impl Row {
 pub fn script_of(folder: &Folder, rows: &[Row]) -> Result<Vec<u8>, Fault> {
     let mut script = Vec::from_slice(folder.alloc, folder.profile()?.as_bytes())?;
     script.extend_from_slice(b".\n")?;
-    for row in rows {
-        script.extend_from_slice(&bytes_of(folder.alloc, &row.input)?)?;
-        script.push(b'\n')?;
-    }
+    add_lines(folder.alloc, &mut script, rows)?;
     Ok(script)
+}
+
+/// The lines of these rows as a batch that is run behind others of a script: empty lines are in the place of all that the script has before
+/// them, so that each has the number that it has there.
+pub fn batch_of(folder: &Folder, before: &[Row], rows: &[Row]) -> Result<Vec<u8>, Fault> {
+    let script = script_of(folder, before)?;
+    let count = script.iter().filter(|byte| **byte == b'\n').count();
+    let empty = "\n".repeat(folder.alloc, count)?;
+    let mut batch = Vec::from_slice(folder.alloc, empty.as_bytes())?;
+    add_lines(folder.alloc, &mut batch, rows)?;
+    Ok(batch)
+}
+
+/// Adds the lines of these rows.
+fn add_lines(alloc: Global, lines: &mut Vec<u8>, rows: &[Row]) -> Result<(), Fault> {
+    for row in rows {
+        lines.extend_from_slice(&bytes_of(alloc, &row.input)?)?;
+        lines.push(b'\n')?;
+    }
+    Ok(())
 }

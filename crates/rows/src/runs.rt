@@ -2,6 +2,7 @@
 
 use crate::faults::Fault;
 use crate::folder::Folder;
+use crate::layouts::Kept;
 use crate::outcomes::Outcome;
 use crate::texts::text_of;
 use sqlite::{Connection, MemStore};
@@ -15,13 +16,21 @@ pub fn run_input(folder: &Folder, input: &[u8]) -> Result<Outcome, Fault> {
     run_over(folder, None, &[], input)
 }
 
-/// Runs the program on words, with blanks between, over the folder's register. Its input is the folder's file `input`, if there is one.
-pub fn run_words(folder: &Folder, line: &str) -> Result<Outcome, Fault> {
+/// Runs the program on words, with blanks between, over the folder's register in this layout. Its input is the folder's file `input`, if
+/// there is one.
+pub fn run_words(folder: &Folder, kept: Kept, line: &str) -> Result<Outcome, Fault> {
     let mut words = Vec::new(folder.alloc);
     for word in line.split(' ') {
         words.push(text_of(folder.alloc, word)?)?;
     }
-    run_over(folder, folder.store()?, &words, folder.input())
+    run_over(folder, folder.store(kept)?, &words, folder.input())
+}
+
+/// Runs the lines of a batch over a register in this layout that holds nothing.
+pub fn run_batch(folder: &Folder, kept: Kept, lines: &[u8]) -> Result<Outcome, Fault> {
+    let mut words = Vec::new(folder.alloc);
+    words.push(String::from_str(folder.alloc, "batch")?)?;
+    run_over(folder, Some(folder.begun(kept)?), &words, lines)
 }
 
 /// Runs the program over the folder's files and a store.

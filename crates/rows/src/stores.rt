@@ -1,21 +1,16 @@
-//! A store in memory, whose tables either layout has.
+//! A store in memory, whose tables have one of the layouts.
 
 use crate::faults::Fault;
+use crate::layouts::Kept;
 use command_rows::sessions::adopted;
 use sqlite::{Connection, MemStore};
 use std::alloc::Global;
 use std::mem;
 use zeb_engine::{Command, Limits, Refusal, Reply, Session};
+use zeb_leaves::Leaves;
 use zeb_packed::Blocks;
 use zeb_profile::Profile;
 use zeb_register::{Rows, Work};
-
-/// A layout of the tables: a posting a row, or packed into blocks.
-#[derive(Clone, Copy)]
-pub enum Kept {
-    Plain,
-    Packed,
-}
 
 /// A store, and the session that has it, if there is one.
 #[derive(Drop)]
@@ -25,6 +20,7 @@ pub enum Store {
     Free(Connection<MemStore>),
     Plain(Session<MemStore, Rows>),
     Packed(Session<MemStore, Blocks>),
+    Leaves(Session<MemStore, Leaves>),
 }
 
 impl Store {
@@ -43,6 +39,7 @@ impl Store {
             Store::Free(connection) => Ok(connection),
             Store::Plain(session) => Ok(session.release()),
             Store::Packed(session) => Ok(session.release()),
+            Store::Leaves(session) => Ok(session.release()),
         }
     }
 
@@ -62,6 +59,10 @@ impl Store {
                 Ok(session) => Store::Packed(session),
                 Err(connection) => Store::Free(connection),
             },
+            Kept::Leaves => match adopted(alloc, connection, profile, limits) {
+                Ok(session) => Store::Leaves(session),
+                Err(connection) => Store::Free(connection),
+            },
         };
         Ok(())
     }
@@ -71,6 +72,7 @@ impl Store {
         match self {
             Store::Plain(session) => Ok(session.command(command)),
             Store::Packed(session) => Ok(session.command(command)),
+            Store::Leaves(session) => Ok(session.command(command)),
             _ => Err(Fault::Line("a command without a session")),
         }
     }
@@ -80,6 +82,7 @@ impl Store {
         match self {
             Store::Plain(session) => session.work(),
             Store::Packed(session) => session.work(),
+            Store::Leaves(session) => session.work(),
             _ => Work::default(),
         }
     }

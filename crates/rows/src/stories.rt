@@ -2,9 +2,10 @@
 
 use crate::faults::Fault;
 use crate::folder::Folder;
+use crate::layouts::Kept;
 use crate::outcomes::Outcome;
 use crate::rows::{Line, Row};
-use crate::stores::{Kept, Store};
+use crate::stores::Store;
 use crate::texts::text_of;
 use command_rows::lines::command_of;
 use sqlite::{Connection, MemStore};
@@ -12,9 +13,16 @@ use std::alloc::Global;
 use tables::queries::{execute, rows};
 use zeb_engine::{Refusal, Reply, refusal_line, render, status};
 
-/// The rows of a story, one for each line, with what the line was answered; the number of the last line that was carried out; and why no
-/// further one was.
-pub type Told = (Vec<(Row, Outcome)>, usize, Result<(), Fault>);
+/// The row of a line of a story, what the line was answered, and the layout of its session, or of the last one before it.
+#[derive(Drop)]
+pub struct Answered {
+    pub row: Row,
+    pub found: Outcome,
+    pub kept: Kept,
+}
+
+/// What the lines of a story were answered; the number of the last one that was carried out; and why no further one was.
+pub type Told = (Vec<Answered>, usize, Result<(), Fault>);
 
 /// Takes a new store through these lines, of which `either` stands for this layout, if for one.
 pub fn told(folder: &Folder, either: Option<Kept>, lines: &[Line<'_>]) -> Result<Told, Fault> {
@@ -34,12 +42,14 @@ struct Story<'a> {
     folder: &'a Folder,
     /// The layout of `either`, where there is one.
     either: Option<Kept>,
+    /// The layout of the last session, or of the one to come where there was none.
+    kept: Kept,
     store: Store,
     /// Queries that were noted, and the rows that they found then.
     queries: &'a str,
     noted: String,
     number: usize,
-    answered: Vec<(Row, Outcome)>,
+    answered: Vec<Answered>,
 }
 
 impl<'a> Story<'a> {
@@ -48,6 +58,7 @@ impl<'a> Story<'a> {
         Ok(Story {
             folder,
             either,
+            kept: either.unwrap_or(Kept::Packed),
             store: Store::new(folder.alloc)?,
             queries: "",
             noted: String::new(folder.alloc),
@@ -86,7 +97,8 @@ impl<'a> Story<'a> {
         let number = self.number;
         let row = Row::read(self.folder, &Line { number, text }, false)?;
         let found = self.answer(&text_of(self.folder.alloc, &row.input)?)?;
-        self.answered.push((row, found))?;
+        let kept = self.kept;
+        self.answered.push(Answered { row, found, kept })?;
         Ok(())
     }
 
@@ -95,9 +107,11 @@ impl<'a> Story<'a> {
         let either = self.either;
         let (word, rest) = input.split_once(' ').unwrap_or((input, ""));
         match word {
-            "plain" => self.begin(Some(Kept::Plain), rest),
-            "packed" => self.begin(Some(Kept::Packed), rest),
-            "either" => self.begin(either, rest),
+            "plain" | "packed" | "leaves" => self.begin(Kept::named(word)?, rest),
+            "either" => match either {
+                Some(kept) => self.begin(kept, rest),
+                None => Err(Fault::Line("no layout")),
+            },
             "work" => self.count(rest),
             "sql" | "alter" | "SELECT" | "note" | "same" | "limit" => {
                 let mut connection = self.store.take()?;
@@ -110,10 +124,8 @@ impl<'a> Story<'a> {
     }
 
     /// Begins a session of a layout under the profile of a file. It is told where the store is refused.
-    fn begin(&mut self, kept: Option<Kept>, path: &str) -> Result<Outcome, Fault> {
-        let Some(kept) = kept else {
-            return Err(Fault::Line("no layout"));
-        };
+    fn begin(&mut self, kept: Kept, path: &str) -> Result<Outcome, Fault> {
+        self.kept = kept;
         let folder = self.folder;
         self.store.begin(folder.alloc, kept, folder.text(path)?)?;
         let is_refused = matches!(self.store, Store::Free(_));
@@ -123,7 +135,7 @@ impl<'a> Story<'a> {
     /// What is printed for a command, and its status.
     fn command(&mut self, line: &str) -> Result<Outcome, Fault> {
         let command = command_of(self.folder.alloc, line)?;
-        answered(self.folder.alloc, &self.store.answer(&command)?)
+        outcome_of(self.folder.alloc, &self.store.answer(&command)?)
     }
 
     /// The same, and in the last line how many rows of `dict` it read and wrote, and how many of `blocks`.
@@ -182,7 +194,7 @@ fn written(alloc: Global, text: &str) -> Result<Outcome, Fault> {
 }
 
 /// What is printed for an answer, and its status.
-fn answered(alloc: Global, answer: &Result<Reply, Refusal>) -> Result<Outcome, Fault> {
+fn outcome_of(alloc: Global, answer: &Result<Reply, Refusal>) -> Result<Outcome, Fault> {
     match answer {
         Ok(reply) => Ok(Outcome::new(alloc, 0, render(alloc, reply)?)),
         Err(refusal) => {

@@ -5,6 +5,7 @@ use crate::queries::{execute, rows};
 use sqlite::{Alter, Connection};
 use std::alloc::Global;
 use std::test::Fail;
+use zeb_leaves::Leaves;
 use zeb_packed::Blocks;
 use zeb_register::{DatabaseId, Layout, RegFault, Rows, database_of};
 
@@ -73,13 +74,21 @@ fn query_of(step: &str) -> &str {
     }
 }
 
-/// A line's step and answer, if it is no remark and no line for the other layout alone.
+/// What stands before a line for this layout alone, and what before those for the others.
+fn words_of<L: Layout>() -> (&'static str, [&'static str; 2]) {
+    if L::version() == Rows::version() {
+        return ("plain ", ["packed ", "leaves "]);
+    }
+    if L::version() == Blocks::version() {
+        return ("packed ", ["plain ", "leaves "]);
+    }
+    ("leaves ", ["plain ", "packed "])
+}
+
+/// A line's step and answer, if it is no remark and no line for another layout alone.
 fn row_of<L: Layout>(line: &str) -> Option<(&str, &str)> {
-    let (own, other) = match L::version() == Rows::version() {
-        true => ("plain ", "packed "),
-        false => ("packed ", "plain "),
-    };
-    if line.starts_with('#') || line.starts_with(other) {
+    let (own, [one, other]) = words_of::<L>();
+    if line.starts_with('#') || line.starts_with(one) || line.starts_with(other) {
         return None;
     }
     let line = line.strip_prefix(own).unwrap_or(line);
@@ -162,10 +171,11 @@ fn run_all<L: Layout>(alloc: Global, tables: &str) -> Outcome {
     Ok(())
 }
 
-/// Runs each table in both layouts.
-fn run_both(alloc: Global, tables: &str) -> Outcome {
+/// Runs each table in each layout.
+fn run_in_each(alloc: Global, tables: &str) -> Outcome {
     run_all::<Rows>(alloc, tables)?;
-    run_all::<Blocks>(alloc, tables)
+    run_all::<Blocks>(alloc, tables)?;
+    run_all::<Leaves>(alloc, tables)
 }
 
 #[test]
@@ -176,24 +186,24 @@ fn records_and_lists_stand_as_they_were_put(rt: HostRuntime) -> Outcome {
         lists::TABLES,
         runs::TABLES,
     ] {
-        run_both(rt.alloc(), tables)?;
+        run_in_each(rt.alloc(), tables)?;
     }
     Ok(())
 }
 
 #[test]
 fn terms_come_in_the_order_of_their_bytes(rt: HostRuntime) -> Outcome {
-    run_both(rt.alloc(), scanning::TABLES)?;
-    run_both(rt.alloc(), scanning::NEIGHBOURS)
+    run_in_each(rt.alloc(), scanning::TABLES)?;
+    run_in_each(rt.alloc(), scanning::NEIGHBOURS)
 }
 
 #[test]
 fn damage_is_answered_where_it_is_read(rt: HostRuntime) -> Outcome {
-    run_both(rt.alloc(), damage::TABLES)?;
+    run_in_each(rt.alloc(), damage::TABLES)?;
     run_all::<Rows>(rt.alloc(), damage::OF_POSTINGS)
 }
 
 #[test]
 fn a_call_on_one_key_or_record_looks_at_few_rows(rt: HostRuntime) -> Outcome {
-    run_both(rt.alloc(), steps::TABLES)
+    run_in_each(rt.alloc(), steps::TABLES)
 }

@@ -16,7 +16,7 @@ pub use Rattle.sqlite_trees.specs.Objects.{catalog_tree}
 pub use Rattle.std.proofs.Common.{ℕ, List, Some, Err, ◌≡◌, ◌≢◌, ◌⊎◌, Result, inl, inr, refl, subst, ◌+◌, ◌-◌, ◌*◌, ◌≤◌, Ok, OnOk, String, arith, filter, length, sym, string_bytes, subst₂, take, ◌∙◌, pos, [], ◌∷◌, codes, get_or, ap, IsUtf8, Option, None, IsTrue, ◌↔◌, ℤ, ◌<◌, IfErr, IfOk, Bool, true, false, OnErr, rules, cond, Ordering, Less, Equal, Greater, if◌then◌else◌, find, nat_eq, ◌++◌, map, ap₂, append-nil, nat_lt, zero, suc, drop, ◌&&◌, ◌^◌, nat_le, Bor, IsErrAnd, not, Vec, append_assoc, ◌==◌, MatchResult, slice_get, vec_capacity}
 pub use Rattle.std.proofs.Math.Logic.{∥∥₁_elim}
 pub use Rattle.std.proofs.Math.Nat.{mul-add, mul-le-mul_left}
-pub use Rattle.std.proofs.lemmas.Bool.{cases_Bool, or_cases, and_parts, and_from, eqb-true, eq-eqb}
+pub use Rattle.std.proofs.lemmas.Bool.{cases_Bool, or_cases, and_parts, and_from, eqb-true, eq-eqb, false_from_ne_true}
 pub use Rattle.std.proofs.lemmas.Bool.Decides.{Decides-eqb, nat_tests}
 pub use Rattle.std.proofs.lemmas.Cmp.{eq_by_cmp_equiv, int_cmp_total}
 pub use Rattle.std.proofs.lemmas.Grind.{flat_map-append}
@@ -102,11 +102,11 @@ pub use Rattle.zeb_engine.specs.PrivateConnections.{IsSettled, LooksReady, Reads
 pub use Rattle.zeb_engine.specs.PrivateCrashes.{IsEmptyDisk, Commits, CommitsTables}
 pub use Rattle.zeb_engine.specs.PrivateDatabaseChanges.{Asked, AcceptsChange, AppliesChange, ChangesDatabase, CommitsRows, FoldsInto, Transacts, asked}
 pub use Rattle.zeb_engine.specs.PrivateDone.{CommandDone, ReadersDone}
-pub use Rattle.zeb_engine.specs.PrivateLooking.{MissesDatabase, IsAskRefusal, IsUnready, FindsStanding, IsLook, RefusesText, RefusesTexts, RefusesVersion, TellsStanding, TellsText}
+pub use Rattle.zeb_engine.specs.PrivateLooking.{earlier_version, MissesDatabase, IsAskRefusal, IsUnready, FindsStanding, IsLook, RefusesTexts, RefusesVersion, TellsStanding}
 pub use Rattle.zeb_engine.specs.PrivateNumbers.{AreGiven, AreWellNumbered, IsMisnumbered, PutsRow}
 pub use Rattle.zeb_engine.specs.PrivateWorks.{Always, Serves, IsReady}
 pub use Rattle.zeb_engine.specs.PrivateWriting.{AreOf, PutsTexts, HoldsRemade, LeavesNoDatabase, CreatesDatabase, DamagesWrite, DropsNamed, IsUnsound, IsWriteRefusal, MakesRow, RemakesRows, TakesRows, WriteDoes}
-pub use Rattle.zeb_engine.specs.Readiness.{IsReadyFor, IsRefusedOver, GoesByTexts, KeepsText}
+pub use Rattle.zeb_engine.specs.Readiness.{IsReadyFor, IsRefusedOver, GoesByTexts, KeepsText, RefusesText, TellsText}
 pub use Rattle.zeb_engine.specs.Reindexing.{CanBeRemade, IsRemade, ReindexLeaves, TellsSound, IsReadyToReindex, RefusesReindex, KeepsRule}
 pub use Rattle.zeb_engine.specs.Replies.{shown_number, record_lines, records_text, holding_line, entry_line, hits_text, hit_line, reply_text}
 pub use Rattle.zeb_engine.specs.Rules.{same_rule, are_same, is_rule_line, rule_line}
@@ -114,10 +114,12 @@ pub use Rattle.zeb_engine.specs.Scanning.{ScanSays, HidesAround, HidesPlanned, H
 pub use Rattle.zeb_engine.specs.Steps.{holding, start_of, checked, checked_from, Step, Ends, Outcome, dumped_by, dumped_from, dumped_in, FindAnswers, AskedAmong, AskedFrom, AskedIn, ScanAnswers, CountedFrom, CountedIn, Turn, change_ends, change_from, created_in, dropped_in, ends, turned_from, all_stay, OnlyAnswers, FoundFrom, ScannedFrom, Run, TellsOrFails, StatAnswers, TakesFiles, ready, changed_by_files, turned, upgraded, created, dropped, reindexed, ruled, upgradable, initialised}
 pub use Rattle.zeb_engine.specs.Transactions.{AsksStore, Commanded, CommandedBy, EnduresRefusal, LeavesNoMore, IsDurable, NoneAsks}
 pub use Rattle.zeb_engine.specs.Upgrading.{UpgradeDoes, UpgradeLeaves, RefusesUpgrade, KeepsUpgradable}
+pub use Rattle.zeb_engine.specs.Versions.{is_earlier, is_taken}
 pub use Rattle.zeb_engine.specs.Works.{ServesBy, ServesCommand, Runs, FindOpen, InTurn, CommandTurns}
 pub use Rattle.zeb_engine.specs.declared.commands.Command.{Command}
 pub use Rattle.zeb_engine.specs.declared.commands.Command.TheVariants.{Find, Scan, Change, Init, Check, Reindex, Upgrade, Create, Drop, Stat, Dump, Analyse}
 pub use Rattle.zeb_engine.specs.declared.find.Question.{Question}
+pub use Rattle.zeb_engine.specs.declared.looks.Earlier.{Earlier}
 pub use Rattle.zeb_engine.specs.declared.looks.Standing.{Standing}
 pub use Rattle.zeb_engine.specs.declared.replies.Hit.{Hit}
 pub use Rattle.zeb_engine.specs.declared.replies.Holding.{Holding}
@@ -184,7 +186,7 @@ pub use Rattle.zeb_register.specs.Calls.{ChangesNothing, OnlyReads, GoesOn, Alte
 pub use Rattle.zeb_register.specs.Catalog.{IsDatabaseOf, PutsDatabase, AreCountedDatabases}
 pub use Rattle.zeb_register.specs.Clauses.{IsReasoned, OnStore}
 pub use Rattle.zeb_register.specs.Content.{Content, Posting, posting_cmp, IsStorable, posted, HasRisingLists, IsWithout, TakesWhole}
-pub use Rattle.zeb_register.specs.Formats.{Format, holds_in, version_of, plain_rows}
+pub use Rattle.zeb_register.specs.Formats.{Format, holds_in, version_of, packed_blocks, packed_leaves, plain_rows}
 pub use Rattle.zeb_register.specs.Kept.{IsFirstFrom, AreReadable, IsNumberOf, IsRecordCount, IsIdentOf, AreReadableIdents}
 pub use Rattle.zeb_register.specs.Occurring.{AreTermsBefore, AreTermsFrom, is_before, is_from, last, key_in}
 pub use Rattle.zeb_register.specs.Sound.{KeepsBeside, KeepsRowsBeside, keeps_malformed}

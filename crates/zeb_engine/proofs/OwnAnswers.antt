@@ -1,5 +1,5 @@
 -- What the definition answers is never damage, nor a failure of the store, of the memory or of a reader.
-use Rattle.zeb_engine.proofs.Cited.{refl, ◌+◌, ◌-◌, ℕ, Bool, true, false, cond, inl, inr, List, [], ◌∷◌, Option, Some, None, Result, Ok, Err, map, length, take, drop, nat_le, nat_lt, sym, subst, string_bytes, ◌||◌, ⊤, bytes_eq, decimal, MarcFault, first_fault, fields_of, units_of, canonical_text, plain_rows, version_of, PlanValue, ScanValue, plan_of, scan_of, Occurrence, IdentFault, AnalysisFault, Analysed, AnalysesTo, IsRefusal, Command, Init, Check, Reindex, Upgrade, Create, Drop, Stat, Dump, Change, Find, Scan, Analyse, Kind, Update, Delete, Adelete, Inserted, PassedOver, name_bytes, Answer, refused, Why, old_format, profile_changed, rule_changed, diagnostic, unknown, database_full, too_many_records, damaged, read_fault, store_failed, out_of_memory, why_of, Conditions, IsPlanned, IsShown, asked_of, has_name, occurs, IsScanPlanned, Changed, Progress, at_end, at_first, changed_by, counted, deleted, files_folded, ident_in, slices_folded, updated, with_ident, with_record, ◌then◌, splits_of, Base, Kept, kept_as, with_new, Holdings, nothing_yet, under, base_named, IsAnalysed, analysis_answer, same_rule, analysis_refusal, marc_refusal, AskedAmong, AskedFrom, AskedIn, CountedFrom, CountedIn, FindAnswers, ScanAnswers, Turn, change_ends, change_from, created_in, dropped_in, dumped_from, dumped_in, ends, start_of, turned_from, checked_from, all_stay, split_of}
+use Rattle.zeb_engine.proofs.Cited.{refl, ◌+◌, ◌-◌, ℕ, Bool, true, false, cond, inl, inr, List, [], ◌∷◌, Option, Some, None, Result, Ok, Err, map, length, take, drop, nat_le, nat_lt, sym, subst, string_bytes, ⊤, bytes_eq, decimal, MarcFault, first_fault, fields_of, units_of, canonical_text, is_taken, PlanValue, ScanValue, plan_of, scan_of, Occurrence, IdentFault, AnalysisFault, Analysed, AnalysesTo, IsRefusal, Command, Init, Check, Reindex, Upgrade, Create, Drop, Stat, Dump, Change, Find, Scan, Analyse, Kind, Update, Delete, Adelete, Inserted, PassedOver, name_bytes, Answer, refused, Why, old_format, profile_changed, rule_changed, diagnostic, unknown, database_full, too_many_records, damaged, read_fault, store_failed, out_of_memory, why_of, Conditions, IsPlanned, IsShown, asked_of, has_name, occurs, IsScanPlanned, Changed, Progress, at_end, at_first, changed_by, counted, deleted, files_folded, ident_in, slices_folded, updated, with_ident, with_record, ◌then◌, splits_of, Base, Kept, kept_as, with_new, Holdings, nothing_yet, under, base_named, IsAnalysed, analysis_answer, same_rule, analysis_refusal, marc_refusal, AskedAmong, AskedFrom, AskedIn, CountedFrom, CountedIn, FindAnswers, ScanAnswers, Turn, change_ends, change_from, created_in, dropped_in, dumped_from, dumped_in, ends, start_of, turned_from, checked_from, all_stay, split_of}
 use Rattle.std.specs.Prelude.{◌&&◌}
 use Rattle.zeb_marc.specs.declared.faults.MarcFault.TheVariants as marc
 use Rattle.zeb_query.specs.Checks.{Refusal}
@@ -141,7 +141,7 @@ reindexed_own c before = from_own c all_stay before (λ bases. tt) (ruled c befo
 upgradable_own : (c : Conditions) (before : Holdings) → AreOwn (upgradable c before)
 unfolding upgradable
 upgradable_own c nothing_yet = tt
-upgradable_own c (under version text bases) = go (bytes_eq version c.version || bytes_eq version (version_of plain_rows)) (bytes_eq text (canonical_text c.profile))
+upgradable_own c (under version text bases) = go (is_taken version c.version) (bytes_eq text (canonical_text c.profile))
   where
     go : (one other : Bool) → AreOwn {A = List Base} (cond one (cond other (Ok bases) (Err profile_changed)) (Err old_format))
     go true true = tt

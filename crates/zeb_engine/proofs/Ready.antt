@@ -59,6 +59,14 @@ texts_agree r a b p q tested is left right = sym left ∙ (bytes_eq-Decides a b)
     from true same = same
     from false same = let e : true ≡ false = sym (ap not same) ∙ sym tested ∙ is in absurd cc
 
+pub texts_equal : (r : Bool) (a b p q : List ℕ) → r ≡ bytes_eq a b → r ≡ true → a ≡ p → b ≡ q → p ≡ q
+texts_equal r a b p q tested is left right = sym left ∙ (bytes_eq-Decides a b).0 (sym tested ∙ is) ∙ right
+
+pub texts_apart : (r : Bool) (a b p q : List ℕ) → r ≡ bytes_eq a b → r ≡ false → a ≡ p → b ≡ q → p ≢ q
+texts_apart r a b p q tested is left right same =
+    let equal : bytes_eq a b ≡ true = (bytes_eq-Decides a b).1 (left ∙ same ∙ sym right) in
+    let e : false ≡ true = sym is ∙ tested ∙ equal in cc
+
 -- ---- whether it is ready
 
 pub same_inside : (a b : List ℕ) → Some a ≡ Some b → a ≡ b

@@ -1,27 +1,63 @@
 -- What the commands come to that make the registers anew, by what is held.
-use Rattle.zeb_engine.proofs.Cited.{◌≡◌, ◌≢◌, ◌⊎◌, ◌∙◌, ℕ, Bool, true, false, List, Result, Ok, Err, refl, ap, inl, inr, ◌||◌, bytes_eq, or_cases, bytes_eq-Decides, canonical_text, plain_rows, version_of, Base, Conditions, Why, not_initialised, old_format, profile_changed, rule_changed, Holdings, nothing_yet, under, bytes_other, Answer, done, refused, same_rule, Ends, Outcome, all_stay, holding, turned_from}
+use Rattle.zeb_engine.proofs.Cited.{◌≡◌, ◌≢◌, ◌∙◌, ℕ, Bool, true, false, List, Result, Ok, Err, IsTrue, refl, ap, subst, inl, inr, ◌&&◌, ◌||◌, get_or, arith, bytes_eq, or_cases, and_parts, bytes_eq-Decides, canonical_text, Format, packed_blocks, packed_leaves, plain_rows, version_of, Base, Conditions, Why, not_initialised, old_format, profile_changed, rule_changed, Holdings, nothing_yet, under, bytes_other, Answer, done, refused, same_rule, Ends, Outcome, all_stay, holding, turned_from}
 use Rattle.zeb_engine.specs.Steps.{reindexed, ruled, upgradable, upgraded}
+use Rattle.zeb_engine.specs.Versions.{is_earlier, is_taken}
 
--- the version is one that an upgrade takes
-abbrev pub IsTaken : List ℕ → List ℕ → Type 0
-IsTaken own version = (version ≡ own) ⊎ (version ≡ version_of plain_rows)
+-- ---- which versions an upgrade takes
 
-taken_so : (own version : List ℕ) → (bytes_eq version own || bytes_eq version (version_of plain_rows)) ≡ true → IsTaken own version
-taken_so own version is = elim (or_cases (bytes_eq version own) (bytes_eq version (version_of plain_rows)) is) [
-  | inl one ↦ inl ((bytes_eq-Decides version own).0 one)
-  | inr two ↦ inr ((bytes_eq-Decides version (version_of plain_rows)).0 two)
+pub own_taken : (own : List ℕ) → IsTrue (is_taken own own)
+unfolding is_taken
+own_taken own = rw ((bytes_eq-Decides own own).1 refl) refl
+
+pub earlier_taken : (version own : List ℕ) → IsTrue (is_earlier version own) → IsTrue (is_taken version own)
+unfolding is_taken
+earlier_taken version own is = from (bytes_eq version own)
+  where
+    from : (b : Bool) → (b || is_earlier version own) ≡ true
+    from true = refl
+    from false = is
+
+-- none is earlier than itself
+pub none_before_itself : (version : List ℕ) → ¬ IsTrue (is_earlier version version)
+unfolding is_earlier
+none_before_itself version is = elim (or_cases _ _ is) [
+  | inl first ↦
+      let parts = and_parts _ _ first in
+      let later : IsTrue (bytes_eq (version_of plain_rows) (version_of packed_blocks) || bytes_eq (version_of plain_rows) (version_of packed_leaves)) =
+      subst (λ v. IsTrue (bytes_eq v (version_of packed_blocks) || bytes_eq v (version_of packed_leaves))) ((bytes_eq-Decides version (version_of plain_rows)).0 parts.0) parts.1 in absurd cc
+  | inr second ↦
+      let parts = and_parts _ _ second in
+      let later : IsTrue (bytes_eq (version_of packed_blocks) (version_of packed_leaves)) =
+      subst (λ v. IsTrue (bytes_eq v (version_of packed_leaves))) ((bytes_eq-Decides version (version_of packed_blocks)).0 parts.0) parts.1 in absurd cc
 ]
 
-takes : (own version : List ℕ) → IsTaken own version → (bytes_eq version own || bytes_eq version (version_of plain_rows)) ≡ true
-takes own version (inl is) = rw ((bytes_eq-Decides version own).1 is) refl
-takes own version (inr is) = from (bytes_eq version own)
-  where
-    from : (b : Bool) → (b || bytes_eq version (version_of plain_rows)) ≡ true
-    from true = refl
-    from false = (bytes_eq-Decides version (version_of plain_rows)).1 is
+-- the first is earlier than each other, the second than each other but the first
+pub first_before : (format : Format) → version_of plain_rows ≢ version_of format → IsTrue (is_earlier (version_of plain_rows) (version_of format))
+unfolding is_earlier
+first_before plain_rows other = absurd (other refl)
+first_before packed_blocks other = refl
+first_before packed_leaves other = refl
 
-takes_none : (own version : List ℕ) → (¬ IsTaken own version) → (bytes_eq version own || bytes_eq version (version_of plain_rows)) ≡ false
-takes_none own version none = rw (bytes_other version own (λ is. none (inl is)), bytes_other version (version_of plain_rows) (λ is. none (inr is))) refl
+pub second_before : (format : Format) → version_of packed_blocks ≢ version_of format → version_of format ≢ version_of plain_rows → IsTrue (is_earlier (version_of packed_blocks) (version_of format))
+unfolding is_earlier
+second_before plain_rows other second = absurd (second refl)
+second_before packed_blocks other second = absurd (other refl)
+second_before packed_leaves other second = refl
+
+-- what is neither the own version nor the first, and the second only beside the first, isn't taken
+pub none_taken : (format : Format) (version : List ℕ) → version ≢ version_of format → version ≢ version_of plain_rows → (version ≡ version_of packed_blocks → version_of format ≡ version_of plain_rows)
+    → is_taken version (version_of format) ≡ false
+unfolding is_taken is_earlier
+none_taken format version other first second = rw (bytes_other version (version_of format) other, bytes_other version (version_of plain_rows) first) (from format other second)
+  where
+    never : (b : Bool) → (b && false) ≡ false
+    never true = refl
+    never false = refl
+
+    from : (f : Format) → version ≢ version_of f → (version ≡ version_of packed_blocks → version_of f ≡ version_of plain_rows) → (bytes_eq version (version_of packed_blocks) && bytes_eq (version_of f) (version_of packed_leaves)) ≡ false
+    from plain_rows other second = never (bytes_eq version (version_of packed_blocks))
+    from packed_blocks other second = rw (bytes_other version (version_of packed_blocks) other) refl
+    from packed_leaves other second = rw (bytes_other version (version_of packed_blocks) (λ is. let e : 51 ≡ 49 = ap (λ (l : List ℕ). get_or l 0 0) (second is) in absurd (omega (arith, e)))) refl
 
 module _ (c : Conditions) where
   -- ---- a reindex
@@ -45,17 +81,17 @@ module _ (c : Conditions) where
 
     -- ---- an upgrade
 
-    pub upgradable_old : (¬ IsTaken c.version version) → upgradable c (under version text bases) ≡ Err old_format
+    pub upgradable_old : is_taken version c.version ≡ false → upgradable c (under version text bases) ≡ Err old_format
     unfolding upgradable
-    upgradable_old other = rw (takes_none c.version version other) refl
+    upgradable_old other = rw other refl
 
-    pub upgradable_changed : IsTaken c.version version → text ≢ canonical_text c.profile → upgradable c (under version text bases) ≡ Err profile_changed
+    pub upgradable_changed : IsTrue (is_taken version c.version) → text ≢ canonical_text c.profile → upgradable c (under version text bases) ≡ Err profile_changed
     unfolding upgradable
-    upgradable_changed is other = rw (takes c.version version is, bytes_other text (canonical_text c.profile) other) refl
+    upgradable_changed is other = rw (is, bytes_other text (canonical_text c.profile) other) refl
 
-    pub upgradable_good : IsTaken c.version version → text ≡ canonical_text c.profile → upgradable c (under version text bases) ≡ Ok bases
+    pub upgradable_good : IsTrue (is_taken version c.version) → text ≡ canonical_text c.profile → upgradable c (under version text bases) ≡ Ok bases
     unfolding upgradable
-    upgradable_good is same = rw (takes c.version version is, (bytes_eq-Decides text (canonical_text c.profile)).1 same) refl
+    upgradable_good is same = rw (is, (bytes_eq-Decides text (canonical_text c.profile)).1 same) refl
 
   pub upgradable_none : upgradable c nothing_yet ≡ Err not_initialised
   unfolding upgradable
@@ -103,18 +139,18 @@ module _ (c : Conditions) where
   pub record WasUpgradable (before : Holdings) (bases : List Base) : Type 0 where
     pub version : List ℕ
     pub is : before ≡ under version (canonical_text c.profile) bases
-    pub taken : IsTaken c.version version
+    pub taken : IsTrue (is_taken version c.version)
 
   pub upgradable_is : (before : Holdings) (bases : List Base) → upgradable c before ≡ Ok bases → WasUpgradable before bases
   unfolding upgradable
   upgradable_is nothing_yet bases is = absurd cc
-  upgradable_is (under version text found) bases is = told (bytes_eq version c.version || bytes_eq version (version_of plain_rows)) (bytes_eq text (canonical_text c.profile)) refl refl
+  upgradable_is (under version text found) bases is = told (is_taken version c.version) (bytes_eq text (canonical_text c.profile)) refl refl
     where
-      told : (r s : Bool) → (bytes_eq version c.version || bytes_eq version (version_of plain_rows)) ≡ r → bytes_eq text (canonical_text c.profile) ≡ s → WasUpgradable (under version text found) bases
+      told : (r s : Bool) → is_taken version c.version ≡ r → bytes_eq text (canonical_text c.profile) ≡ s → WasUpgradable (under version text found) bases
       told true true one two =
           let same : ◌≡◌ {A = Result (List Base) Why} (Ok found) (Ok bases) = rw (one, two) at is in
           let bases_are : found ≡ bases = cc in
-          record { version = version; is = λ i. under version ((bytes_eq-Decides text (canonical_text c.profile)).0 two i) (bases_are i); taken = taken_so c.version version one }
+          record { version = version; is = λ i. under version ((bytes_eq-Decides text (canonical_text c.profile)).0 two i) (bases_are i); taken = one }
       told true false one two = let e : ◌≡◌ {A = Result (List Base) Why} (Err profile_changed) (Ok bases) = rw (one, two) at is in absurd cc
       told false s one two = let e : ◌≡◌ {A = Result (List Base) Why} (Err old_format) (Ok bases) = rw one at is in absurd cc
 
@@ -146,5 +182,5 @@ module _ (c : Conditions) where
 
   pub upgrade_again : (bases : List Base) (answer : Answer) (later : Holdings) → Ends (upgraded c (holding c bases)) answer later → (answer ≡ done) × (later ≡ holding c bases)
   upgrade_again bases answer later step =
-      let told = upgrade_done (holding c bases) bases (upgradable_good c.version (canonical_text c.profile) bases (inl refl) refl) in
+      let told = upgrade_done (holding c bases) bases (upgradable_good c.version (canonical_text c.profile) bases (own_taken c.version) refl) in
       (step.0 ∙ ap (λ (o : Outcome). o.0) told, step.1 ∙ ap (λ (o : Outcome). o.1) told)

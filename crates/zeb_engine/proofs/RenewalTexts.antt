@@ -1,8 +1,8 @@
 -- What the texts of a store tell of a reindex and of an upgrade, where its tables are an image.
-use Rattle.zeb_engine.proofs.Cited.{Bool-set, ◌≡◌, ◌≢◌, ◌⊎◌, ◌∙◌, ℕ, Bool, true, false, List, [], codes, get_or, Option, Some, None, Ok, Err, refl, sym, ap, subst, inl, inr, arith, IsUtf8, ∥∥₁_elim, option_map, Trees, Directive, UnitPattern, canonical_text, pattern_text, identifier_pattern, IsProfile, plain_rows, version_of, HasRow, AreReadableTexts, entry, meta_tree, Refusal, Base, Conditions, IsFailing, why_of, Holdings, nothing_yet, under, HasTexts, IsImage, IsReadyFor, IsReadyToReindex, KeepsRule, KeepsText, KeepsUpgradable, RefusesReindex, RefusesUpgrade, same_rule, ruled, upgradable}
+use Rattle.zeb_engine.proofs.Cited.{Bool-set, ◌≡◌, ◌≢◌, ◌⊎◌, ◌∙◌, ℕ, Bool, true, false, List, [], codes, get_or, Option, Some, None, Ok, Err, refl, sym, ap, subst, inl, inr, arith, IsUtf8, ∥∥₁_elim, option_map, Trees, Directive, UnitPattern, canonical_text, pattern_text, identifier_pattern, IsProfile, plain_rows, HasRow, AreReadableTexts, entry, meta_tree, Refusal, Base, Conditions, IsFailing, why_of, Holdings, nothing_yet, under, HasTexts, IsImage, IsReadyFor, IsReadyToReindex, KeepsRule, KeepsText, KeepsUpgradable, RefusesReindex, RefusesUpgrade, is_taken, false_from_ne_true, IsTrue, same_rule, ruled, upgradable}
 use Rattle.zeb_change.specs.declared.refusals.Refusal.TheVariants as refusal
 use Rattle.zeb_engine.proofs.Ready.{none_there, profile_is, profile_readable, version_is, version_readable}
-use Rattle.zeb_engine.proofs.RenewalSteps.{IsTaken, ruled_changed, ruled_good, ruled_none, ruled_old, upgradable_changed, upgradable_good, upgradable_none, upgradable_old}
+use Rattle.zeb_engine.proofs.RenewalSteps.{ruled_changed, ruled_good, ruled_none, ruled_old, upgradable_changed, upgradable_good, upgradable_none, upgradable_old}
 use Rattle.zeb_engine.proofs.RuleLines.{texts_tell}
 
 module _ (trees : Trees) (version text pattern : List ℕ) (texts : HasTexts trees version text pattern) where
@@ -109,30 +109,27 @@ module _ (c : Conditions) (trees : Trees) where
 
   -- ---- an upgrade
 
-  pub layout_found : (before : Holdings) → IsImage trees before → (version : List ℕ) → IsTaken c.version version → IsReadyFor version c.profile trees
+  pub layout_found : (before : Holdings) → IsImage trees before → (version : List ℕ) → IsTrue (is_taken version c.version) → IsReadyFor version c.profile trees
       → (bases : List Base) × (before ≡ under version (canonical_text c.profile) bases) × (upgradable c before ≡ Ok bases)
   layout_found before image version taken ready =
       let held = ready_held version before image ready in
       (held.0, held.1, subst (λ h. upgradable c h ≡ Ok held.0) (sym held.1) (upgradable_good c version (canonical_text c.profile) held.0 taken refl))
 
-  taken_kept : (version text pattern : List ℕ) → HasTexts trees version text pattern → IsTaken c.version version → KeepsUpgradable c.version trees
-  taken_kept version text pattern texts (inl is) = inl (subst (KeepsText trees (codes "version")) is (version_kept trees version text pattern texts))
-  taken_kept version text pattern texts (inr is) = inr (subst (KeepsText trees (codes "version")) is (version_kept trees version text pattern texts))
+  taken_kept : (version text pattern : List ℕ) → HasTexts trees version text pattern → IsTrue (is_taken version c.version) → KeepsUpgradable c.version trees
+  taken_kept version text pattern texts taken = (version, taken, version_kept trees version text pattern texts)
 
-  kept_taken : (version text pattern : List ℕ) → HasTexts trees version text pattern → KeepsUpgradable c.version trees → IsTaken c.version version
-  kept_taken version text pattern texts (inl is) = inl (sym (version_is trees version text pattern texts c.version is))
-  kept_taken version text pattern texts (inr is) = inr (sym (version_is trees version text pattern texts (version_of plain_rows) is))
+  kept_taken : (version text pattern : List ℕ) → HasTexts trees version text pattern → KeepsUpgradable c.version trees → IsTrue (is_taken version c.version)
+  kept_taken version text pattern texts kept = subst (λ v. IsTrue (is_taken v c.version)) (version_is trees version text pattern texts kept.0 kept.2) kept.1
 
   none_kept : trees meta_tree ≡ [] → ¬ KeepsUpgradable c.version trees
-  none_kept none (inl is) = none_there trees (codes "version") c.version none is
-  none_kept none (inr is) = none_there trees (codes "version") (version_of plain_rows) none is
+  none_kept none kept = none_there trees (codes "version") kept.0 none kept.2
 
   pub layout_refused : (before : Holdings) → IsImage trees before → (why : Refusal) → RefusesUpgrade c.version c.profile trees why → IsFailing (why_of why) ⊎ (upgradable c before ≡ Err (why_of why))
   layout_refused nothing_yet image refusal.NotInitialised is = inr (upgradable_none c)
   layout_refused (under version text bases) image refusal.NotInitialised is = absurd (is version (version_kept trees version text image.1.pattern image.1.texts))
   layout_refused nothing_yet image refusal.OldFormat is = absurd (none_there trees (codes "version") is.0.0 image.0.0 is.0.1)
   layout_refused (under version text bases) image refusal.OldFormat is =
-      inr (upgradable_old c version text bases (λ taken. is.1 (taken_kept version text image.1.pattern image.1.texts taken)))
+      inr (upgradable_old c version text bases (false_from_ne_true (is_taken version c.version) (λ taken. is.1 (taken_kept version text image.1.pattern image.1.texts taken))))
   layout_refused nothing_yet image refusal.ProfileChanged is = absurd (none_kept image.0.0 is.0)
   layout_refused (under version text bases) image refusal.ProfileChanged is =
       inr (upgradable_changed c version text bases (kept_taken version text image.1.pattern image.1.texts is.0)

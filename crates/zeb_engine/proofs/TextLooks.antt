@@ -1,9 +1,10 @@
 -- What looks at texts come to, one after the other.
-use Rattle.zeb_engine.proofs.Cited.{◌≡◌, ◌⊎◌, ◌↔◌, ◌∙◌, ℕ, Bool, true, false, List, codes, Option, Some, None, Result, Ok, Err, MatchResult, OnOk, IfErr, IsTrue, IsUtf8, String, string_bytes, refl, sym, subst, inl, inr, Global, bytes_eq, bytes_eq-Decides, IsUtf8-string_bytes, option_map, Database, Trees, HasCleanDisk, Survives, State, Directive, canonical_text, pattern_text, identifier_pattern, plain_rows, version_of, RegFault, ChangesNothing, MayRefuse, may_after, IsStore, IsValueOf, AreReadableTexts, nothing_then, store_same, one_text, Refusal, register_refusal, why_of, Standing, StaysOpen, HasStoreCause, IsFailure, refused, IsLook, RefusesText, RefusesTexts, RefusesVersion, TellsStanding, TellsText, KeepsText, KeepsUpgradable, RefusesReindex, RefusesUpgrade}
+use Rattle.zeb_engine.proofs.Cited.{◌≡◌, ◌⊎◌, ◌↔◌, ◌∙◌, ℕ, Bool, true, false, List, codes, Option, Some, None, Result, Ok, Err, MatchResult, OnOk, IfErr, IsTrue, IsUtf8, String, string_bytes, refl, sym, subst, inl, inr, Global, bytes_eq, bytes_eq-Decides, IsUtf8-string_bytes, option_map, Database, Trees, HasCleanDisk, Survives, State, Directive, canonical_text, pattern_text, identifier_pattern, RegFault, ChangesNothing, MayRefuse, may_after, IsStore, IsValueOf, AreReadableTexts, nothing_then, store_same, one_text, Refusal, register_refusal, why_of, Standing, StaysOpen, HasStoreCause, IsFailure, refused, IsLook, RefusesText, RefusesTexts, RefusesVersion, TellsStanding, TellsText, KeepsText, KeepsUpgradable, RefusesReindex, RefusesUpgrade, is_taken}
 use Rattle.zeb_register.specs.declared.RegFault.TheVariants as register
 use Rattle.zeb_change.specs.declared.refusals.Refusal.TheVariants as refusal
 use Rattle.zeb_engine.specs.declared.looks.Standing.TheVariants as standing
 use Rattle.zeb_engine.proofs.ReadyTexts.{text_found, text_missing}
+use Rattle.zeb_engine.proofs.RenewalSteps.{earlier_taken, own_taken}
 
 any_ok : {A E : Type 0} (r : Result A E) (P : Type 0) → P → OnOk r P
 any_ok (Ok x) P p = p
@@ -139,16 +140,15 @@ module _ (version : List ℕ) (profile : List Directive) (trees : Trees) where
     pub standing_none : (s : State) → IsStore s → s.now.trees ≡ trees → AreReadableTexts trees (codes "version") → TellsStanding version found None → RefusesUpgrade version profile trees refusal.OldFormat
     standing_none s store same readable none = (
       (found, kept),
-      λ it. elim it [
-        | inl own ↦ none.1 (subst (λ (t : Trees). KeepsText t (codes "version") found → KeepsText t (codes "version") version → found ≡ version) same (one_text s store (codes "version") found version) kept own)
-        | inr first ↦ none.0 (subst (λ (t : Trees). KeepsText t (codes "version") found → KeepsText t (codes "version") (version_of plain_rows) → found ≡ version_of plain_rows) same (one_text s store (codes "version") found (version_of plain_rows)) kept first)
-      ],
+      λ it.
+          let is : found ≡ it.0 = subst (λ (t : Trees). KeepsText t (codes "version") found → KeepsText t (codes "version") it.0 → found ≡ it.0) same (one_text s store (codes "version") found it.0) kept it.2 in
+          let e : false ≡ true = sym none ∙ subst (λ v. IsTrue (is_taken v version)) (sym is) it.1 in cc,
       readable,
     )
 
     pub upgradable_so : (standing : Standing) → TellsStanding version found (Some standing) → KeepsUpgradable version trees
-    upgradable_so standing.Upgraded is = inl (subst (KeepsText trees (codes "version")) is kept)
-    upgradable_so standing.First is = inr (subst (KeepsText trees (codes "version")) is.0 kept)
+    upgradable_so standing.Upgraded is = (found, subst (λ v. IsTrue (is_taken v version)) (sym is) (own_taken version), kept)
+    upgradable_so (standing.Before earlier) is = (found, earlier_taken found version is.1, kept)
 
     pub standing_changed : (standing : Standing) → TellsStanding version found (Some standing) → TellsText (codes "profile") (canonical_text profile) trees false
         → RefusesUpgrade version profile trees refusal.ProfileChanged

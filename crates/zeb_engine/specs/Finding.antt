@@ -46,7 +46,7 @@ has_name records n ident = option_map (λ kept. kept.ident) (find (λ kept. nat_
 
 -- ---- what is shown
 
--- those from the first-th on, at most count; a first past the last is diagnostic 13, which names it
+-- those from the first-th on, at most count; a first past the last is diagnostic 13, which names it, but a first of 1 is none
 abbrev pub asked_of : List ℕ → ℕ → ℕ → Result (List ℕ) Why
 asked_of hits first count =
     if nat_lt 1 first && nat_lt (length hits) first then Err (diagnostic 13 0 (decimal first)) else Ok (take count (drop (first - 1) hits))

@@ -7,6 +7,7 @@ pub mod Scanning
 pub mod Counting
 pub mod Analysed
 pub mod Rules
+pub mod Versions
 pub mod Steps
 pub mod Works
 pub mod PrivateWorks

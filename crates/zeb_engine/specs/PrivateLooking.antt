@@ -1,6 +1,6 @@
 -- What only the contracts of private functions speak of; no public clause reaches it.
 -- Looks at the texts of a store, and for one of its databases: what each finds, and over which tables it is refused.
-use Rattle.std.specs.Prelude.{◌≡◌, ◌≢◌, ◌⊎◌, ◌↔◌, ℕ, Bool, List, MatchResult, Option, Some, None, Result, Ok, Err, OnOk, IfErr, IsTrue, codes}
+use Rattle.std.specs.Prelude.{◌≡◌, ◌⊎◌, ℕ, List, MatchResult, false, Option, Some, None, Result, Ok, Err, OnOk, IfErr, IsTrue, codes}
 use Rattle.sqlite.specs.Tree.{Trees}
 use Rattle.sqlite.specs.State.{State}
 use Rattle.zeb_profile.specs.Canonical.{canonical_text}
@@ -8,17 +8,20 @@ use Rattle.zeb_profile.specs.declared.directives.Directive.{Directive}
 use Rattle.zeb_register.specs.declared.catalog.Database.{Database}
 use Rattle.zeb_register.specs.Calls.{ChangesNothing}
 use Rattle.zeb_register.specs.Catalog.{AreCountedDatabases, IsDatabaseOf}
-use Rattle.zeb_register.specs.Formats.{plain_rows, version_of}
+use Rattle.zeb_register.specs.Formats.{packed_blocks, plain_rows, version_of}
 use Rattle.zeb_register.specs.Store.{IsStore, AreReadableTexts}
 use Rattle.zeb_change.specs.declared.refusals.Refusal.{Refusal}
 use Rattle.zeb_change.specs.declared.refusals.Refusal.TheVariants.{NotInitialised, OldFormat, ProfileChanged, Diagnostic, Exists, Damaged, Store, Memory}
 use Rattle.zeb_change.specs.Refused.{IsFailing, why_of}
+use Rattle.zeb_engine.specs.declared.looks.Earlier.{Earlier}
+use Rattle.zeb_engine.specs.declared.looks.Earlier.TheVariants.{First, Second}
 use Rattle.zeb_engine.specs.declared.looks.Standing.{Standing}
-use Rattle.zeb_engine.specs.declared.looks.Standing.TheVariants.{Upgraded, First}
+use Rattle.zeb_engine.specs.declared.looks.Standing.TheVariants.{Before, Upgraded}
 use Rattle.zeb_engine.specs.Adopting.{StaysOpen}
 use Rattle.zeb_engine.specs.Answers.{IsFailure, refused, no_database}
 use Rattle.zeb_engine.specs.Causes.{HasStoreCause}
 use Rattle.zeb_engine.specs.Readiness.{HidesText, IsReadyFor, KeepsText}
+use Rattle.zeb_engine.specs.Versions.{is_earlier, is_taken}
 
 -- what a look did to the connection, and what it found on the tables of a store
 pub record IsLook {T : Type 0} (Finds : Trees → T → Type 0) (Refuses : Trees → Refusal → Type 0) (old new : State) (result : Result T Refusal) : Type 0 where
@@ -27,17 +30,6 @@ pub record IsLook {T : Type 0} (Finds : Trees → T → Type 0) (Refuses : Trees
   pub seen : IfErr result (λ refusal. IsFailure (refused (why_of refusal)) ⊎ IsTrue old.is_open)
   pub caused : HasStoreCause old new result
   pub told : IsStore old → MatchResult result (Finds old.now.trees) (Refuses old.now.trees)
-
--- whether this text is kept under this name, where what is kept can be read
-abbrev pub TellsText : List ℕ → List ℕ → Trees → Bool → Type 0
-TellsText name text trees it = (IsTrue it ↔ KeepsText trees name text) × AreReadableTexts trees name
-
--- over which tables a text of this name isn't told
-abbrev pub RefusesText : List ℕ → Trees → Refusal → Type 0
-RefusesText name trees Damaged = ¬ AreReadableTexts trees name
-RefusesText name trees Store = Unit {0}
-RefusesText name trees Memory = Unit {0}
-RefusesText name trees other = ⊥
 
 -- over which tables the version isn't told
 abbrev pub RefusesVersion : Trees → Refusal → Type 0
@@ -61,16 +53,22 @@ RefusesTexts version profile trees Store = Unit {0}
 RefusesTexts version profile trees Memory = Unit {0}
 RefusesTexts version profile trees other = ⊥
 
+-- the version of an earlier layout
+abbrev pub earlier_version : Earlier → List ℕ
+earlier_version First = version_of plain_rows
+earlier_version Second = version_of packed_blocks
+
 -- where a register of this version stands, or none
 abbrev pub TellsStanding : List ℕ → List ℕ → Option Standing → Type 0
 TellsStanding own version (Some Upgraded) = version ≡ own
-TellsStanding own version (Some First) = (version ≡ version_of plain_rows) × (version ≢ own)
-TellsStanding own version None = (version ≢ version_of plain_rows) × (version ≢ own)
+TellsStanding own version (Some (Before earlier)) = (version ≡ earlier_version earlier) × IsTrue (is_earlier version own)
+TellsStanding own version None = is_taken version own ≡ false
 
 -- where a register stands that may be upgraded
 abbrev pub FindsStanding : List ℕ → List Directive → Trees → Standing → Type 0
 FindsStanding version profile trees Upgraded = IsReadyFor version profile trees
-FindsStanding version profile trees First = IsReadyFor (version_of plain_rows) profile trees × (version ≢ version_of plain_rows)
+FindsStanding version profile trees (Before earlier) =
+    IsReadyFor (earlier_version earlier) profile trees × IsTrue (is_earlier (earlier_version earlier) version)
 
 -- a look whether a register is ready refuses nothing else
 abbrev pub IsUnready : Refusal → Type 0

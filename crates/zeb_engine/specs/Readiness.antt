@@ -1,5 +1,5 @@
 -- Whether a register is ready for a session, by the texts that the store keeps of it, whatever its other tables hold.
-use Rattle.std.specs.Prelude.{◌⊎◌, ℕ, List, MatchResult, Result, codes}
+use Rattle.std.specs.Prelude.{◌⊎◌, ◌↔◌, ℕ, Bool, List, MatchResult, Result, IsTrue, codes}
 use Rattle.sqlite.specs.Tree.{Trees}
 use Rattle.sqlite.specs.State.{State}
 use Rattle.zeb_profile.specs.declared.directives.Directive.{Directive}
@@ -12,6 +12,17 @@ use Rattle.zeb_change.specs.declared.refusals.Refusal.TheVariants.{NotInitialise
 -- this text is kept under this name
 abbrev pub KeepsText : Trees → List ℕ → List ℕ → Type 0
 KeepsText trees name text = HasRow trees meta_tree (entry name text)
+
+-- whether this text is kept under this name, where what is kept can be read
+abbrev pub TellsText : List ℕ → List ℕ → Trees → Bool → Type 0
+TellsText name text trees it = (IsTrue it ↔ KeepsText trees name text) × AreReadableTexts trees name
+
+-- over which tables a text of this name isn't told
+abbrev pub RefusesText : List ℕ → Trees → Refusal → Type 0
+RefusesText name trees Damaged = ¬ AreReadableTexts trees name
+RefusesText name trees Store = Unit {0}
+RefusesText name trees Memory = Unit {0}
+RefusesText name trees other = ⊥
 
 -- the register has this version, and was initialised under this profile
 pub record IsReadyFor (version : List ℕ) (profile : List Directive) (trees : Trees) : Type 0 where
@@ -44,3 +55,8 @@ IsRefusedOver version profile trees other = IsReadyFor version profile trees
 abbrev pub GoesByTexts : {T : Type 0} → List ℕ → List Directive → State → Result T Refusal → Type 0
 GoesByTexts version profile s result =
     IsStore s → MatchResult result (λ _. IsReadyFor version profile s.now.trees) (IsRefusedOver version profile s.now.trees)
+
+-- On the tables of a store: it is told whether the version that they keep is this one, unless no text can be told.
+abbrev pub TellsVersion : List ℕ → State → Result Bool Refusal → Type 0
+TellsVersion version s result =
+    IsStore s → MatchResult result (TellsText (codes "version") version s.now.trees) (RefusesText (codes "version") s.now.trees)

@@ -1,13 +1,12 @@
 -- What each command answers, and what the register holds then. A refusal gives back what it held. The order of refusals is
 -- that of the cases: the register, the query's text, the database, the query's meaning, and then record after record.
-use Rattle.std.specs.Prelude.{◌≡◌, ◌⊎◌, ◌||◌, ℕ, List, [], ◌∷◌, map, Option, Some, None, Result, Ok, Err, length, string_bytes, if◌then◌else◌}
+use Rattle.std.specs.Prelude.{◌≡◌, ◌⊎◌, ℕ, List, [], ◌∷◌, map, Option, Some, None, Result, Ok, Err, length, string_bytes, if◌then◌else◌}
 use Rattle.std.specs.List.{flat_map}
 use Rattle.std.specs.Str.{bytes_eq}
 use Rattle.zeb_profile.specs.declared.directives.Directive.{Directive}
 use Rattle.zeb_profile.specs.Canonical.{canonical_text}
 use Rattle.zeb_query.specs.Places.{IsFaulty, IsReadable}
 use Rattle.zeb_marc.specs.Splits.{Split}
-use Rattle.zeb_register.specs.Formats.{plain_rows, version_of}
 use Rattle.zeb_engine.specs.declared.commands.Command.{Command}
 use Rattle.zeb_engine.specs.declared.commands.Command.TheVariants.{Init, Check, Reindex, Upgrade, Create, Drop, Stat, Dump, Change, Find, Scan, Analyse}
 use Rattle.zeb_change.specs.declared.settings.Kind.{Kind}
@@ -25,6 +24,7 @@ use Rattle.zeb_change.specs.Occurs.{occurs}
 use Rattle.zeb_engine.specs.Scanning.{IsScanned}
 use Rattle.zeb_engine.specs.Analysed.{IsAnalysed}
 use Rattle.zeb_engine.specs.Rules.{same_rule}
+use Rattle.zeb_engine.specs.Versions.{is_taken}
 
 -- an answer, and what is held then
 abbrev pub Outcome : Type 0
@@ -172,13 +172,11 @@ ruled c (under version text bases) =
 unfoldable pub reindexed : Conditions → Holdings → Outcome
 reindexed c before = turned_from c all_stay before (ruled c before)
 
--- the databases of a register of this version or of the first one, under this profile
+-- the databases of a register of this version or of an earlier one, under this profile
 unfoldable pub upgradable : Conditions → Holdings → Result (List Base) Why
 upgradable c nothing_yet = Err not_initialised
 upgradable c (under version text bases) =
-    if bytes_eq version c.version || bytes_eq version (version_of plain_rows)
-    then (if bytes_eq text (canonical_text c.profile) then Ok bases else Err profile_changed)
-    else Err old_format
+    if is_taken version c.version then (if bytes_eq text (canonical_text c.profile) then Ok bases else Err profile_changed) else Err old_format
 
 unfoldable pub upgraded : Conditions → Holdings → Outcome
 upgraded c before = turned_from c all_stay before (upgradable c before)

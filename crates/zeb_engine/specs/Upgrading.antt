@@ -1,23 +1,24 @@
--- An upgrade on any tables of a store: it takes this version and the first one.
+-- An upgrade on any tables of a store: it takes this version and the earlier ones.
 use Rattle.sqlite.specs.State.{State}
 use Rattle.sqlite.specs.Tree.{Trees}
-use Rattle.std.specs.Prelude.{◌≡◌, ◌⊎◌, ◌≢◌, IsErrAnd, List, Ok, OnOk, Result, codes, ℕ}
+use Rattle.std.specs.Prelude.{◌≡◌, ◌⊎◌, IsErrAnd, IsTrue, List, Ok, OnOk, Result, codes, ℕ}
 use Rattle.zeb_change.specs.Conditions.{Conditions}
 use Rattle.zeb_change.specs.declared.refusals.Refusal.{Refusal}
 use Rattle.zeb_change.specs.declared.refusals.Refusal.TheVariants.{Damaged, Memory, NotInitialised, OldFormat, ProfileChanged, Store}
 use Rattle.zeb_engine.specs.Answers.{IsFailure, answer_of}
 use Rattle.zeb_engine.specs.Checking.{TellsImage}
 use Rattle.zeb_engine.specs.Readiness.{IsReadyFor, KeepsText}
+use Rattle.zeb_engine.specs.Versions.{is_earlier, is_taken}
 use Rattle.zeb_engine.specs.declared.replies.Reply.{Reply}
 use Rattle.zeb_engine.specs.declared.replies.Reply.TheVariants.{Done}
 use Rattle.zeb_profile.specs.Canonical.{canonical_text}
 use Rattle.zeb_profile.specs.declared.directives.Directive.{Directive}
 use Rattle.zeb_register.specs.Calls.{ChangesNothing}
-use Rattle.zeb_register.specs.Formats.{plain_rows, version_of}
 use Rattle.zeb_register.specs.Store.{AreReadableTexts, IsStore}
 
+-- the store keeps this version or an earlier one
 abbrev pub KeepsUpgradable : List ℕ → Trees → Type 0
-KeepsUpgradable version trees = KeepsText trees (codes "version") version ⊎ KeepsText trees (codes "version") (version_of plain_rows)
+KeepsUpgradable version trees = (kept : List ℕ) × IsTrue (is_taken kept version) × KeepsText trees (codes "version") kept
 
 -- over which texts an upgrade is refused so before it begins, in the same way
 abbrev pub RefusesUpgrade : List ℕ → List Directive → Trees → Refusal → Type 0
@@ -33,12 +34,12 @@ RefusesUpgrade version profile trees Memory = Unit {0}
 RefusesUpgrade version profile trees other = ⊥
 
 -- Of an upgrade, on the tables of a store: their texts refuse it, or they keep the session's version, and nothing is to do, or they keep
--- the first version and not the session's, and it goes by all tables.
+-- an earlier one, and it goes by all tables.
 abbrev pub UpgradesTables : List ℕ → List Directive → State → Result Reply Refusal → Type 0
 UpgradesTables version profile s result = IsStore s →
     IsErrAnd result (RefusesUpgrade version profile s.now.trees)
     ⊎ ((IsReadyFor version profile s.now.trees × (result ≡ Ok Done))
-    ⊎ ((version ≢ version_of plain_rows) × IsReadyFor (version_of plain_rows) profile s.now.trees × TellsImage s.now.trees result))
+    ⊎ ((earlier : List ℕ) × IsTrue (is_earlier earlier version) × IsReadyFor earlier profile s.now.trees × TellsImage s.now.trees result))
 
 -- Of an upgrade, on the tables of a store that keep the session's version and profile already, whatever else they hold: it is accepted, or
 -- the store or the memory fails, and nothing changes.
@@ -51,7 +52,7 @@ abbrev pub UpgradeLeaves : State → State → Type 0
 UpgradeLeaves old new = IsStore old → IsStore new
 
 pub record UpgradeDoes (c : Conditions) (old new : State) (answer : Result Reply Refusal) : Type 0 where
-  -- it goes by the texts, and of the first version tells of all tables whether they are an image
+  -- it goes by the texts, and of an earlier version tells of all tables whether they are an image
   pub told : UpgradesTables c.version c.profile old answer
   -- a register of the session's version has nothing to upgrade, whatever its other tables hold
   pub stays : StaysUpgraded c.version c.profile old new answer

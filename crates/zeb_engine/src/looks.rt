@@ -5,9 +5,9 @@ ghost use Rattle.sqlite.specs.Held.{state};
 ghost use Rattle.sqlite.specs.State.{HasCleanDisk};
 ghost use Rattle.zeb_register.specs.Formats.{version_of};
 ghost use Rattle.zeb_change.specs.Reading.{NoReadFault};
-ghost use Rattle.zeb_engine.specs.PrivateLooking.{FindsStanding, IsLook, IsUnready, RefusesText, RefusesVersion, TellsStanding, TellsText};
+ghost use Rattle.zeb_engine.specs.PrivateLooking.{FindsStanding, IsLook, IsUnready, RefusesVersion, TellsStanding};
 ghost use Rattle.zeb_engine.specs.Reindexing.{IsReadyToReindex, RefusesReindex};
-ghost use Rattle.zeb_engine.specs.Readiness.{KeepsText};
+ghost use Rattle.zeb_engine.specs.Readiness.{KeepsText, RefusesText, TellsText};
 ghost use Rattle.zeb_engine.specs.Upgrading.{RefusesUpgrade};
 ghost use Rattle.zeb_engine.specs.PrivateConnections.{CommitsNothing};
 
@@ -15,16 +15,26 @@ use crate::readiness::{IDENTIFIER, PROFILE, VERSION};
 use sqlite::{Alter, Connection};
 use std::alloc::Global;
 use zeb_change::Refusal;
+use zeb_packed::Blocks;
 use zeb_profile::Profile;
 use zeb_register::{Layout, Rows, meta_of};
+
+/// A layout that others came after.
+#[derive(Clone, Copy)]
+pub(crate) enum Earlier {
+    /// Plain rows.
+    First,
+    /// Packed blocks.
+    Second,
+}
 
 /// Where a register stands that an upgrade takes.
 #[derive(Clone, Copy)]
 pub(crate) enum Standing {
     /// It has the session's layout already.
     Upgraded,
-    /// It has the first layout, and the session another one.
-    First,
+    /// It has a layout before the session's.
+    Before(Earlier),
 }
 
 /// The version of the tables' layout. `NotInitialised` where none is kept.
@@ -97,16 +107,21 @@ pub(crate) fn check_rule<S: Alter, L: Layout>(
 fn standing_of<L: Layout>(version: &str) -> Option<Standing>
     ensures { TellsStanding (version_of L.format) version.now result }
 {
-    if version == L::version() {
+    let own = L::version();
+    if version == own {
         Some(Standing::Upgraded)
     } else if version == Rows::version() {
-        Some(Standing::First)
+        // Each other layout came after the first.
+        Some(Standing::Before(Earlier::First))
+    } else if version == Blocks::version() && own != Rows::version() {
+        // Each other one but the first came after the second.
+        Some(Standing::Before(Earlier::Second))
     } else {
         None
     }
 }
 
-/// Where a register stands. Refuses one that was never initialised, has another layout than the session's and the first, or was
+/// Where a register stands. Refuses one that was never initialised, has a layout that is neither the session's nor an earlier one, or was
 /// initialised under another profile.
 pub(crate) fn check_layout<S: Alter, L: Layout>(
     connection: &mut Connection<S>,

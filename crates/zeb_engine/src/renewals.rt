@@ -1,22 +1,33 @@
 //! The commands that make the registers anew from the kept records, each in one transaction.
 
-ghost use Rattle.std.specs.Prelude.{◌≡◌, false};
+ghost use Rattle.std.specs.Prelude.{◌≡◌, ◌≢◌, ◌↔◌, false, IfOk, IsTrue, List};
+ghost use Rattle.sqlite.specs.Held.{state};
+ghost use Rattle.sqlite.specs.State.{HasCleanDisk};
+ghost use Rattle.zeb_profile.specs.Canonical.{canonical_text};
+ghost use Rattle.zeb_register.specs.Calls.{Reading};
 ghost use Rattle.zeb_register.specs.Formats.{version_of};
+ghost use Rattle.zeb_register.specs.Store.{IsStore};
+ghost use Rattle.zeb_change.specs.Base.{Base};
+ghost use Rattle.zeb_image.specs.Holdings.{under};
+ghost use Rattle.zeb_image.specs.Image.{IsImage};
+ghost use Rattle.zeb_image.specs.Looking.{Looks};
 ghost use Rattle.zeb_change.specs.declared.settings.Limits.{Limits};
 ghost use Rattle.zeb_change.specs.Conditions.{conditions};
 ghost use Rattle.zeb_engine.specs.Costs.{no_work};
 ghost use Rattle.zeb_engine.specs.PrivateDone.{CommandDone};
+ghost use Rattle.zeb_engine.specs.PrivateLooking.{earlier_version};
 
 use crate::commands::Command;
-use crate::looks::{Standing, check_layout, check_rule};
+use crate::looks::{Earlier, Standing, check_layout, check_rule};
 use crate::replies::Reply;
 use crate::writes::{Write, transact};
 use sqlite::{Alter, Connection};
 use std::alloc::Global;
 use zeb_change::Refusal;
 use zeb_image::is_image;
+use zeb_packed::Blocks;
 use zeb_profile::Profile;
-use zeb_register::{Layout, Rows};
+use zeb_register::{Layout, RegFault, Rows};
 
 /// Puts the session's profile in the place of the register's, and makes the registers anew by it. `IdentifierRuleChanged` where the
 /// profiles have other rules for identifiers; `Damaged` where a kept record isn't one, or hasn't its identifier, or where what the store
@@ -41,8 +52,30 @@ pub(crate) fn reindex<S: Alter, L: Layout>(
     transact::<S, L>(connection, &Write::Reindex { alloc, profile })
 }
 
-/// Makes the registers of the first layout anew in this one. Where the register has this one already, nothing changes. `Damaged` where the
-/// tables of the first layout aren't the image of what is held; they are as before then.
+/// Whether the tables are the image of what is held, in the earlier layout.
+fn is_earlier_image<S: Alter>(
+    alloc: Global,
+    connection: &mut Connection<S>,
+    profile: &Profile,
+    earlier: Earlier,
+) -> Result<bool, RegFault>
+    ensures call { Reading (state S.Store connection.old) (state S.Store connection.new) result
+        (λ it. Looks (IsTrue it)) }
+    ensures value { HasCleanDisk (state S.Store connection.new)
+        → IsStore (state S.Store connection.old)
+        → IfOk result (λ it. IsTrue it ↔ ((bases : List Base)
+        × IsImage (state S.Store connection.old).now.trees
+        (under (earlier_version earlier) (canonical_text profile.now) bases))) }
+    ensures honest { result ≢ Err RegFault.Damaged }
+{
+    match earlier {
+        Earlier::First => is_image::<S, Rows>(alloc, connection, profile),
+        Earlier::Second => is_image::<S, Blocks>(alloc, connection, profile),
+    }
+}
+
+/// Makes the registers of an earlier layout anew in this one. Where the register has this one already, nothing changes. `Damaged` where the
+/// tables of the earlier layout aren't the image of what is held; they are as before then.
 pub(crate) fn upgrade<S: Alter, L: Layout>(
     alloc: Global,
     connection: &mut Connection<S>,
@@ -63,8 +96,8 @@ pub(crate) fn upgrade<S: Alter, L: Layout>(
     let standing = check_layout::<S, L>(connection, profile)?;
     match standing {
         Standing::Upgraded => Ok(Reply::Done),
-        Standing::First => {
-            if is_image::<S, Rows>(alloc, connection, profile)? {
+        Standing::Before(earlier) => {
+            if is_earlier_image(alloc, connection, profile, earlier)? {
                 transact::<S, L>(connection, &Write::Upgrade { alloc, profile })
             } else {
                 Err(Refusal::Damaged)

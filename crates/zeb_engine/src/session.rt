@@ -30,6 +30,7 @@ use zeb_register::{Layout, Work};
 
 mod asking;
 mod changing;
+mod layouts;
 mod writing;
 
 /// A register under a profile. No transaction is open between two commands.

@@ -78,7 +78,6 @@ abbrev pub IsImage : Trees → Holdings → Type 0
 IsImage trees nothing_yet = LacksLists trees × LacksRegisters trees
 IsImage trees (under version text bases) = (profile : List Directive) × IsImageUnder profile trees version text bases
 
--- An open connection shows the image of this, and that is also what was committed: so it is outside a transaction. Of a shut one this is so
--- of every holding.
+-- An open connection shows the image of this, and that is also what was committed. Of a shut one this is so of every holding.
 abbrev pub Keeps : State → Holdings → Type 0
 Keeps s held = IsTrue s.is_open → (IsStore s × IsImage s.now.trees held) × (s.committed ≡ s.now)

@@ -9,8 +9,8 @@ use Rattle.zeb_query.specs.Plans.{PlanValue, TermOf, PhraseOf}
 use Rattle.zeb_keys.specs.declared.keys.Key.{Key}
 use Rattle.zeb_lower_laws.specs.Sample.{title_profile}
 use Rattle.zeb_engine.specs.declared.commands.Command.{Command}
-use Rattle.zeb_engine.specs.declared.commands.Command.TheVariants.{Change, Find}
-use Rattle.zeb_change.specs.declared.settings.Kind.TheVariants.{Update}
+use Rattle.zeb_engine.specs.declared.commands.Command.TheVariants.{Init, Create, Drop, Change, Find, Check, Reindex, Upgrade, Stat, Dump, Scan, Analyse}
+use Rattle.zeb_change.specs.declared.settings.Kind.TheVariants.{Adelete, Delete, Update}
 use Rattle.zeb_change.specs.declared.settings.Limits.{Limits}
 use Rattle.zeb_engine.specs.Answers.{Answer}
 use Rattle.zeb_image.specs.NameOf.{name_bytes}
@@ -67,13 +67,35 @@ BookHolds = TreeHolds (occurs title_profile book_base.records) (IsNamed (occurs 
 
 -- the command updates the database `Default` by files of these bytes
 abbrev pub IsUpdateBy : List (List ℕ) → Command → Type 0
+IsUpdateBy texts Init = ⊥
+IsUpdateBy texts (Create name) = ⊥
+IsUpdateBy texts (Drop name) = ⊥
 IsUpdateBy texts (Change Update name files) = (name_bytes name ≡ codes "Default") × (map (λ file. file.items) files.items ≡ texts)
-IsUpdateBy texts other = ⊥
+IsUpdateBy texts (Change Delete name files) = ⊥
+IsUpdateBy texts (Change Adelete name files) = ⊥
+IsUpdateBy texts (Find name query first count) = ⊥
+IsUpdateBy texts Check = ⊥
+IsUpdateBy texts Reindex = ⊥
+IsUpdateBy texts Upgrade = ⊥
+IsUpdateBy texts (Stat name) = ⊥
+IsUpdateBy texts (Dump name) = ⊥
+IsUpdateBy texts (Scan name query number position) = ⊥
+IsUpdateBy texts (Analyse files) = ⊥
 
 -- the command asks for the first 20 records of the database `Default` that a query of this text finds
 abbrev pub IsFindBy : List ℕ → Command → Type 0
+IsFindBy text Init = ⊥
+IsFindBy text (Create name) = ⊥
+IsFindBy text (Drop name) = ⊥
+IsFindBy text (Change kind name files) = ⊥
 IsFindBy text (Find name query first count) = (name_bytes name ≡ codes "Default") × (string_bytes query ≡ text) × (first ≡ 1) × (count ≡ 20)
-IsFindBy text other = ⊥
+IsFindBy text Check = ⊥
+IsFindBy text Reindex = ⊥
+IsFindBy text Upgrade = ⊥
+IsFindBy text (Stat name) = ⊥
+IsFindBy text (Dump name) = ⊥
+IsFindBy text (Scan name query number position) = ⊥
+IsFindBy text (Analyse files) = ⊥
 
 -- a command may give this answer, with this held then, and nothing else
 abbrev pub IsJust : (Told : Answer → Holdings → Type 0) → Answer → Holdings → Type 0

@@ -8,7 +8,7 @@ use Rattle.zeb_leaf.specs.Spans.{key_cmp}
 use Rattle.zeb_leaf.specs.declared.entries.TheConstants.{LEAF_BYTES}
 use Rattle.zeb_leaves.proofs.OneCover.{up_to_then}
 use Rattle.zeb_leaves.proofs.PartedLeaves.{less_is_up}
-use Rattle.zeb_leaves.proofs.SpanRuns.{flipped_back, not_less_up, up_not_less}
+use Rattle.zeb_leaves.proofs.SpanRuns.{not_less_up, up_not_less}
 use Rattle.zeb_leaves.specs.PrivateAgreeing.{IsWhole, Leaf, ShowsLeaf, TakeEntries, entry_key, key_of, leaf_shown, rest_shown}
 use Rattle.zeb_register.proofs.KeyOrder.{key_order}
 use Rattle.zeb_register.proofs.LeafReadings.{one_said, one_shown}

@@ -3,15 +3,16 @@ use Rattle.zeb_leaves.proofs.Cited.{Row, State, Trees, Int, Blob, Has, ◌≡◌
 use Rattle.std.specs.Cmp.{int_cmp_total}
 use Rattle.std.specs.Prelude.{string_bytes}
 use Rattle.zeb_leaves.specs.PrivateAgreeing.{HoldsPostings, LeavesAgree, rest_shown}
-use Rattle.zeb_register.proofs.AgreeingRows.{empty_belongs, no_dict, no_postings, same_row}
+use Rattle.zeb_register.proofs.AgreeingRows.{same_row}
 use Rattle.zeb_register.proofs.AgreeingTables.{content, content_at, content_there, content_up, posted_as, put_together, there_is, there_of}
 use Rattle.zeb_register.proofs.ExpectedStatements.{owner_row}
 use Rattle.zeb_register.proofs.PostingStatements.{blocks, blocks_static}
+use Rattle.zeb_register.specs.Agreeing.{IsThere, ListsAgree}
 use Rattle.zeb_register.specs.Catalog.{AreDatabases}
 use Rattle.zeb_register.specs.Expected.{AreExpected, IsOrdered}
 use Rattle.zeb_register.specs.Formats.{packed_leaves}
-use Rattle.zeb_register.specs.PrivateRowExpected.{IsThere, ListsAgree, list_under}
-use Rattle.zeb_register.specs.Store.{HasDatabase, dict_tree, postings_tree}
+use Rattle.zeb_register.specs.PrivateRowExpected.{list_under}
+use Rattle.zeb_register.specs.Store.{HasDatabase}
 use Rattle.zeb_register.specs.declared.catalog.ListedDatabase.{ListedDatabase}
 use Rattle.zeb_register.specs.declared.expected.Expected.{Expected}
 use Rattle.zeb_register.specs.declared.expected.ExpectedDatabase.{ExpectedDatabase}
@@ -61,8 +62,7 @@ module _ (s : State) (store : IsStore s) (expected : Expected) (ordered : IsOrde
   leaves_agree are = record {
     there = held_there are;
     others = held_beside are;
-    postings = empty_belongs postings_tree trees are.held.alone.alone.0;
-    dict = empty_belongs dict_tree trees are.held.alone.alone.1;
+    lacks = are.held.alone.alone;
   }
 
   module _ (listed : List ListedDatabase) (are : AreDatabases trees listed) (lists : ListsAgree trees expected) (rows : LeavesAgree trees databases) where
@@ -116,7 +116,7 @@ module _ (s : State) (store : IsStore s) (expected : Expected) (ordered : IsOrde
             let r = (of_id it.1).1.each it.2 has in
             (it.1, r.0, r.1, r.2, same ∙ ap (λ (x : Row). Int it.1 ∷ x) r.3);
         leaves = λ id. (of_id id).1.alone;
-        alone = (no_postings s store rows.postings, no_dict s store rows.dict);
+        alone = rows.lacks;
       };
     }
 

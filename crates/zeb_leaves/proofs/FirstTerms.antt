@@ -11,7 +11,7 @@ use Rattle.zeb_leaves.proofs.OwnLeaves.{FromKey, FromText, Stands, UpTo, all_own
 use Rattle.zeb_leaves.proofs.SpanEntries.{HasOwnIn, own_joined}
 use Rattle.zeb_leaves.proofs.SpanRuns.{below_or, flipped_back, from_term, less_up, term_from, up_itself}
 use Rattle.zeb_leaves.proofs.TermsTold.{lacks_hides}
-use Rattle.zeb_leaves.specs.PrivateNearTerms.{AreEnough, CountFirst, CountRows, CountUntil, HideFirst, HideRows, MeetNoText}
+use Rattle.zeb_leaves.specs.PrivateNearTerms.{AreEnough, CountRows, CountUntil, HideRows, MeetNoText}
 use Rattle.zeb_leaves.specs.PrivateTermReads.{AreLeavesFrom, ShowsOwn}
 use Rattle.zeb_register.proofs.CountLemmas.{comes_not, term_total}
 use Rattle.zeb_register.proofs.KeyOrder.{key_order}
@@ -252,14 +252,16 @@ module _ (trees : Trees) (at : RegisterOf) (start : List ℕ) (n : ℕ) (one : 1
         never : (t : List ℕ) (b : ℕ) → Until start 0 t b → ⊥
         never t b both = both.0 (flipped_back (leaf_key t b) (leaf_key start 0) both.1)
 
-    pub first_told : (rows : List Row) (new : List TermCount) → AreLeavesFrom These start rows → CountFirst n start rows new → Lists new
-    first_told [] new are none =
-        subst Lists (sym none) (end_listed [] [] (all_owns These shaped same_leaf start [] [] are refl) (none_counted (slice_cmp nat_cmp)) (omega arith))
-    first_told (row ∷ rows) new are counts = rows_told start 0 row rows [] [] new (all_stand These shaped same_leaf start row rows are) none_done counts
+    module _ (leaf : Row) (behind : List Row) (are : AreLeavesFrom These start (leaf ∷ behind)) where
+      pub first_told : (new : List TermCount) → CountRows n start 0 leaf behind [] new → Lists new
+      first_told new counts = rows_told start 0 leaf behind [] [] new (all_stand These shaped same_leaf start leaf behind are) none_done counts
 
-    pub first_hides : (rows : List Row) → AreLeavesFrom These start rows → HideFirst n start rows → Hides
-    first_hides [] are none = absurd none
-    first_hides (row ∷ rows) are bad = rows_hide start 0 row rows [] [] (all_stand These shaped same_leaf start row rows are) none_done (none_enough n one start) bad
+      pub first_hides : HideRows n start 0 leaf behind [] → Hides
+      first_hides bad = rows_hide start 0 leaf behind [] [] (all_stand These shaped same_leaf start leaf behind are) none_done (none_enough n one start) bad
+
+    -- the register has no leaf
+    pub none_first : ((leaf : Row) → ¬ These leaf) → Lists []
+    none_first none = end_listed [] [] (all_owns These shaped same_leaf start [] [] none refl) (none_counted (slice_cmp nat_cmp)) (omega arith)
 
   -- ---- no leaf covers the start
 

@@ -1,23 +1,22 @@
--- The statements that list the leaves from a text on, and those below it, with what they are compiled to.
+-- The statement that lists the leaves from a text on, with what it is compiled to.
 use Rattle.zeb_leaves.proofs.Cited.{Row, column, Trees, Int, Text, ◌≡◌, ◌++◌, ◌∷◌, ℕ, ℤ, pos, true, false, List, [], refl, sym, subst, arith, HasBlockFrom, IsRest, IsStore, State, Shown, blocks_tree, store_schema}
 use Rattle.std.specs.Ordering.{is_lt}
 use Rattle.sqlite.specs.Listing.{understood}
 use Rattle.sqlite.specs.Order.{value_cmp}
 use Rattle.sqlite_tied.specs.Compute.{everything}
-use Rattle.zeb_leaves.specs.declared.last_terms.TheConstants.{BELOW}
 use Rattle.zeb_leaves.specs.declared.rows_from.TheConstants.{FROM}
 use Rattle.zeb_leaves.proofs.LeafStatements.{leaf_names, leaf_places, term_order, two_lower}
 use Rattle.zeb_register.proofs.PostingStatements.{blocks, blocks_keys, blocks_static, register_of}
 use Rattle.zeb_register.proofs.PrefixSelects.{IsAfter, lists_after}
 use Rattle.zeb_register.proofs.Refusals.{IsQuery}
 use Rattle.zeb_register.proofs.Selects.{list_so}
-use Rattle.zeb_register.proofs.StatementForms.{Condition, at_least, keyed_from, less_than, no_limit, rising, shows}
+use Rattle.zeb_register.proofs.StatementForms.{Condition, at_least, keyed_from, no_limit, rising, shows}
 use Rattle.zeb_register.specs.Sql.{IsListOf}
 
 abbrev pub from_text : List ℕ
 from_text = FROM.now
 
-abbrev from_more : List Condition
+abbrev pub from_more : List Condition
 from_more = at_least 4 3 ∷ at_least 5 4 ∷ []
 
 abbrev from_rest : (first : List ℕ) → Row
@@ -28,7 +27,7 @@ pub from_query : (db idx reg : ℤ) (first : List ℕ)
 unfolding understood everything
 from_query db idx reg first = record { is = refl; plain = (refl, refl); unlisted = refl; silent = λ schema base. refl; whole = (omega arith, refl); fit = λ trees mistyped. absurd (let t : true ≡ false = mistyped in cc) }
 
-abbrev IsFromRow : ℤ → ℤ → ℤ → (first : List ℕ) → Trees → Row → Type 0
+abbrev pub IsFromRow : ℤ → ℤ → ℤ → (first : List ℕ) → Trees → Row → Type 0
 IsFromRow db idx reg first trees row = IsRest blocks_tree (register_of db idx reg) trees row × (is_lt (value_cmp (column row 0) (Text first)) ≡ false) × HasBlockFrom 0 row
 
 pub from_listed : (db idx reg : ℤ) (first : List ℕ) (old new : State) (rows : List Row) → IsStore old → Shown from_text (register_of db idx reg ++ from_rest first) old new rows
@@ -40,29 +39,3 @@ from_listed db idx reg first old new rows store shown =
     let got = lists_after store_schema 4 blocks blocks_static _ blocks_keys from_text front (from_rest first) from_more 3 term_order no_limit leaf_names q.is q.plain q.unlisted refl refl refl refl
     (λ r s lower. two_lower (value_cmp (column r 4) (column s 4)) (value_cmp (column r 5) (column s 5)) _ lower) old new rows store shown in
     list_so P (IsFromRow db idx reg first old.now.trees) rows (λ x. (λ h. ((h.0, h.1), h.2.0, h.2.1.0), λ h. (h.0.0, h.0.1, (h.1, (h.2, tt))))) (subst (IsListOf P) (sym got.2) got.1)
-
--- ---- those below it
-
-abbrev pub before_text : List ℕ
-before_text = BELOW.now
-
-abbrev before_more : List Condition
-before_more = less_than 4 3 ∷ at_least 5 4 ∷ []
-
-pub before_query : (db idx reg : ℤ) (start : List ℕ)
-    → IsQuery before_text (register_of db idx reg ++ from_rest start) 9 (keyed_from 1 0 3 ++ before_more) (shows leaf_places) (rising term_order) no_limit leaf_names
-unfolding understood everything
-before_query db idx reg start = record { is = refl; plain = (refl, refl); unlisted = refl; silent = λ schema base. refl; whole = (omega arith, refl); fit = λ trees mistyped. absurd (let t : true ≡ false = mistyped in cc) }
-
-abbrev IsBeforeRow : ℤ → ℤ → ℤ → (start : List ℕ) → Trees → Row → Type 0
-IsBeforeRow db idx reg start trees row = IsRest blocks_tree (register_of db idx reg) trees row × (is_lt (value_cmp (column row 0) (Text start)) ≡ true) × HasBlockFrom 0 row
-
-pub before_listed : (db idx reg : ℤ) (start : List ℕ) (old new : State) (rows : List Row) → IsStore old → Shown before_text (register_of db idx reg ++ from_rest start) old new rows
-    → IsListOf (IsBeforeRow db idx reg start old.now.trees) rows
-before_listed db idx reg start old new rows store shown =
-    let front = register_of db idx reg in
-    let P = IsAfter (old.now.trees 9) front (from_rest start) before_more in
-    let q = before_query db idx reg start in
-    let got = lists_after store_schema 4 blocks blocks_static _ blocks_keys before_text front (from_rest start) before_more 3 term_order no_limit leaf_names q.is q.plain q.unlisted refl refl refl refl
-    (λ r s lower. two_lower (value_cmp (column r 4) (column s 4)) (value_cmp (column r 5) (column s 5)) _ lower) old new rows store shown in
-    list_so P (IsBeforeRow db idx reg start old.now.trees) rows (λ x. (λ h. ((h.0, h.1), h.2.0, h.2.1.0), λ h. (h.0.0, h.0.1, (h.1, (h.2, tt))))) (subst (IsListOf P) (sym got.2) got.1)

@@ -1,8 +1,8 @@
 -- The leaves of a database that hold postings and nothing else take these in a walk over their rows.
-use Rattle.zeb_leaves.proofs.Cited.{Row, column, row_cmp, row_cmp_total, Int, Text, Has, all_has, has_either, has_left, has_right, ◌≡◌, ◌≢◌, ◌⊎◌, ◌∙◌, ◌≤◌, ◌/◌, ◌++◌, ◌∷◌, ℕ, zero, suc, pos, List, [], Option, Some, None, length, drop, refl, sym, ap, ap₂, subst, inl, inr, arith, Less, Greater, never_itself, same_list, joined_rises, in_part, not_empty, part_in, Key, key_in, register_code, Entry, Covers, SaysPart, ShowsEntries, leaf_bytes, leaf_key, own_key}
+use Rattle.zeb_leaves.proofs.Cited.{Row, column, row_cmp, row_cmp_total, Int, Text, Has, all_has, has_either, has_left, has_right, ◌≡◌, ◌≢◌, ◌⊎◌, ◌∙◌, ◌≤◌, ◌/◌, ◌++◌, ◌∷◌, ℕ, zero, suc, pos, List, [], Option, Some, None, length, drop, refl, sym, ap, ap₂, subst, inl, inr, arith, Less, Greater, never_itself, same_list, joined_rises, in_part, not_empty, part_in, key_in, register_code, Entry, Covers, SaysPart, ShowsEntries, leaf_bytes, leaf_key, own_key}
 use Rattle.std.specs.List.Sorted.{IsStrictlySortedBy}
 use Rattle.zeb_leaf.specs.declared.entries.TheConstants.{LEAF_BYTES}
-use Rattle.zeb_leaves.proofs.DatabaseRows.{IsBelow, beside_told, front_of, leaves_between, leaves_up, one_leaf_shown, rows_lie, shown_beside}
+use Rattle.zeb_leaves.proofs.DatabaseRows.{beside_told, front_of, leaves_between, leaves_up, one_leaf_shown, rows_lie, shown_beside}
 use Rattle.zeb_leaves.proofs.GatheredPostings.{IsOf, leaf_from, leaf_has, leaf_part, leaf_rises, leaf_takes, part_of, postings_lower}
 use Rattle.zeb_leaves.proofs.OneCover.{same_key}
 use Rattle.zeb_leaves.proofs.SpanRuns.{below_or, less_up}

@@ -16,7 +16,8 @@ use Rattle.zeb_leaves.proofs.SpanRuns.{up_itself}
 use Rattle.zeb_leaves.proofs.TermEntries.{HasOwn, own_summed}
 use Rattle.zeb_leaves.proofs.OneLeaf.{one_leaf}
 use Rattle.zeb_leaves.proofs.OneCover.{covers_itself}
-use Rattle.zeb_leaves.specs.KeyReads.{ListsLeaves}
+use Rattle.zeb_register.specs.Units.{ListsUnits}
+use Rattle.zeb_register.specs.Formats.{packed_leaves}
 use Rattle.zeb_leaves.specs.PrivateSaid.{SayAll, SaysBlock, SaysNoBlock, SomeSaysNone}
 use Rattle.zeb_leaves.specs.PrivateSpans.{AreSpanLeaves, ShowAllSpans, ShowsSpan, SomeShowsNoKey}
 use Rattle.zeb_register.specs.Answers.{Answers, IfDamaged, IfRefused}
@@ -122,7 +123,7 @@ module _ (s : State) (store : IsStore s) (db : ℤ) (key : Key) where
       }
 
       pub answers_listed : (new : State) (result : Result (Vec Posting Global) RegFault) → Answers (λ fault. (fault ≢ Store) × IfDamaged (SomeSaysNone held) fault) (λ list. SayAll held list.items) result
-          → Answers (IfRefused s new (HasMalformedLeaf s.now.trees db key)) (λ list. ListsLeaves s.now.trees db key list.items) result
+          → Answers (IfRefused s new (HasMalformedLeaf s.now.trees db key)) (λ list. ListsUnits packed_leaves s.now.trees db key list.items) result
       answers_listed new (Ok list) say = list_of_parts s.now.trees db key it.own has list.items (said_of_held it.own held list.items it.are say)
       answers_listed new (Err fault) told = (
         λ damaged. let bad = unsaid Here held it (λ t b is. only key.term t is) (told.1 damaged) in (bad.0, bad.2),

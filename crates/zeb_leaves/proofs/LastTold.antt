@@ -1,10 +1,10 @@
 -- What a call that lists the last terms below a text answers, by the leaves that it found.
-use Rattle.zeb_leaves.proofs.Cited.{Row, column, row_cmp, Has, all_from, all_has, Text, ◌≡◌, ◌≢◌, ◌≤◌, ◌∙◌, ℕ, true, false, nat_eq, List, [], ◌∷◌, length, Ok, Err, Result, refl, sym, ap, subst, inl, inr, arith, Less, nat_list_cmp_total, never_itself, value_cmp-Text, State, TermCount, IsLeafIn, IsStore, leaf_key, own_key}
+use Rattle.zeb_leaves.proofs.Cited.{Row, column, row_cmp, Has, all_from, all_has, Text, ◌≡◌, ◌≢◌, ◌≤◌, ◌∙◌, ◌++◌, ℕ, true, false, nat_eq, List, [], ◌∷◌, length, Ok, Err, Option, Some, None, Result, refl, sym, ap, subst, inl, inr, arith, Less, nat_list_cmp_total, never_itself, value_cmp-Text, State, TermCount, IsLeafIn, IsStore, leaf_key, own_key}
 use Rattle.std.proofs.Common.{reverse}
 use Rattle.std.proofs.lemmas.Bool.{eqb-true}
 use Rattle.std.specs.List.Sorted.{IsStrictlySortedBy}
 use Rattle.std.specs.Ordering.{is_lt}
-use Rattle.std.specs.Prelude.{Vec}
+use Rattle.std.specs.Prelude.{IfSome, Vec}
 use Rattle.std.specs.declared.alloc.Global.{Global}
 use Rattle.sqlite.specs.Effect.{Database}
 use Rattle.sqlite.specs.Order.{value_cmp}
@@ -16,13 +16,15 @@ use Rattle.zeb_leaves.proofs.OneLeaf.{one_leaf}
 use Rattle.zeb_leaves.proofs.OwnLeaves.{key_behind}
 use Rattle.zeb_leaves.proofs.TermsTold.{from_least}
 use Rattle.zeb_leaves.specs.PrivateLeafReads.{IsOfTermsBelow}
+use Rattle.zeb_leaves.specs.PrivateNearCalls.{HidesBeside, IsSide, ListsBeside}
 use Rattle.zeb_leaves.specs.PrivateNearTerms.{CountBelow, HideBelow}
+use Rattle.zeb_leaves.specs.declared.near_terms.Side.TheVariants.{Below}
 use Rattle.zeb_register.proofs.RisingLists.{flipped_total, has_reversed, reversed_rises}
 use Rattle.zeb_register.specs.Answers.{Answers, IfDamaged, IfRefused}
 use Rattle.zeb_register.specs.Calls.{MayRefuse}
 use Rattle.zeb_register.specs.Formats.{packed_leaves}
 use Rattle.zeb_register.specs.Sql.{IsListOf}
-use Rattle.zeb_register.specs.Terms.{Comes, HidesBefore, ListsBefore}
+use Rattle.zeb_register.specs.Terms.{Comes, ListsBefore}
 use Rattle.zeb_register.specs.declared.faults.RegFault.{RegFault}
 use Rattle.zeb_register.specs.declared.faults.RegFault.TheVariants.{Store}
 use Rattle.zeb_register.specs.declared.registers.RegisterOf.{RegisterOf}
@@ -37,6 +39,10 @@ some_there xs n is isnt same = let zero : n ≡ 0 = is ∙ ap length same in let
 pub none_there : {X : Type 0} (xs : List X) (n : ℕ) → n ≡ length xs → nat_eq n 0 ≡ true → xs ≡ []
 none_there [] n is yes' = refl
 none_there (x ∷ xs) n is yes' = absurd (omega (arith, is, eqb-true n 0 yes'))
+
+pub more_there : {X : Type 0} (xs ys : List X) → xs ≢ [] → xs ++ ys ≢ []
+more_there [] ys some same = some refl
+more_there (x ∷ xs) ys some same = cc
 
 pub least_before : (start : List ℕ) → start ≢ [] → Comes [] start
 least_before [] some = absurd (some refl)
@@ -82,32 +88,38 @@ module _ (s : State) (store : IsStore s) (at : RegisterOf) where
       fall = reversed_rises (flipped_total keys_total) rising (keys_rise rising are.rising (λ r h. (leaf_of r h).0));
     }
 
-    module _ (least : Comes [] start) (rows : List Row) (is : rows ≡ reverse rising) where
-      stands : Stands rows
-      stands = subst Stands (sym is) below_stands
+    module _ (rows : List Row) (is : reverse rising ≡ rows) (new : State) where
+      abbrev on : Type 0
+      on = IsSide at start n Below s.now.trees
 
-      pub answers_last : rows ≢ [] → (new : State) (result : Result (Vec TermCount Global) RegFault)
-          → Answers (λ fault. (fault ≢ Store) × IfDamaged (HideBelow n start 0 rows []) fault) (λ list. (counts : List TermCount) × CountBelow n start 0 rows [] counts × (list.items ≡ reverse counts)) result
-          → Answers (IfRefused s new (HidesBefore packed_leaves s.now.trees at.db.0 at.index at.register start n)) (λ list. ListsBefore packed_leaves s.now.trees at.db.0 at.index at.register start n list.items) result
-      answers_last some new (Ok list) told =
+      stands : Stands rows
+      stands = subst Stands is below_stands
+
+      pub answers_last : rows ≢ [] → (result : Result (Option (Vec TermCount Global)) RegFault)
+          → Answers (λ fault. (fault ≢ Store) × IfDamaged (HideBelow n start 0 rows []) fault) (λ found. IfSome found (λ list. (counts : List TermCount) × CountBelow n start 0 rows [] counts × (list.items ≡ reverse counts))) result
+          → Answers (IfRefused s new (on → HidesBeside at start n Below s.now.trees)) (λ found. IfSome found (λ list. on → ListsBeside at start n Below s.now.trees list.items)) result
+      answers_last some (Ok None) told = tt
+      answers_last some (Ok (Some list)) told = λ below.
           subst (ListsBefore packed_leaves s.now.trees at.db.0 at.index at.register start n) (sym told.2)
           (last_told s.now.trees at start n one (leaf_shape s store at.db.0 at.index at.register) (one_leaf s store at.db.0 at.index at.register) rows told.0 stands told.1)
-      answers_last some new (Err fault) told = (
-        λ damaged.
+      answers_last some (Err fault) told = (
+        λ damaged below.
             let first = first_of rows some in
-            last_hides s.now.trees at start n one (leaf_shape s store at.db.0 at.index at.register) (one_leaf s store at.db.0 at.index at.register) first.0 ((stands.known first.0 first.1).0) least rows stands (told.1 damaged),
+            last_hides s.now.trees at start n one (leaf_shape s store at.db.0 at.index at.register) (one_leaf s store at.db.0 at.index at.register) first.0 ((stands.known first.0 first.1).0) (least_before start below) rows stands (told.1 damaged),
         λ failed. absurd (told.0 failed),
       )
 
-      pub answers_leafless : rows ≡ [] → (d : Database) → d ≡ s.now → (new : State) (result : Result (Vec TermCount Global) RegFault)
-          → Answers (IfDamaged ((leaf : Row) × IsLeafIn d.trees at leaf)) (λ list. (list.items ≡ []) × ((leaf : Row) → ¬ IsLeafIn d.trees at leaf)) result → (result ≡ Err Store → MayRefuse s new)
-          → Answers (IfRefused s new (HidesBefore packed_leaves s.now.trees at.db.0 at.index at.register start n)) (λ list. ListsBefore packed_leaves s.now.trees at.db.0 at.index at.register start n list.items) result
-      answers_leafless none d same new (Ok list) told reason =
+      pub answers_leafless : rows ≡ [] → (d : Database) → d ≡ s.now → (result : Result (Option (Vec TermCount Global)) RegFault)
+          → Answers (IfDamaged ((leaf : Row) × IsLeafIn d.trees at leaf)) (λ found. IfSome found (λ list. list.items ≡ []) × ((leaf : Row) → ¬ IsLeafIn d.trees at leaf)) result → (result ≡ Err Store → MayRefuse s new)
+          → Answers (IfRefused s new (on → HidesBeside at start n Below s.now.trees)) (λ found. IfSome found (λ list. on → ListsBeside at start n Below s.now.trees list.items)) result
+      answers_leafless none d same (Ok None) told reason = tt
+      answers_leafless none d same (Ok (Some list)) told reason = λ below.
           subst (ListsBefore packed_leaves s.now.trees at.db.0 at.index at.register start n) (sym told.0)
           (leafless s.now.trees at start n one (subst (λ (x : Database). (leaf : Row) → ¬ IsLeafIn x.trees at leaf) same told.1))
-      answers_leafless none d same new (Err fault) told reason = (
-        λ damaged.
+      answers_leafless none d same (Err fault) told reason = (
+        λ damaged below.
             let it = subst (λ (x : Database). (leaf : Row) × IsLeafIn x.trees at leaf) same (told damaged) in
+            let least = least_before start below in
             last_hides s.now.trees at start n one (leaf_shape s store at.db.0 at.index at.register) (one_leaf s store at.db.0 at.index at.register) it.0 it.1 least [] (subst Stands none stands)
             (λ both. never_itself nat_list_cmp_total [] (subst (Comes []) both.0 least)),
         λ failed. reason (ap Err failed),

@@ -31,7 +31,7 @@ leaf_places = 4 ∷ 5 ∷ 6 ∷ []
 abbrev pub leaf_names : List (List ℕ)
 leaf_names = codes "term" ∷ codes "block" ∷ codes "data" ∷ []
 
-abbrev falling_keys : List (Term × Order)
+abbrev pub falling_keys : List (Term × Order)
 falling_keys = (col 1 4, descending) ∷ (col 1 5, descending) ∷ []
 
 abbrev pub term_order : List ℕ
@@ -47,7 +47,7 @@ module _ (old : State) (store : IsStore old) where
   abbrev table : List Row
   table = old.now.trees 9
 
-  known : (r : Row) → Has table r → (is_int (rowid r) ≡ true) × (length r ≡ 7)
+  pub known : (r : Row) → Has table r → (is_int (rowid r) ≡ true) × (length r ≡ 7)
   known r here = (
     all_has _ table r (keyed_there store_schema 4 blocks blocks_static old store).1 here,
     sym (length-map r code) ∙ ap length (codes_there store_schema 4 blocks blocks_static old r store here),
@@ -153,7 +153,7 @@ of_term_shown old store db idx reg term end new rows shown =
 abbrev pub below_text : List ℕ
 below_text = OF_TERMS_BELOW.now
 
-abbrev below_more : List Condition
+abbrev pub below_more : List Condition
 below_more = less_than 4 3 ∷ at_least 5 4 ∷ []
 
 abbrev below_rest : List ℕ → Row
@@ -163,7 +163,7 @@ pub below_query : (db idx reg : ℤ) (term : List ℕ) → IsQuery below_text (r
 unfolding understood everything
 below_query db idx reg term = record { is = refl; plain = (refl, refl); unlisted = refl; silent = λ schema base. refl; whole = (omega arith, refl); fit = λ trees mistyped. absurd (let t : true ≡ false = mistyped in cc) }
 
-abbrev IsUnder : ℤ → ℤ → ℤ → List ℕ → Trees → Row → Type 0
+abbrev pub IsUnder : ℤ → ℤ → ℤ → List ℕ → Trees → Row → Type 0
 IsUnder db idx reg term trees row = IsRest blocks_tree (register_of db idx reg) trees row × (is_lt (value_cmp (column row 0) (Text term)) ≡ true) × HasBlockFrom 0 row
 
 pub below_shown : (old : State) → IsStore old → (db idx reg : ℤ) (term : List ℕ) (new : State) (rows : List Row) → Shown below_text (register_of db idx reg ++ below_rest term) old new rows

@@ -23,6 +23,8 @@ pub mod WrittenLeaves
 pub mod MergedSayings
 pub mod PutEntries
 pub mod FromStatements
+pub mod FallingRows
+pub mod NearStatements
 pub mod OwnLeaves
 pub mod CountedTerms
 pub mod TermsTold
@@ -32,6 +34,7 @@ pub mod NearTerms
 pub mod FirstTerms
 pub mod FallingKeys
 pub mod LastTerms
+pub mod NearTurns
 pub mod NearTold
 pub mod LastTold
 pub mod SpotsSaid
@@ -51,6 +54,7 @@ pub mod OwnedEntries
 pub mod FrontPieces
 pub mod PiecesLeft
 pub mod TurningCalls
+pub mod OneKey
 pub mod DatabaseRows
 pub mod WalkedLeaves
 pub mod WalkedHold
@@ -60,3 +64,5 @@ pub mod AgreeingEnds
 pub mod WalkCalls
 pub mod OwnKeys
 pub mod ExpectedLeaves
+pub mod OpenCalls
+pub mod LeavesOfIds

@@ -1,13 +1,17 @@
 -- How entries and rows are counted until there are enough terms, one by one.
-use Rattle.zeb_leaves.proofs.Cited.{Row, ◌≡◌, ◌∙◌, ◌+◌, ◌<◌, ◌∷◌, ℕ, true, List, Some, drop, length, refl, sym, ap, subst, inl, inr, Entry, TermCount}
+use Rattle.zeb_leaves.proofs.Cited.{Row, ◌≡◌, ◌∙◌, ◌+◌, ◌<◌, ◌≤◌, ◌++◌, ◌∷◌, ℕ, true, List, Some, [], drop, length, refl, sym, ap, subst, inl, inr, Entry, TermCount}
 use Rattle.std.proofs.Common.{Bool, get_or}
-use Rattle.std.proofs.lemmas.List.{drop_more}
+use Rattle.std.proofs.lemmas.List.{drop_all, drop_more}
 use Rattle.zeb_leaves.specs.PrivateNearTerms.{AreEnough, CountBelow, CountRows, CountUntil, GoesDown, GoesPast, HideBelow, HideRows, HidesDown, HidesRow, MeetNoText, StopsAt, StopsDown}
 use Rattle.zeb_leaves.specs.PrivateSpans.{ShowsKey}
 use Rattle.zeb_leaves.specs.PrivateTermReads.{CountsIn, IsNoText}
 
 standing : {X : Type 0} (xs : List X) (i : ℕ) (x : X) → i < length xs → x ≡ get_or xs i x → drop i xs ≡ x ∷ drop (i + 1) xs
 standing xs i x within is = drop_more xs i x within ∙ ap (λ r. r ∷ drop (i + 1) xs) (sym is)
+
+-- behind the last of all rows none is left
+pub left : (rows rest : List Row) (i : ℕ) → length rows ≤ i → rest ≡ [] → drop i rows ++ rest ≡ []
+left rows rest i past none = ap (λ (l : List Row). l ++ rest) (drop_all i rows past) ∙ none
 
 module _ (n : ℕ) where
   module _ (own : List Entry) (i : ℕ) (e : Entry) (within : i < length own) (is : e ≡ get_or own i e) (old : List TermCount) where
@@ -27,44 +31,44 @@ module _ (n : ℕ) where
       pub no_text_later : MeetNoText n (drop (i + 1) own) mid → MeetNoText n (drop i own) old
       no_text_later more = subst (λ (l : List Entry). MeetNoText n l old) (sym here) (less, inr (mid, counts, more))
 
-  module _ (first : List ℕ) (from : ℕ) (row next : Row) (rows : List Row) (i : ℕ) (within : i < length rows) (is : next ≡ get_or rows i next) (old : List TermCount) where
-    next_row : drop i rows ≡ next ∷ drop (i + 1) rows
-    next_row = standing rows i next within is
+  module _ (first : List ℕ) (from : ℕ) (row next : Row) (rows rest : List Row) (i : ℕ) (within : i < length rows) (is : next ≡ get_or rows i next) (old : List TermCount) where
+    next_row : drop i rows ++ rest ≡ next ∷ (drop (i + 1) rows ++ rest)
+    next_row = ap (λ (l : List Row). l ++ rest) (standing rows i next within is)
 
-    pub keyless_row : ((term : List ℕ) (block : ℕ) → ¬ ShowsKey next term block) → HideRows n first from row (drop i rows) old
+    pub keyless_row : ((term : List ℕ) (block : ℕ) → ¬ ShowsKey next term block) → HideRows n first from row (drop i rows ++ rest) old
     keyless_row none = subst (λ (l : List Row). HideRows n first from row l old) (sym next_row) (inl none)
 
     module _ (term : List ℕ) (block : ℕ) (key : ShowsKey next term block) where
-      pub stop_row : (new : List TermCount) → StopsAt n first from term block row old new → CountRows n first from row (drop i rows) old new
+      pub stop_row : (new : List TermCount) → StopsAt n first from term block row old new → CountRows n first from row (drop i rows ++ rest) old new
       stop_row new stops = subst (λ (l : List Row). CountRows n first from row l old new) (sym next_row) (term, block, key, inl stops)
 
-      pub hidden_row : HidesRow n first from (Some (term, block)) row old → HideRows n first from row (drop i rows) old
+      pub hidden_row : HidesRow n first from (Some (term, block)) row old → HideRows n first from row (drop i rows ++ rest) old
       hidden_row bad = subst (λ (l : List Row). HideRows n first from row l old) (sym next_row) (inr (term, block, key, inl bad))
 
       module _ (mid : List TermCount) (goes : GoesPast n first from term block row old mid) where
-        pub past_row : (new : List TermCount) → CountRows n term block next (drop (i + 1) rows) mid new → CountRows n first from row (drop i rows) old new
+        pub past_row : (new : List TermCount) → CountRows n term block next (drop (i + 1) rows ++ rest) mid new → CountRows n first from row (drop i rows ++ rest) old new
         past_row new more = subst (λ (l : List Row). CountRows n first from row l old new) (sym next_row) (term, block, key, inr (mid, goes, more))
 
-        pub hidden_past : HideRows n term block next (drop (i + 1) rows) mid → HideRows n first from row (drop i rows) old
+        pub hidden_past : HideRows n term block next (drop (i + 1) rows ++ rest) mid → HideRows n first from row (drop i rows ++ rest) old
         hidden_past bad = subst (λ (l : List Row). HideRows n first from row l old) (sym next_row) (inr (term, block, key, inr (mid, goes, bad)))
 
-  module _ (end : List ℕ) (below : ℕ) (row : Row) (rows : List Row) (i : ℕ) (within : i < length rows) (is : row ≡ get_or rows i row) (old : List TermCount) where
-    this_row : drop i rows ≡ row ∷ drop (i + 1) rows
-    this_row = standing rows i row within is
+  module _ (end : List ℕ) (below : ℕ) (row : Row) (rows rest : List Row) (i : ℕ) (within : i < length rows) (is : row ≡ get_or rows i row) (old : List TermCount) where
+    this_row : drop i rows ++ rest ≡ row ∷ (drop (i + 1) rows ++ rest)
+    this_row = ap (λ (l : List Row). l ++ rest) (standing rows i row within is)
 
-    pub keyless_below : ((term : List ℕ) (block : ℕ) → ¬ ShowsKey row term block) → HideBelow n end below (drop i rows) old
+    pub keyless_below : ((term : List ℕ) (block : ℕ) → ¬ ShowsKey row term block) → HideBelow n end below (drop i rows ++ rest) old
     keyless_below none = subst (λ (l : List Row). HideBelow n end below l old) (sym this_row) (inl none)
 
     module _ (term : List ℕ) (block : ℕ) (key : ShowsKey row term block) where
-      pub stop_below : (new : List TermCount) → StopsDown n end below term block row old new → CountBelow n end below (drop i rows) old new
+      pub stop_below : (new : List TermCount) → StopsDown n end below term block row old new → CountBelow n end below (drop i rows ++ rest) old new
       stop_below new stops = subst (λ (l : List Row). CountBelow n end below l old new) (sym this_row) (term, block, key, inl stops)
 
-      pub hidden_here : HidesDown n end below term block row old → HideBelow n end below (drop i rows) old
+      pub hidden_here : HidesDown n end below term block row old → HideBelow n end below (drop i rows ++ rest) old
       hidden_here bad = subst (λ (l : List Row). HideBelow n end below l old) (sym this_row) (inr (term, block, key, inl bad))
 
       module _ (mid : List TermCount) (goes : GoesDown n end below term block row old mid) where
-        pub down_past : (new : List TermCount) → CountBelow n term block (drop (i + 1) rows) mid new → CountBelow n end below (drop i rows) old new
+        pub down_past : (new : List TermCount) → CountBelow n term block (drop (i + 1) rows ++ rest) mid new → CountBelow n end below (drop i rows ++ rest) old new
         down_past new more = subst (λ (l : List Row). CountBelow n end below l old new) (sym this_row) (term, block, key, inr (mid, goes, more))
 
-        pub hidden_further : HideBelow n term block (drop (i + 1) rows) mid → HideBelow n end below (drop i rows) old
+        pub hidden_further : HideBelow n term block (drop (i + 1) rows ++ rest) mid → HideBelow n end below (drop i rows ++ rest) old
         hidden_further bad = subst (λ (l : List Row). HideBelow n end below l old) (sym this_row) (inr (term, block, key, inr (mid, goes, bad)))

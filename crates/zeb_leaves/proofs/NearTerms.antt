@@ -13,12 +13,11 @@ use Rattle.zeb_leaves.proofs.TermEntries.{own_summed}
 use Rattle.zeb_leaves.proofs.TermsTold.{Own, lists_counted, text_hides}
 use Rattle.zeb_leaves.specs.PrivateNearTerms.{AreEnough, CountUntil, MeetNoText}
 use Rattle.zeb_leaves.specs.PrivateTermReads.{CountsIn}
-use Rattle.zeb_leaves.specs.TermReads.{ListsLeafCounts}
 use Rattle.zeb_register.proofs.KeyLists.{one_number}
 use Rattle.zeb_register.proofs.RisingLists.{before_last, front_rises}
 use Rattle.zeb_register.specs.Formats.{packed_leaves}
 use Rattle.zeb_register.specs.Occurring.{term_cmp}
-use Rattle.zeb_register.specs.Terms.{HidesCount, HidesNearest, IsNearest, ListsNearest}
+use Rattle.zeb_register.specs.Terms.{HidesCount, HidesNearest, IsNearest, ListsCounts, ListsNearest}
 use Rattle.zeb_register.specs.declared.registers.RegisterOf.{RegisterOf}
 
 module _ (trees : Trees) (at : RegisterOf) where
@@ -71,9 +70,9 @@ module _ (trees : Trees) (at : RegisterOf) where
     -- of the keys that are In the entries are counted, and each that is asked for is one
     pub listed : (In : List ℕ → ℕ → Type 0) (own : List Entry) (counts : List TermCount) → HasOwnIn Leaves In own → Counted own counts → length counts ≤ n
         → ((t : List ℕ) (b : ℕ) → In t b → IsOn t) → ((t : List ℕ) → Asked counts t → (b : ℕ) → In t b) → Lists counts
-    listed In own counts has counted fits on full = record { few = fits; are = record { rising = lists.rising; each = lists.each; others = lists.others } }
+    listed In own counts has counted fits on full = record { few = fits; are = lists }
       where
-        lists : ListsLeafCounts trees at.db.0 at.index at.register (Asked counts) counts
+        lists : ListsCounts packed_leaves trees at.db.0 at.index at.register (Asked counts) counts
         lists = lists_counted trees at In own has counts counted (Asked counts)
             (λ t h. let e = counted.some t h in (subst IsOn e.2 (on e.0.term e.0.block ((has.each e.0).0 e.1).0), inr (t, h, never_own t.term))) full
 

@@ -4,7 +4,8 @@ use Rattle.std.specs.List.Sorted.{IsStrictlySortedBy}
 use Rattle.zeb_register.proofs.LeafReadings.{one_said, one_shown}
 use Rattle.zeb_register.proofs.LeafSums.{leaf_there, one_entry}
 use Rattle.zeb_leaves.proofs.TermEntries.{HasOwn}
-use Rattle.zeb_leaves.specs.KeyReads.{ListsLeaves}
+use Rattle.zeb_register.specs.Units.{ListsUnits}
+use Rattle.zeb_register.specs.Formats.{packed_leaves}
 use Rattle.zeb_register.proofs.PackedLists.{posting_lower}
 
 -- entries say these postings, one behind the other
@@ -105,7 +106,7 @@ module _ (Leaves : Row → Type 0) (term : List ℕ) (In : ℕ → Type 0) (own 
 -- ---- the postings that a call puts together
 
 -- what the entries of a key say is what its units say
-pub list_of_parts : (trees : Trees) (db : ℤ) (key : Key) (own : List Entry) → HasOwn (IsLeafOf trees db key) key.term (λ b. 0 ≤ b) own → (list : List Posting) → SayParts own list → ListsLeaves trees db key list
+pub list_of_parts : (trees : Trees) (db : ℤ) (key : Key) (own : List Entry) → HasOwn (IsLeafOf trees db key) key.term (λ b. 0 ≤ b) own → (list : List Posting) → SayParts own list → ListsUnits packed_leaves trees db key list
 list_of_parts trees db key own has list parts =
     let reads : (block : ℕ) → LeavesReadBlock trees db key block (part_in block list) = λ block. block_reads (IsLeafOf trees db key) key.term (λ b. 0 ≤ b) own has list parts block (omega arith) in
     record {

@@ -14,7 +14,8 @@ use Rattle.zeb_leaves.proofs.SpanLists.{span_listed, span_unsaid}
 use Rattle.zeb_leaves.proofs.SpanRuns.{last_up}
 use Rattle.zeb_leaves.proofs.OneLeaf.{one_leaf}
 use Rattle.zeb_leaves.proofs.OneCover.{covers_itself}
-use Rattle.zeb_leaves.specs.KeyReads.{HasMalformedLeafBetween, ListsLeavesBetween}
+use Rattle.zeb_register.specs.Units.{HasMalformedBetween, ListsBetween}
+use Rattle.zeb_register.specs.Formats.{packed_leaves}
 use Rattle.zeb_leaves.specs.PrivateSaid.{SayAll, SomeSaysNone}
 use Rattle.zeb_leaves.specs.PrivateSpans.{AreSpanLeaves, IsRowBetween, IsSpanLeaf, ShowAllSpans, ShowSpans, ShowsKey, ShowsSpan, SomeShowsNoKey}
 use Rattle.zeb_register.proofs.BetweenLemmas.{up_to}
@@ -92,21 +93,21 @@ module _ (s : State) (store : IsStore s) (at : RegisterOf) where
   answers_span first end leaf covers d same (Err fault) told honest = λ damaged. absurd (honest (ap Err damaged))
 
   -- no leaf covers the first text's first block
-  pub uncovered_between : (first last : List ℕ) → IsBetween first last first → IsUncovered (IsLeafIn s.now.trees at) (leaf_key first 0) → HasMalformedLeafBetween s.now.trees at first last
+  pub uncovered_between : (first last : List ℕ) → IsBetween first last first → IsUncovered (IsLeafIn s.now.trees at) (leaf_key first 0) → HasMalformedBetween packed_leaves s.now.trees at first last
   uncovered_between first last known none = (first, known, (0, inl (inr none)))
 
   module _ (first last : List ℕ) (known : IsBetween first last first) (rows : List Row) (are : AreSpanLeaves (IsLeafIn s.now.trees at) first last rows) where
     -- a row that shows no entries is a leaf that covers a block of one of the terms
-    pub unshown_between : SomeShowsNoKey rows → HasMalformedLeafBetween s.now.trees at first last
+    pub unshown_between : SomeShowsNoKey rows → HasMalformedBetween packed_leaves s.now.trees at first last
     unshown_between bad = by rows are bad.1
       where
-        at_key : (t : List ℕ) (b : ℕ) → IsBetween first last t → Covers (IsLeafIn s.now.trees at) (leaf_key t b) bad.0 → HasMalformedLeafBetween s.now.trees at first last
+        at_key : (t : List ℕ) (b : ℕ) → IsBetween first last t → Covers (IsLeafIn s.now.trees at) (leaf_key t b) bad.0 → HasMalformedBetween packed_leaves s.now.trees at first last
         at_key t b between covers = elim bad.2 [
           | inl none ↦ (t, between, (b, inl (inl (bad.0, covers, none))))
           | inr none ↦ let it = leaf_shape s store at.db.0 at.index at.register bad.0 covers.is in absurd (none it.0 it.1 (ap own_key it.3))
         ]
 
-        by : (rows : List Row) → AreSpanLeaves (IsLeafIn s.now.trees at) first last rows → Has rows bad.0 → HasMalformedLeafBetween s.now.trees at first last
+        by : (rows : List Row) → AreSpanLeaves (IsLeafIn s.now.trees at) first last rows → Has rows bad.0 → HasMalformedBetween packed_leaves s.now.trees at first last
         by [] none here = absurd here
         by (row ∷ rows) are (inl same) = at_key first 0 known (subst (Covers (IsLeafIn s.now.trees at) (leaf_key first 0)) (sym same) are.0)
         by (row ∷ rows) are (inr later) =
@@ -118,13 +119,13 @@ module _ (s : State) (store : IsStore s) (at : RegisterOf) where
       has = all_spans (IsLeafIn s.now.trees at) (leaf_shape s store at.db.0 at.index at.register) (one_leaf s store at.db.0 at.index at.register) first last known rows held are shows
 
       pub answers_between : (new : State) (result : Result (Vec Posting Global) RegFault) → Answers (λ fault. (fault ≢ Store) × IfDamaged (SomeSaysNone held) fault) (λ list. SayAll held list.items) result
-          → Answers (IfRefused s new (HasMalformedLeafBetween s.now.trees at first last)) (λ list. ListsLeavesBetween s.now.trees at first last list.items) result
+          → Answers (IfRefused s new (HasMalformedBetween packed_leaves s.now.trees at first last)) (λ list. ListsBetween packed_leaves s.now.trees at first last list.items) result
       answers_between new (Ok list) say = span_listed s.now.trees at first last held has list.items say
       answers_between new (Err fault) told = (λ damaged. span_unsaid s.now.trees at first last held has (told.1 damaged), λ failed. absurd (told.0 failed))
 
   -- where the last text is below the first one, no term stands between
   pub answers_none : (first last : List ℕ) → is_lt (slice_cmp nat_cmp last first) ≡ true → (new : State) (result : Result (Vec Posting Global) RegFault) → IfOk result (λ list. list.items ≡ []) → result ≢ Err Damaged → (result ≡ Err Store → MayRefuse s new)
-      → Answers (IfRefused s new (HasMalformedLeafBetween s.now.trees at first last)) (λ list. ListsLeavesBetween s.now.trees at first last list.items) result
+      → Answers (IfRefused s new (HasMalformedBetween packed_leaves s.now.trees at first last)) (λ list. ListsBetween packed_leaves s.now.trees at first last list.items) result
   answers_none first last falls new (Ok list) none honest reasoned = record {
     lists = λ t. [];
     units = λ t between. absurd (never_between first last t falls between);

@@ -9,7 +9,8 @@ use Rattle.zeb_register.proofs.LeafReadings.{entries_total}
 use Rattle.zeb_leaves.proofs.SaidLists.{SayParts, list_of_parts, part_of, posting_in, posting_of}
 use Rattle.zeb_leaves.proofs.SpanEntries.{AreHeld, HasOwnIn, HeldIn}
 use Rattle.zeb_leaves.proofs.TermEntries.{HasOwn}
-use Rattle.zeb_leaves.specs.KeyReads.{HasMalformedLeafBetween, ListsLeavesBetween}
+use Rattle.zeb_register.specs.Units.{HasMalformedBetween, ListsBetween}
+use Rattle.zeb_register.specs.Formats.{packed_leaves}
 use Rattle.zeb_leaves.specs.PrivateSaid.{SayAll, SomeSaysNone}
 use Rattle.zeb_register.proofs.RowLemmas.{same_bytes}
 use Rattle.zeb_register.specs.Between.{IsBetween}
@@ -100,7 +101,7 @@ module _ (trees : Trees) (at : RegisterOf) (first last : List ℕ) (held : List 
         let found = posting_of (its of.0 it.own) (said of.0).0 (said of.0).1 p of.2 in
         posting_in it.own list parts found.0 found.1 ((its_has of.0 it.own found.0).0 found.2).0 found.3 p found.4
 
-    pub span_listed : ListsLeavesBetween trees at first last list
+    pub span_listed : ListsBetween packed_leaves trees at first last list
     span_listed = record {
       lists = λ term. (said term).0;
       units = λ term between. list_of_parts trees at.db.0 (key term) (its term it.own) (own_of_term term between) (said term).0 (said term).1;
@@ -108,7 +109,7 @@ module _ (trees : Trees) (at : RegisterOf) (first last : List ℕ) (held : List 
     }
 
   -- where one of them says nothing, its block is malformed
-  pub span_unsaid : SomeSaysNone held → HasMalformedLeafBetween trees at first last
+  pub span_unsaid : SomeSaysNone held → HasMalformedBetween packed_leaves trees at first last
   span_unsaid bad =
       let found = entry_held it.own held it.are bad.0 bad.1 in
       let e = found.0 in

@@ -11,9 +11,10 @@ use Rattle.zeb_leaves.proofs.SpanEntries.{HasOwnIn}
 use Rattle.zeb_leaves.proofs.SpanLists.{all_parts, its, its_has, own_term}
 use Rattle.zeb_leaves.proofs.TermsTold.{Own, all_listed, all_own, entry_counts, from_least, hidden_term, lacks_hides, some_hidden}
 use Rattle.zeb_leaves.proofs.OwnLeaves.{FromText, IsHidden}
-use Rattle.zeb_leaves.specs.KeyReads.{ListsLeaves}
+use Rattle.zeb_register.specs.Units.{ListsUnits}
+use Rattle.zeb_register.specs.Formats.{packed_leaves}
 use Rattle.zeb_leaves.specs.PrivateTermReads.{AreLeavesFrom, CountAll, HideAllOwns, IsNoText, SayMany, SaysNone, ShowAllOwns}
-use Rattle.zeb_leaves.specs.TermReads.{HidesLeafSums, ListsAllLeaves, SumsUpLeaves}
+use Rattle.zeb_register.specs.Terms.{HidesSums, ListsAll, SumsUp}
 use Rattle.zeb_register.proofs.KeyPlaces.{placed_at}
 use Rattle.zeb_register.proofs.OccurringLemmas.{spot_total}
 use Rattle.zeb_register.proofs.PackedLists.{posting_lower}
@@ -116,10 +117,10 @@ many_taken entries i e many part within is say says =
 
 module _ (trees : Trees) (at : RegisterOf) where
   -- an entry that says nothing is of a malformed block, and its term has records
-  none_hides : (e : Entry) → IsEntryOf (Own trees at) e.term e → SaysNone e → HidesLeafSums trees at.db.0 at.index at.register
+  none_hides : (e : Entry) → IsEntryOf (Own trees at) e.term e → SaysNone e → HidesSums packed_leaves trees at.db.0 at.index at.register
   none_hides e of bad = (e.term, inr (λ zero. (let some = entry_counts trees at e of 0 zero in absurd (omega (arith, some))), (e.block, inr (of.1, of.2, of.3, of.4, λ part say. bad part (say.said e of.5 (refl, refl))))))
 
-  pub hidden_sum : (first : List ℕ) (from : ℕ) → IsHidden (Own trees at) SaysNone first from → HidesLeafSums trees at.db.0 at.index at.register
+  pub hidden_sum : (first : List ℕ) (from : ℕ) → IsHidden (Own trees at) SaysNone first from → HidesSums packed_leaves trees at.db.0 at.index at.register
   hidden_sum first from (inl it) = (it.0, inl (lacks_hides trees at it.0 it.1 it.3))
   hidden_sum first from (inr it) = none_hides it.0 it.2 it.3
 
@@ -127,7 +128,7 @@ module _ (trees : Trees) (at : RegisterOf) where
     its_list : (term : List ℕ) → (list : List Posting) × SayParts (its term own) list
     its_list term = all_parts (its term own) (λ e h. part_said own many say e ((its_has term own e).0 h).0)
 
-    listed : (term : List ℕ) → ListsLeaves trees at.db.0 (key_in at.index at.register term) (its_list term).0
+    listed : (term : List ℕ) → ListsUnits packed_leaves trees at.db.0 (key_in at.index at.register term) (its_list term).0
     listed term = list_of_parts trees at.db.0 (key_in at.index at.register term) (its term own) (own_term (Own trees at) In own has term (every term)) (its_list term).0 (its_list term).1
 
     all_spots : Spots own many
@@ -145,7 +146,7 @@ module _ (trees : Trees) (at : RegisterOf) where
           subst (λ (t : List ℕ). Has all_spots.spots (t, p)) mine.1 (all_spots.there it.0 it.1 p mine.0 it.3 it.4),
     )
 
-    pub sums_up : (counts : List TermCount) → Counted own counts → ListsAllLeaves trees at.db.0 at.index at.register counts → (totals : Totals) → totals.terms ≡ capped (length counts) → totals.occurrences ≡ capped many → SumsUpLeaves trees at.db.0 at.index at.register totals
+    pub sums_up : (counts : List TermCount) → Counted own counts → ListsAll packed_leaves trees at.db.0 at.index at.register counts → (totals : Totals) → totals.terms ≡ capped (length counts) → totals.occurrences ≡ capped many → SumsUp packed_leaves trees at.db.0 at.index at.register totals
     sums_up counts counted all totals terms occurrences = record {
       all = counts;
       are = all;
@@ -164,15 +165,15 @@ module _ (trees : Trees) (at : RegisterOf) where
 
 module _ (s : State) (store : IsStore s) (at : RegisterOf) (rows : List Row) (are : AreLeavesFrom (IsLeafIn s.now.trees at) [] rows) where
   pub sums_told : (own also : List Entry) (counts : List TermCount) (many : ℕ) → ShowAllOwns [] rows own → CountAll own [] counts → ShowAllOwns [] rows also → SayMany also many
-      → (totals : Totals) → totals.terms ≡ capped (length counts) → totals.occurrences ≡ capped many → SumsUpLeaves s.now.trees at.db.0 at.index at.register totals
+      → (totals : Totals) → totals.terms ≡ capped (length counts) → totals.occurrences ≡ capped many → SumsUp packed_leaves s.now.trees at.db.0 at.index at.register totals
   sums_told own also counts many shows counted shows_also say totals terms occurrences =
       let one = all_own s store at rows are own shows in
       let two = all_own s store at rows are also shows_also in
       let same : also ≡ own = same_list entries_total also own two.rising one.rising (λ e h. (one.each e).1 ((two.each e).0 h)) (λ e h. (two.each e).1 ((one.each e).0 h)) in
       sums_up s.now.trees at (FromText []) own one (λ t b. from_least t) many (subst (λ (l : List Entry). SayMany l many) same say) counts (all_counted own counts one.rising counted) (all_listed s store at rows are own counts shows counted) totals terms occurrences
 
-  pub sums_hidden : HideAllOwns SaysNone [] rows → HidesLeafSums s.now.trees at.db.0 at.index at.register
+  pub sums_hidden : HideAllOwns SaysNone [] rows → HidesSums packed_leaves s.now.trees at.db.0 at.index at.register
   sums_hidden bad = hidden_sum s.now.trees at [] 0 (some_hidden s store at rows are SaysNone bad)
 
-  pub terms_hidden : HideAllOwns IsNoText [] rows → HidesLeafSums s.now.trees at.db.0 at.index at.register
+  pub terms_hidden : HideAllOwns IsNoText [] rows → HidesSums packed_leaves s.now.trees at.db.0 at.index at.register
   terms_hidden bad = let it = hidden_term s.now.trees at [] 0 (some_hidden s store at rows are IsNoText bad) in (it.0, inl it.1)

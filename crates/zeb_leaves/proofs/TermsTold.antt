@@ -15,7 +15,8 @@ use Rattle.zeb_leaves.proofs.SpanEntries.{HasOwnIn}
 use Rattle.zeb_leaves.proofs.SpanLists.{its, its_has, own_term}
 use Rattle.zeb_leaves.proofs.TermEntries.{own_summed, shown_entry}
 use Rattle.zeb_leaves.specs.PrivateTermReads.{AreLeavesFrom, CountAll, HideAllOwns, IsLeafFrom, IsNoText, IsRowFrom, ShowAllOwns}
-use Rattle.zeb_leaves.specs.TermReads.{HidesLeafCount, HidesSomeLeaf, ListsAllLeaves, ListsLeafCounts}
+use Rattle.zeb_register.specs.Terms.{HidesCount, HidesSome, ListsAll, ListsCounts}
+use Rattle.zeb_register.specs.Formats.{packed_leaves}
 use Rattle.zeb_register.proofs.Selects.{list_so}
 use Rattle.zeb_register.specs.Answers.{Answers, IfDamaged, IfRefused}
 use Rattle.zeb_register.specs.Sql.{IsListOf}
@@ -45,7 +46,7 @@ module _ (trees : Trees) (at : RegisterOf) where
   -- ---- what can't be shown
 
   abbrev Hides : List ℕ → Type 0
-  Hides = HidesLeafCount trees at.db.0 at.index at.register
+  Hides = HidesCount packed_leaves trees at.db.0 at.index at.register
 
   pub lacks_hides : (t : List ℕ) (b : ℕ) → LacksEntriesAt Own (leaf_key t b) → Hides t
   lacks_hides t b lacks = λ records shows. lacks_sum Own t records (b, lacks) shows.0
@@ -57,7 +58,7 @@ module _ (trees : Trees) (at : RegisterOf) where
   pub text_hides : (e : Entry) → IsEntryOf Own e.term e → IsNoText e → Hides e.term
   text_hides e is bad = λ records shows. bad (shows.1 (entry_counts e is records shows.0))
 
-  pub hidden_term : (first : List ℕ) (from : ℕ) → IsHidden Own IsNoText first from → HidesSomeLeaf trees at.db.0 at.index at.register
+  pub hidden_term : (first : List ℕ) (from : ℕ) → IsHidden Own IsNoText first from → HidesSome packed_leaves trees at.db.0 at.index at.register
   hidden_term first from (inl it) = (it.0, lacks_hides it.0 it.1 it.3)
   hidden_term first from (inr it) = (it.0.term, text_hides it.0 it.2 it.3)
 
@@ -68,7 +69,7 @@ module _ (trees : Trees) (at : RegisterOf) where
     sums : (term : List ℕ) (records : ℕ) → ((block : ℕ) → In term block) → records ≡ sum_by (λ (e : Entry). e.records) (its term own) → SumsRecords Own term records
     sums term records all is = own_summed Own term (its term own) records (own_term Own In own has term all) is
 
-    pub lists_counted : (P : List ℕ → Type 0) → ((t : TermCount) → Has counts t → P t.term) → ((term : List ℕ) → P term → (block : ℕ) → In term block) → ListsLeafCounts trees at.db.0 at.index at.register P counts
+    pub lists_counted : (P : List ℕ → Type 0) → ((t : TermCount) → Has counts t → P t.term) → ((term : List ℕ) → P term → (block : ℕ) → In term block) → ListsCounts packed_leaves trees at.db.0 at.index at.register P counts
     lists_counted P asked all = record {
       rising = counted.rising;
       each = λ t h.
@@ -91,7 +92,7 @@ module _ (s : State) (store : IsStore s) (at : RegisterOf) where
   abbrev These : Row → Type 0
   These = Leaves s store at.db.0 at.index at.register
 
-  row_so : (first : List ℕ) (row : Row) → IsRowFrom at first s.now.trees row ↔ IsLeafFrom These first row
+  pub row_so : (first : List ℕ) (row : Row) → IsRowFrom at first s.now.trees row ↔ IsLeafFrom These first row
   row_so first row = (
     λ it.
         let shape = shape_from s store at.db.0 at.index at.register row 0 it.0 it.2 in
@@ -120,16 +121,16 @@ module _ (s : State) (store : IsStore s) (at : RegisterOf) where
     pub some_hidden : (Bad : Entry → Type 0) → HideAllOwns Bad [] rows → IsHidden These Bad [] 0
     some_hidden Bad bad = all_hide These (leaf_shape s store at.db.0 at.index at.register) (one_leaf s store at.db.0 at.index at.register) [] Bad rows are bad
 
-    pub all_listed : (own : List Entry) (counts : List TermCount) → ShowAllOwns [] rows own → CountAll own [] counts → ListsAllLeaves s.now.trees at.db.0 at.index at.register counts
+    pub all_listed : (own : List Entry) (counts : List TermCount) → ShowAllOwns [] rows own → CountAll own [] counts → ListsAll packed_leaves s.now.trees at.db.0 at.index at.register counts
     all_listed own counts shows all =
         let has = all_own own shows in
         lists_counted s.now.trees at (FromText []) own has counts (all_counted own counts has.rising all) (λ _. Unit {0}) (λ t h. tt) (λ term any block. from_least term)
 
     pub answers_all : (new : State) (result : Result (Vec TermCount Global) RegFault) → Answers (λ fault. (fault ≢ Store) × IfDamaged (HideAllOwns IsNoText [] rows) fault) (λ counts. (own : List Entry) × ShowAllOwns [] rows own × CountAll own [] counts.items) result
-        → Answers (IfRefused s new (HidesSomeLeaf s.now.trees at.db.0 at.index at.register)) (λ list. ListsAllLeaves s.now.trees at.db.0 at.index at.register list.items) result
+        → Answers (IfRefused s new (HidesSome packed_leaves s.now.trees at.db.0 at.index at.register)) (λ list. ListsAll packed_leaves s.now.trees at.db.0 at.index at.register list.items) result
     answers_all new (Ok list) told = all_listed told.0 list.items told.1 told.2
     answers_all new (Err fault) told = (λ damaged. hidden_term s.now.trees at [] 0 (some_hidden IsNoText (told.1 damaged)), λ failed. absurd (told.0 failed))
 
   -- no leaf covers the first block of the empty term
-  pub uncovered_hides : IsUncovered (IsLeafIn s.now.trees at) (leaf_key [] 0) → HidesSomeLeaf s.now.trees at.db.0 at.index at.register
+  pub uncovered_hides : IsUncovered (IsLeafIn s.now.trees at) (leaf_key [] 0) → HidesSome packed_leaves s.now.trees at.db.0 at.index at.register
   uncovered_hides none = ([], lacks_hides s.now.trees at [] 0 (inr none))

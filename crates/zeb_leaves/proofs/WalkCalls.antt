@@ -1,5 +1,5 @@
 -- The rows of a database, read one at a time beside the postings that are left.
-use Rattle.zeb_leaves.proofs.Cited.{Row, State, state, Int, ◌≡◌, ◌↔◌, ◌∙◌, ◌++◌, ◌∷◌, ℕ, ℤ, pos, List, [], Option, Some, None, refl, sym, ap, subst, IsRest, IsStore, blocks_tree}
+use Rattle.zeb_leaves.proofs.Cited.{Row, State, state, Int, ◌≡◌, ◌↔◌, ◌++◌, ◌∷◌, ℕ, ℤ, pos, List, [], Option, Some, None, sym, subst, IsRest, IsStore, blocks_tree}
 use Rattle.std.proofs.Common.{Bool, true, false, append_assoc, append-nil}
 use Rattle.std.specs.Bool.{IsTrue}
 use Rattle.sqlite.specs.Effect.{Database}

@@ -1,6 +1,5 @@
 -- What a walk over the rows of a database says of its leaves, and of the postings that they take.
-use Rattle.zeb_leaves.proofs.Cited.{Row, row_cmp, row_cmp_total, Has, all_has, has_either, has_left, has_right, has_mapped, mapped_has, ◌≡◌, ◌⊎◌, ◌∙◌, ◌++◌, ◌∷◌, List, [], Option, Some, None, map, refl, sym, ap, ap₂, subst, inl, inr, Less, never_itself, Posting, Entry, SaysPart}
-use Rattle.std.specs.List.{AllByRecursion}
+use Rattle.zeb_leaves.proofs.Cited.{Row, row_cmp, row_cmp_total, Has, all_has, has_either, has_left, has_right, has_mapped, mapped_has, ◌≡◌, ◌⊎◌, ◌∙◌, ◌∷◌, List, [], Option, Some, None, map, refl, sym, ap, ap₂, subst, inl, inr, Less, never_itself, Posting, Entry, SaysPart}
 use Rattle.std.specs.List.Sorted.{IsStrictlySortedBy}
 use Rattle.zeb_leaves.proofs.DatabaseRows.{leaves_between, leaves_up, one_leaf_shown}
 use Rattle.zeb_leaves.proofs.SpanRuns.{less_up}

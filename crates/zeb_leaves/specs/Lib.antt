@@ -1,11 +1,12 @@
 pub mod KeyReads
 pub mod LeafChanges
-pub mod TermReads
 pub mod PrivateLeafReads
 pub mod PrivateSpans
 pub mod PrivateSaid
 pub mod PrivateTermReads
 pub mod PrivateNearTerms
+pub mod PrivateNearRows
+pub mod PrivateNearCalls
 pub mod PrivateLeafWrites
 pub mod PrivatePieces
 pub mod PrivatePutPieces

@@ -1,6 +1,7 @@
 -- What only the contracts of private functions speak of; no public clause reaches it: the rows of `blocks` of a database, in the order of
 -- their keys, beside the postings that are expected of it.
 use Rattle.std.specs.Prelude.{◌≡◌, ◌≢◌, ◌⊎◌, ◌↔◌, ◌≤◌, ◌++◌, ℕ, ℤ, pos, Bool, IsTrue, List, [], ◌∷◌, Option, Some, None, length, map}
+use Rattle.std.specs.List.Sorted.{IsStrictlySortedBy}
 use Rattle.std.specs.declared.cmp.Ordering.TheVariants.{Greater, Less}
 use Rattle.sqlite.specs.declared.types.Value.TheVariants.{Blob, Int, Text}
 use Rattle.sqlite.specs.Order.{Row, column, row_cmp}
@@ -14,14 +15,17 @@ use Rattle.zeb_leaf.specs.Leaves.{leaf_bytes}
 use Rattle.zeb_leaf.specs.declared.entries.Entry.{Entry}
 use Rattle.zeb_leaf.specs.declared.entries.TheConstants.{LEAF_BYTES}
 use Rattle.zeb_leaves.specs.declared.agreeing_rows.ShownLeaf.{ShownLeaf}
+use Rattle.zeb_register.specs.Agreeing.{IsListedId, IsThere, LacksPostingsAndDict}
 use Rattle.zeb_register.specs.Covering.{ShowsEntries, leaf_key}
+use Rattle.zeb_register.specs.Expected.{key_posting_order}
 use Rattle.zeb_register.specs.HeldLeaves.{IsLeafAlone}
 use Rattle.zeb_register.specs.Occurring.{key_in}
 use Rattle.zeb_register.specs.PackedBlocks.{part_in}
-use Rattle.zeb_register.specs.PrivateRowExpected.{BelongsTo, IsThere, list_under, with_key}
+use Rattle.zeb_register.specs.PrivateRowExpected.{IsPair, list_under, with_key}
 use Rattle.zeb_register.specs.Readings.{PartReads, SaysPart}
 use Rattle.zeb_register.specs.Sql.{IsListOf}
-use Rattle.zeb_register.specs.Store.{IsRest, IsStore, blocks_tree, dict_tree, postings_tree}
+use Rattle.zeb_register.specs.Store.{IsRest, IsStore, blocks_tree}
+use Rattle.zeb_register.specs.declared.catalog.ListedDatabase.{ListedDatabase}
 use Rattle.zeb_register.specs.declared.expected.ExpectedDatabase.{ExpectedDatabase}
 use Rattle.zeb_register.specs.declared.expected.KeyPosting.{KeyPosting}
 
@@ -136,10 +140,28 @@ ReadsLeaves db postings agree old new =
 
 -- ---- whole tables
 
+-- the leaves under the id hold these postings, and nothing else
+abbrev pub HasLeaves : ℤ → List KeyPosting → Trees → Type 0
+HasLeaves id postings trees = HoldsPostings (IsRest blocks_tree (Int id ∷ []) trees) postings
+
+-- where none of the databases has the id, its leaves hold none
+abbrev pub IsEmptyBeside : List ListedDatabase → Trees → ℤ → Type 0
+IsEmptyBeside listed trees id = ¬ IsListedId listed id → HasLeaves id [] trees
+
+abbrev pub OthersAreEmpty : List ListedDatabase → Trees → Type 0
+OthersAreEmpty listed trees = (id : ℤ) → IsEmptyBeside listed trees id
+
+-- each of the databases has under its id leaves that hold its postings
+abbrev pub EachHasLeaves : List ListedDatabase → List ExpectedDatabase → Trees → Type 0
+EachHasLeaves listed databases trees =
+    (one : ListedDatabase) (database : ExpectedDatabase) → IsPair listed databases one database → HasLeaves one.id.0 database.postings.items trees
+
+abbrev pub PostingsRise : List ExpectedDatabase → Type 0
+PostingsRise databases = (database : ExpectedDatabase) → Has databases database → IsStrictlySortedBy key_posting_order database.postings.items
+
 -- Each database that is there has under its id leaves that hold its postings. Those under any other id, of which nothing is expected, hold none.
 -- `postings` and `dict` have no row.
 pub record LeavesAgree (trees : Trees) (databases : List ExpectedDatabase) : Type 0 where
-  pub there : (id : ℤ) (database : ExpectedDatabase) → IsThere trees databases id database → HoldsPostings (IsRest blocks_tree (Int id ∷ []) trees) database.postings.items
-  pub others : (id : ℤ) → ((database : ExpectedDatabase) → ¬ IsThere trees databases id database) → HoldsPostings (IsRest blocks_tree (Int id ∷ []) trees) []
-  pub postings : BelongsTo postings_tree [] trees
-  pub dict : BelongsTo dict_tree [] trees
+  pub there : (id : ℤ) (database : ExpectedDatabase) → IsThere trees databases id database → HasLeaves id database.postings.items trees
+  pub others : (id : ℤ) → ((database : ExpectedDatabase) → ¬ IsThere trees databases id database) → HasLeaves id [] trees
+  pub lacks : LacksPostingsAndDict trees

@@ -63,15 +63,6 @@ module _ (n : ℕ) where
       × (HidesRow first from (Some (term, block)) row old
       ⊎ ((mid : List TermCount) × GoesPast first from term block row old mid × HideRows term block next rows mid)))
 
-  -- and of all rows from block 0 of the first text on
-  abbrev pub CountFirst : (first : List ℕ) → List Row → (new : List TermCount) → Type 0
-  CountFirst first [] new = new ≡ []
-  CountFirst first (row ∷ rows) new = CountRows first 0 row rows [] new
-
-  abbrev pub HideFirst : (first : List ℕ) → List Row → Type 0
-  HideFirst first [] = ⊥
-  HideFirst first (row ∷ rows) = HideRows first 0 row rows []
-
   -- ---- leaves, below a text
 
   -- no entry of a key below this one is of one of n terms that are counted

@@ -5,9 +5,10 @@ ghost use Rattle.std.specs.Cmp.Lexicographic.{slice_cmp};
 ghost use Rattle.std.specs.Ordering.{is_lt, nat_cmp};
 ghost use Rattle.sqlite.specs.Held.{state};
 ghost use Rattle.sqlite.specs.State.{IsUnchanged};
-ghost use Rattle.zeb_leaves.specs.KeyReads.{ListsLeafTerms};
 ghost use Rattle.zeb_register.specs.Calls.{Reading};
 ghost use Rattle.zeb_register.specs.Clauses.{IsReasoned};
+ghost use Rattle.zeb_register.specs.Formats.{packed_leaves};
+ghost use Rattle.zeb_register.specs.Units.{ListsTerms};
 
 use crate::said_postings::postings_said;
 use crate::spans::{span_leaves, spans_in};
@@ -29,7 +30,7 @@ fn ordered_between<S: Alter>(
     requires { is_lt (slice_cmp nat_cmp last.now first.now) ≡ false }
     ensures call { Reading (state S.Store conn.old) (state S.Store conn.new) result
         (λ _. IsUnchanged) }
-    ensures units { ListsLeafTerms at first.now last.now (state S.Store conn.old)
+    ensures units { ListsTerms packed_leaves at first.now last.now (state S.Store conn.old)
         (state S.Store conn.new) result }
 {
     let end = text_above(alloc, last)?;
@@ -72,7 +73,7 @@ pub fn postings_between<S: Alter>(
 ) -> Result<Vec<Posting>, RegFault>
     ensures call { Reading (state S.Store conn.old) (state S.Store conn.new) result
         (λ _. IsUnchanged) }
-    ensures units { ListsLeafTerms at first.now last.now (state S.Store conn.old)
+    ensures units { ListsTerms packed_leaves at first.now last.now (state S.Store conn.old)
         (state S.Store conn.new) result }
 {
     if comes_before(last, first) {

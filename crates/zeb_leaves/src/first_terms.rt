@@ -1,19 +1,17 @@
-//! The first terms of a register from a text on, each with how many records have it, by the entries of its leaves.
+//! The first terms of a register from a text on, each with how many records have it, by the entries of its first leaves there.
 
-ghost use Rattle.std.specs.Prelude.{◌≡◌, ◌≢◌, ◌⊎◌, [], IsTrue, Err, Some, false};
+ghost use Rattle.std.specs.Prelude.{◌≡◌, ◌≢◌, ◌⊎◌, ◌≤◌, ◌++◌, [], List, IsTrue, Some, IfSome, false};
 ghost use Rattle.sqlite.specs.Held.{state};
+ghost use Rattle.sqlite.specs.Order.{Row as Columns};
 ghost use Rattle.sqlite.specs.State.{IsUnchanged};
-ghost use Rattle.zeb_leaves.specs.PrivateNearTerms.{CountFirst, CountRows, GoesPast, HideFirst, HideRows};
-ghost use Rattle.zeb_leaves.specs.PrivateNearTerms.{HidesRow, StopsAt};
+ghost use Rattle.zeb_leaves.specs.PrivateNearCalls.{MayTellBeside};
+ghost use Rattle.zeb_leaves.specs.PrivateNearTerms.{CountRows, GoesPast, HideRows, HidesRow, StopsAt};
+ghost use Rattle.zeb_leaves.specs.declared.near_terms.Side.TheVariants.{From};
 ghost use Rattle.zeb_register.specs.Answers.{Answers, IfDamaged};
 ghost use Rattle.zeb_register.specs.Calls.{Reading};
-ghost use Rattle.zeb_register.specs.Clauses.{IsReasoned};
-ghost use Rattle.zeb_register.specs.Formats.{packed_leaves};
-ghost use Rattle.zeb_register.specs.Terms.{TellsFrom};
 
-use crate::rows_from::leaves_from;
+use crate::near_rows::{are_all, first_rows};
 use crate::spans::own_key;
-use crate::statements::some_row;
 use crate::until_enough::{are_enough, row_until};
 use sqlite::{Alter, Connection, Row};
 use std::alloc::Global;
@@ -42,17 +40,20 @@ fn up_to_next(
 }
 
 /// The terms of the entries that rows have from the first text on, each with its records, until there are `n`: each row up to the own key
-/// of the next. A row behind these isn't looked at.
+/// of the next. A row behind these isn't looked at. `None` where there are fewer below the last row's own key, and it isn't the last of all.
 fn first_counts<'a>(
     alloc: Global,
     leaf: &'a Row,
     behind: &'a [Row],
+    whole: bool,
     first: &'a [u8],
     n: u64,
-) -> Result<Vec<TermCount>, RegFault>
-    ensures { Answers (λ fault. (fault ≢ RegFault.Store)
-        × IfDamaged (HideRows n first.now 0 leaf.now behind.now []) fault)
-        (λ counts. CountRows n first.now 0 leaf.now behind.now [] counts.items) result }
+) -> Result<Option<Vec<TermCount>>, RegFault>
+    ensures { (rest : List Columns) → (IsTrue whole → rest ≡ []) → Answers (λ fault.
+        (fault ≢ RegFault.Store)
+        × IfDamaged (HideRows n first.now 0 leaf.now (behind.now ++ rest) []) fault)
+        (λ found. IfSome found (λ counts.
+        CountRows n first.now 0 leaf.now (behind.now ++ rest) [] counts.items)) result }
 {
     let mut counts = Vec::new(alloc);
     let mut row = leaf;
@@ -63,64 +64,36 @@ fn first_counts<'a>(
     for next in behind {
         let own = own_key(next)?;
         if up_to_next(alloc, &mut counts, row, from, own, n)? {
-            return Ok(counts);
+            return Ok(Some(counts));
         }
         row = next;
         from = own;
     }
-    row_until(alloc, &mut counts, row, from, None, n)?;
-    Ok(counts)
-}
-
-/// The first `n` terms of the entries that these leaves have from the first text on, each with its records.
-fn first_counts_in(
-    alloc: Global,
-    rows: &[Row],
-    first: &[u8],
-    n: u64,
-) -> Result<Vec<TermCount>, RegFault>
-    ensures { Answers (λ fault. (fault ≢ RegFault.Store)
-        × IfDamaged (HideFirst n first.now rows.now) fault)
-        (λ counts. CountFirst n first.now rows.now counts.items) result }
-{
-    match rows.split_first() {
-        Some((leaf, behind)) => first_counts(alloc, leaf, behind, first, n),
-        None => Ok(Vec::new(alloc)),
+    if !whole {
+        return Ok(None);
     }
+    row_until(alloc, &mut counts, row, from, None, n)?;
+    Ok(Some(counts))
 }
 
-/// No terms. A closed connection is refused also where none is asked for.
-pub(crate) fn no_terms<S: Alter>(
+/// The first `n` terms from the start on, by the leaf that covers its first block and at most `limit` leaves behind. `None` where more leaves
+/// have to be read.
+pub(crate) fn first_within<S: Alter>(
     alloc: Global,
     conn: &mut Connection<S>,
     at: RegisterOf,
-) -> Result<Vec<TermCount>, RegFault>
-    ensures call { Reading (state S.Store conn.old) (state S.Store conn.new) result
-        (λ list a b. (list.items ≡ []) × IsUnchanged a b) }
-    ensures honest { result ≢ Err RegFault.Damaged }
-    ensures refused { IsReasoned (state S.Store conn.old) (state S.Store conn.new) result }
-{
-    some_row(conn, at)?;
-    Ok(Vec::new(alloc))
-}
-
-/// The first `n` terms of a register that are not below `start` and that some record has, in the order of their bytes, each with the number
-/// of these records. All leaves from the start on are held at once. `Damaged` only by one of these terms.
-pub fn terms_from<S: Alter>(
-    alloc: Global,
-    conn: &mut Connection<S>,
-    at: RegisterOf,
+    leaf: &Row,
     start: &str,
     n: u64,
-) -> Result<Vec<TermCount>, RegFault>
+    limit: u32,
+) -> Result<Option<Vec<TermCount>>, RegFault>
+    requires { 1 ≤ n }
     ensures call { Reading (state S.Store conn.old) (state S.Store conn.new) result
         (λ _. IsUnchanged) }
-    ensures units { TellsFrom packed_leaves at start.now n (state S.Store conn.old)
+    ensures tells { MayTellBeside at start.now n (From leaf.now) (state S.Store conn.old)
         (state S.Store conn.new) result }
 {
-    if n == 0 {
-        return no_terms(alloc, conn, at);
-    }
-    let rows = leaves_from(alloc, conn, at, start)?;
-    first_counts_in(alloc, &rows, start.as_bytes(), n)
+    let rows = first_rows(conn, at, start, limit)?;
+    let whole = are_all(&rows, limit);
+    first_counts(alloc, leaf, &rows, whole, start.as_bytes(), n)
 }

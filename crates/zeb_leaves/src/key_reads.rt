@@ -3,10 +3,12 @@
 ghost use Rattle.std.specs.Prelude.{◌≢◌, ◌<◌, ◌^◌};
 ghost use Rattle.sqlite.specs.Held.{state};
 ghost use Rattle.sqlite.specs.State.{IsUnchanged};
-ghost use Rattle.zeb_leaves.specs.KeyReads.{CountsLeafKey, ListsLeafKey, TellsLeafBlock};
+ghost use Rattle.zeb_leaves.specs.KeyReads.{CountsLeafKey, TellsLeafBlock};
 ghost use Rattle.zeb_leaves.specs.PrivateSaid.{SaysBlock, SaysNoBlock};
 ghost use Rattle.zeb_register.specs.Answers.{Answers, IfDamaged};
 ghost use Rattle.zeb_register.specs.Calls.{Reading};
+ghost use Rattle.zeb_register.specs.Formats.{packed_leaves};
+ghost use Rattle.zeb_register.specs.Units.{ListsKey};
 
 use crate::covering::leaf_at;
 use crate::said_postings::{postings_said, records_said};
@@ -28,8 +30,8 @@ pub fn key_list<S: Alter>(
 ) -> Result<Vec<Posting>, RegFault>
     ensures call { Reading (state S.Store conn.old) (state S.Store conn.new) result
         (λ _. IsUnchanged) }
-    ensures units { ListsLeafKey db.0 key.now (state S.Store conn.old) (state S.Store conn.new)
-        result }
+    ensures units { ListsKey packed_leaves db.0 key.now (state S.Store conn.old)
+        (state S.Store conn.new) result }
 {
     let at = RegisterOf {
         db,

@@ -1,49 +1,27 @@
-//! The last terms of a register below a text, each with how many records have it, by the entries of its leaves.
+//! The last terms of a register below a text, each with how many records have it, by the entries of its last leaves there.
 
-ghost use Rattle.std.specs.Prelude.{◌≡◌, ◌≢◌, ◌↔◌, ◌⊎◌, [], List, IsTrue, Err, false, reverse};
+ghost use Rattle.std.specs.Prelude.{◌≡◌, ◌≢◌, ◌↔◌, ◌⊎◌, ◌≤◌, ◌++◌, [], List, IsTrue, IfSome, false, reverse};
 ghost use Rattle.sqlite.specs.Held.{state};
+ghost use Rattle.sqlite.specs.Order.{Row as Columns};
 ghost use Rattle.sqlite.specs.State.{IsUnchanged};
-ghost use Rattle.zeb_leaves.specs.PrivateLeafReads.{IsLeafIn, IsOfTermsBelow};
+ghost use Rattle.zeb_leaves.specs.PrivateLeafReads.{IsLeafIn};
+ghost use Rattle.zeb_leaves.specs.PrivateNearCalls.{MayTellBeside};
 ghost use Rattle.zeb_leaves.specs.PrivateNearTerms.{AreEnoughAt, CountBelow, CountsDown, GoesDown, HideBelow};
 ghost use Rattle.zeb_leaves.specs.PrivateNearTerms.{HidesDown, StopsDown};
+ghost use Rattle.zeb_leaves.specs.declared.near_terms.Side.TheVariants.{Below};
 ghost use Rattle.zeb_register.specs.Answers.{Answers, IfDamaged};
 ghost use Rattle.zeb_register.specs.Calls.{Reading};
-ghost use Rattle.zeb_register.specs.Clauses.{IsReasoned, OnStore, Tells};
-ghost use Rattle.zeb_register.specs.Formats.{packed_leaves};
-ghost use Rattle.zeb_register.specs.PrivateClauses.{IsReasonedError};
-ghost use Rattle.zeb_register.specs.PrivateRowStatements.{Lists};
-ghost use Rattle.zeb_register.specs.Sql.{IsListOf};
-ghost use Rattle.zeb_register.specs.Terms.{TellsBefore};
+ghost use Rattle.zeb_register.specs.Clauses.{IsReasoned, OnStore};
 
 use crate::covering::no_leaf;
-use crate::first_terms::no_terms;
+use crate::near_rows::{are_all, last_rows};
 use crate::own_entries::own_entries;
 use crate::spans::own_key;
 use crate::until_enough::{are_enough, entries_until};
-use sqlite::{Alter, Connection, Error, Row, params};
+use sqlite::{Alter, Connection, Row};
 use std::alloc::Global;
 use zeb_leaf::BlockKey;
-use zeb_register::for_layouts::look_up;
 use zeb_register::{RegFault, RegisterOf, TermCount};
-
-const BELOW: &str =
-    "SELECT term, block, data FROM blocks WHERE db = ?1 AND idx = ?2 AND reg = ?3 AND term < ?4 AND block >= ?5 ORDER BY term, block";
-
-/// The leaves of the terms below `start`, in their order.
-fn rows_below<S: Alter>(
-    conn: &mut Connection<S>,
-    at: RegisterOf,
-    start: &str,
-) -> Result<Vec<Row>, Error>
-    ensures call { Reading (state S.Store conn.old) (state S.Store conn.new) result
-        (λ rows a b. Lists (IsOfTermsBelow at start.now) a b rows.items) }
-    ensures err { IsReasonedError (state S.Store conn.old) (state S.Store conn.new) result }
-{
-    let db = at.db.column();
-    let reg = u32::from(at.register.code());
-    let least: u32 = 0;
-    look_up(conn, BELOW, params![db, at.index, reg, start, least])
-}
 
 /// Whether no entry of a key below this one is of one of the `n` terms that are counted.
 fn are_enough_at(counts: &[TermCount], n: u64, own: BlockKey) -> bool
@@ -101,16 +79,20 @@ fn is_least(key: BlockKey) -> bool
 }
 
 /// The terms of the entries that rows have below the text, the greatest first and each with its records, until there are `n`: each row down
-/// from the own key of the one before. A row behind these isn't looked at. `Damaged` where there are fewer, and a key that no row covers.
+/// from the own key of the one before. A row behind these isn't looked at. Where there are fewer, `None` if these aren't all rows, and else
+/// `Damaged` if a key is below all.
 fn last_counts<'a>(
     alloc: Global,
     rows: &'a [Row],
+    whole: bool,
     start: &'a [u8],
     n: u64,
-) -> Result<Vec<TermCount>, RegFault>
-    ensures { Answers (λ fault. (fault ≢ RegFault.Store)
-        × IfDamaged (HideBelow n start.now 0 rows.now []) fault)
-        (λ counts. CountBelow n start.now 0 rows.now [] counts.items) result }
+) -> Result<Option<Vec<TermCount>>, RegFault>
+    ensures { (rest : List Columns) → (IsTrue whole → rest ≡ []) → Answers (λ fault.
+        (fault ≢ RegFault.Store)
+        × IfDamaged (HideBelow n start.now 0 (rows.now ++ rest) []) fault)
+        (λ found. IfSome found (λ counts.
+        CountBelow n start.now 0 (rows.now ++ rest) [] counts.items)) result }
 {
     let mut counts = Vec::new(alloc);
     let mut end = BlockKey {
@@ -120,14 +102,39 @@ fn last_counts<'a>(
     for row in rows {
         let own = own_key(row)?;
         if down_to_own(alloc, &mut counts, row, own, end, n)? {
-            return Ok(counts);
+            return Ok(Some(counts));
         }
         end = own;
     }
+    if !whole {
+        return Ok(None);
+    }
     if is_least(end) {
-        return Ok(counts);
+        return Ok(Some(counts));
     }
     Err(RegFault::Damaged)
+}
+
+/// The same, in the order of their bytes.
+fn terms_below(
+    alloc: Global,
+    rows: &[Row],
+    whole: bool,
+    start: &[u8],
+    n: u64,
+) -> Result<Option<Vec<TermCount>>, RegFault>
+    ensures { (rest : List Columns) → (IsTrue whole → rest ≡ []) → Answers (λ fault.
+        (fault ≢ RegFault.Store)
+        × IfDamaged (HideBelow n start.now 0 (rows.now ++ rest) []) fault)
+        (λ found. IfSome found (λ list. (counts : List _)
+        × CountBelow n start.now 0 (rows.now ++ rest) [] counts × (list.items ≡ reverse counts)))
+        result }
+{
+    let Some(mut counts) = last_counts(alloc, rows, whole, start, n)? else {
+        return Ok(None);
+    };
+    counts.reverse();
+    Ok(Some(counts))
 }
 
 /// No terms, where the register has no leaf. `Damaged` where it has one.
@@ -135,74 +142,38 @@ fn no_leaf_terms<S: Alter>(
     alloc: Global,
     conn: &mut Connection<S>,
     at: RegisterOf,
-) -> Result<Vec<TermCount>, RegFault>
+) -> Result<Option<Vec<TermCount>>, RegFault>
     ensures call { Reading (state S.Store conn.old) (state S.Store conn.new) result
         (λ _. IsUnchanged) }
     ensures none { OnStore (state S.Store conn.old) (state S.Store conn.new) (λ trees. Answers
         (IfDamaged ((leaf : _) × IsLeafIn trees at leaf))
-        (λ list. (list.items ≡ []) × ((leaf : _) → ¬ IsLeafIn trees at leaf)) result) }
+        (λ found. IfSome found (λ list. list.items ≡ []) × ((leaf : _) → ¬ IsLeafIn trees at leaf))
+        result) }
     ensures refused { IsReasoned (state S.Store conn.old) (state S.Store conn.new) result }
 {
     no_leaf(conn, at)?;
-    Ok(Vec::new(alloc))
+    Ok(Some(Vec::new(alloc)))
 }
 
-/// The leaves of the terms below `start`, the nearest first.
-fn leaves_below<S: Alter>(
-    conn: &mut Connection<S>,
-    at: RegisterOf,
-    start: &str,
-) -> Result<Vec<Row>, RegFault>
-    ensures call { Reading (state S.Store conn.old) (state S.Store conn.new) result
-        (λ _. IsUnchanged) }
-    ensures lists { Tells (state S.Store conn.old) (state S.Store conn.new) result
-        (λ trees rows. (rising : List _) × (rows.items ≡ reverse rising)
-        × IsListOf (IsOfTermsBelow at start.now trees) rising) }
-    ensures honest { result ≢ Err RegFault.Damaged }
-    ensures refused { IsReasoned (state S.Store conn.old) (state S.Store conn.new) result }
-{
-    let mut rows = rows_below(conn, at, start)?;
-    rows.reverse();
-    Ok(rows)
-}
-
-/// The terms of these leaves, in the order of their bytes: the last `n` below the text.
-fn terms_below(
-    alloc: Global,
-    rows: &[Row],
-    start: &[u8],
-    n: u64,
-) -> Result<Vec<TermCount>, RegFault>
-    ensures { Answers (λ fault. (fault ≢ RegFault.Store)
-        × IfDamaged (HideBelow n start.now 0 rows.now []) fault)
-        (λ list. (counts : List _) × CountBelow n start.now 0 rows.now [] counts
-        × (list.items ≡ reverse counts)) result }
-{
-    let mut counts = last_counts(alloc, rows, start, n)?;
-    counts.reverse();
-    Ok(counts)
-}
-
-/// The last `n` terms of a register that are below `start` and that some record has, in the order of their bytes, each with the number of
-/// these records. All leaves below the start are held at once. `Damaged` only by one of these terms.
-pub fn terms_before<S: Alter>(
+/// The last `n` terms below the start, by at most `limit` leaves below it. `None` where more leaves have to be read.
+pub(crate) fn last_within<S: Alter>(
     alloc: Global,
     conn: &mut Connection<S>,
     at: RegisterOf,
     start: &str,
     n: u64,
-) -> Result<Vec<TermCount>, RegFault>
+    limit: u32,
+) -> Result<Option<Vec<TermCount>>, RegFault>
+    requires { (1 ≤ n) × (1 ≤ limit) }
     ensures call { Reading (state S.Store conn.old) (state S.Store conn.new) result
         (λ _. IsUnchanged) }
-    ensures units { TellsBefore packed_leaves at start.now n (state S.Store conn.old)
+    ensures tells { MayTellBeside at start.now n Below (state S.Store conn.old)
         (state S.Store conn.new) result }
 {
-    if n == 0 || start.is_empty() {
-        return no_terms(alloc, conn, at);
-    }
-    let rows = leaves_below(conn, at, start)?;
+    let rows = last_rows(conn, at, start, limit)?;
     if rows.is_empty() {
         return no_leaf_terms(alloc, conn, at);
     }
-    terms_below(alloc, &rows, start.as_bytes(), n)
+    let whole = are_all(&rows, limit);
+    terms_below(alloc, &rows, whole, start.as_bytes(), n)
 }

@@ -1,11 +1,11 @@
-//! Registers in leaves: what is read of tables in which a row of `blocks` holds the blocks of many keys.
-//!
-//! No command uses it yet. It is the layout to come, whose registers have few rows.
+//! Registers in leaves: the layout `Leaves`, over tables and calls of zeb_register. A row of `blocks` holds the blocks of many keys, so that
+//! registers have few rows.
 #![tactic(auto)]
 
 mod agreeing;
 mod agreeing_entries;
 mod agreeing_rows;
+mod agreeing_tables;
 mod agreeing_walk;
 mod between;
 mod covering;
@@ -14,6 +14,9 @@ mod first_terms;
 mod inside;
 mod key_reads;
 mod last_terms;
+mod leaves;
+mod near_rows;
+mod near_terms;
 mod own_entries;
 mod pieces;
 mod replacing;
@@ -29,13 +32,14 @@ mod turning;
 mod until_enough;
 mod writes;
 
+pub use agreeing_tables::leaves_agree;
 pub use between::postings_between;
-pub use first_terms::terms_from;
 pub use key_reads::{block_list, key_count, key_list};
-pub use last_terms::terms_before;
+pub use leaves::Leaves;
+pub use near_terms::{terms_before, terms_from};
 pub use replacing::{
     leaves_begin_a_register, leaves_take_the_place_of_one, merged_entries_say_what_was_put,
 };
 pub use term_totals::totals;
 pub use terms::terms_of;
-pub use turning::run_changes;
+pub use turning::{key_changes, run_changes};

@@ -7,11 +7,12 @@ ghost use Rattle.sqlite.specs.State.{IsUnchanged};
 ghost use Rattle.zeb_leaf.specs.declared.spans.BlockKey.{BlockKey as KeyOfBlock};
 ghost use Rattle.zeb_leaves.specs.PrivateTermReads.{HideAllOwns, HideOwns, HidesOwn, SayMany};
 ghost use Rattle.zeb_leaves.specs.PrivateTermReads.{SaysNone, ShowAllOwns, ShowOwns, ShowsOwn, SomeBad};
-ghost use Rattle.zeb_register.specs.Readings.{SaysPart};
-ghost use Rattle.zeb_leaves.specs.TermReads.{TellsLeafTotals};
 ghost use Rattle.zeb_register.specs.Answers.{Answers, IfDamaged};
 ghost use Rattle.zeb_register.specs.Calls.{Reading};
+ghost use Rattle.zeb_register.specs.Formats.{packed_leaves};
 ghost use Rattle.zeb_register.specs.Occurring.{capped};
+ghost use Rattle.zeb_register.specs.Readings.{SaysPart};
+ghost use Rattle.zeb_register.specs.Terms.{TellsTotals};
 
 use crate::own_entries::own_entries;
 use crate::rows_from::leaves_from;
@@ -118,7 +119,8 @@ pub fn totals<S: Alter>(
 ) -> Result<Totals, RegFault>
     ensures call { Reading (state S.Store conn.old) (state S.Store conn.new) result
         (λ _. IsUnchanged) }
-    ensures units { TellsLeafTotals at (state S.Store conn.old) (state S.Store conn.new) result }
+    ensures units { TellsTotals packed_leaves at (state S.Store conn.old) (state S.Store conn.new)
+        result }
 {
     let rows = leaves_from(alloc, conn, at, "")?;
     let counts = counts_in(alloc, &rows, &[])?;

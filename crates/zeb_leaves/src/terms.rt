@@ -7,9 +7,10 @@ ghost use Rattle.sqlite.specs.State.{IsUnchanged};
 ghost use Rattle.zeb_leaf.specs.declared.spans.BlockKey.{BlockKey as KeyOfBlock};
 ghost use Rattle.zeb_leaves.specs.PrivateTermReads.{CountAll, CountsIn, HideAllOwns, HideOwns, HidesOwn};
 ghost use Rattle.zeb_leaves.specs.PrivateTermReads.{IsNoText, ShowAllOwns, ShowOwns, ShowsOwn, SomeBad};
-ghost use Rattle.zeb_leaves.specs.TermReads.{TellsAllLeaves};
 ghost use Rattle.zeb_register.specs.Answers.{Answers, IfDamaged};
 ghost use Rattle.zeb_register.specs.Calls.{Reading};
+ghost use Rattle.zeb_register.specs.Formats.{packed_leaves};
+ghost use Rattle.zeb_register.specs.Terms.{TellsAll};
 
 use crate::own_entries::own_entries;
 use crate::rows_from::leaves_from;
@@ -147,7 +148,8 @@ pub fn terms_of<S: Alter>(
 ) -> Result<Vec<TermCount>, RegFault>
     ensures call { Reading (state S.Store conn.old) (state S.Store conn.new) result
         (λ _. IsUnchanged) }
-    ensures units { TellsAllLeaves at (state S.Store conn.old) (state S.Store conn.new) result }
+    ensures units { TellsAll packed_leaves at (state S.Store conn.old) (state S.Store conn.new)
+        result }
 {
     let rows = leaves_from(alloc, conn, at, "")?;
     counts_in(alloc, &rows, &[])

@@ -11,6 +11,7 @@ ghost use Rattle.zeb_leaves.specs.PrivateTurning.{IsTextOf, ReplacesFront, Turns
 ghost use Rattle.zeb_register.specs.Calls.{GoesOn, Inside};
 ghost use Rattle.zeb_register.specs.Formats.{packed_leaves};
 ghost use Rattle.zeb_register.specs.RunChanges.{ChangesKeys, IsRun};
+ghost use Rattle.zeb_register.specs.UnitChanges.{ChangesKey, NumbersRise};
 
 use crate::inside::{end_at, leaf_behind, leaf_inside};
 use crate::own_entries::{is_below, own_entries};
@@ -20,9 +21,10 @@ use crate::turned_entries::piece_changes;
 use crate::writes::{LeafKey, entries_put, text_of};
 use sqlite::{Alter, Row, Transaction};
 use std::alloc::Global;
+use zeb_keys::Key;
 use zeb_leaf::{BlockKey, Filling, merge};
 use zeb_register::for_layouts::{check_changes, nothing_inside};
-use zeb_register::{DatabaseId, KeyChanges, RegFault, RegisterOf};
+use zeb_register::{DatabaseId, KeyChanges, RecordChange, RegFault, RegisterOf};
 
 /// So many pieces are put into a leaf at once with the first one: their entries are held together.
 const MORE_AT_ONCE: usize = 4_095;
@@ -220,4 +222,32 @@ pub fn run_changes<S: Alter>(
     check_run(run)?;
     let pieces = pieces_of(alloc, run)?;
     pieces_turned(alloc, tx, db, &pieces)
+}
+
+/// Puts the changes of one key, each where its `old` stood, as `run_changes` does.
+///
+/// `Damaged` where a record has other places than its `old`, and where what a leaf says of a changed block can't be read. `Store` also where a
+/// change can't be stored.
+pub fn key_changes<S: Alter>(
+    tx: &mut Transaction<'_, S>,
+    db: DatabaseId,
+    key: &Key,
+    changes: &[RecordChange<'_>],
+) -> Result<(), RegFault>
+    requires rising { NumbersRise changes.now }
+    ensures same { tx.new.conn.ghost_name ≡ tx.old.conn.ghost_name }
+    ensures call { Inside (state S.Store tx.old.conn.now) (state S.Store tx.new.conn.now) result
+        (λ _. GoesOn) }
+    ensures units { ChangesKey packed_leaves db.0 key.now changes.now
+        (state S.Store tx.old.conn.now) (state S.Store tx.new.conn.now) result }
+{
+    // A change that no row has is told before anything else can be.
+    check_changes(changes)?;
+    if changes.is_empty() {
+        // A closed connection is refused also here.
+        nothing_inside(tx)?;
+        return Ok(());
+    }
+    let one = KeyChanges { key, changes };
+    run_changes(tx, db, &[one])
 }

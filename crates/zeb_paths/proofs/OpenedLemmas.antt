@@ -1,5 +1,5 @@
 -- The rowids of tables that are read from the files of a disk rise, since each table is a sound tree of its pages.
-use Rattle.std.proofs.Common.{◌≡◌, ap, filter, inl, inr, List, [], ◌∷◌, subst, sym}
+use Rattle.std.proofs.Common.{ap, filter, inl, inr, List, [], ◌∷◌, subst, sym}
 use Rattle.std.proofs.Math.Logic.{∥∥₁_elim}
 use Rattle.std.specs.List.{AllByRecursion, AllZip}
 use Rattle.sqlite.specs.Effect.{Database}

@@ -177,7 +177,10 @@ fault_untold tells given cause.Absent untold = untold
 fault_untold tells given cause.Forbidden untold = untold
 fault_untold tells given cause.Neither untold = untold
 fault_untold tells given cause.Folder untold = untold
-fault_untold tells given cause.Content untold = untold
+fault_untold tells given cause.TooDeep untold = untold
+fault_untold tells given cause.TooLong untold = untold
+fault_untold tells given cause.NoText untold = untold
+fault_untold tells given cause.NoRecord untold = untold
 fault_untold tells given cause.Name untold = untold
 fault_untold tells given cause.Failed untold = untold
 fault_untold tells given cause.Memory untold = tt
@@ -205,7 +208,10 @@ fault_under named given cause.Absent under = under
 fault_under named given cause.Forbidden under = under
 fault_under named given cause.Neither under = under
 fault_under named given cause.Folder under = under
-fault_under named given cause.Content under = under
+fault_under named given cause.TooDeep under = under
+fault_under named given cause.TooLong under = under
+fault_under named given cause.NoText under = under
+fault_under named given cause.NoRecord under = under
 fault_under named given cause.Name under = under
 fault_under named given cause.Failed under = under
 fault_under named given cause.Memory under = tt
@@ -219,6 +225,12 @@ under_dues at named left result later (at_folder {here = here} {rest = others} {
     under_dues at named (dues_in here names ++ others) result later on (names_under named here names others all.0 all.1)
 under_dues at named left result later (at_fault given why refused same met) all =
     (subst (IsFaultUnder named) (sym met) (fault_under named given why (subst (IsUnder named) (sym same) all.0)), tt)
+
+-- what a walk gives, and what it leaves, stands below what its paths stand below
+pub stays_under : (at : Tells) (named : List (List ℕ)) (left later : List Due) (result : Result (Option (String Global)) WalkFault) → WalksOn at left result later → AreUnder named (map (λ here. here.path) left)
+    → GivesUnder named result × IfOk result (λ _. AreUnder named (map (λ here. here.path) later))
+unfolding due_path
+stays_under at named left later result on all = under_dues at named left result later on all
 
 -- what a walk gives, and what it leaves, stands below the paths that it is of
 pub walks_under : (at : Tells) (steps later : List Step) (result : Result (Option (String Global)) WalkFault) → WalksOn at (dues_left steps) result (dues_left later) → (named : List (List ℕ)) → AreUnder named (paths_left steps)

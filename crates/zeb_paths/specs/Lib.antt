@@ -4,6 +4,7 @@ pub mod Opened
 pub mod Told
 pub mod Walks
 pub mod PrivateCauses
+pub mod PrivateClosings
 pub mod PrivateNames
 pub mod PrivateOpenings
 pub mod PrivateWalks

@@ -109,7 +109,7 @@ dues_in folder names = map (λ name. due (slashed folder.path ++ name) (folder.l
 -- whose names aren't given: for want of memory, or where one of them is empty, as far as they are told.
 pub data IsRefused (at : Tells) (here : Due) : PathCause → Type 0 where
   not_there : {why : PathCause} → MayStand at here.path (Err why) → IsRefused at here why
-  too_deep : MayStand at here.path (Ok Folder) → 32 < here.level → IsRefused at here cause.Folder
+  too_deep : MayStand at here.path (Ok Folder) → 32 < here.level → IsRefused at here cause.TooDeep
   not_given : {why : PathCause} → MayStand at here.path (Ok Folder) → IfSome (at.names here.path) (λ told. (why ≡ cause.Memory) ⊎ Contains told [])
       → IsRefused at here why
 

@@ -18,10 +18,16 @@ pub enum PathCause {
     Forbidden,
     /// Neither a file nor a folder stands there.
     Neither,
-    /// A folder stands there that can be read: a file is asked for, or no folder so deep is read.
+    /// A folder stands there that can be read, and a file is asked for.
     Folder,
-    /// A file stands there that can be read: what it holds isn't taken.
-    Content,
+    /// A folder stands there that can be read, but none so deep is.
+    TooDeep,
+    /// A file stands there that can be read, and has more bytes than one may have.
+    TooLong,
+    /// A file stands there that can be read, and is no text.
+    NoText,
+    /// A file stands there that can be read, and begins with no record.
+    NoRecord,
     /// A name in the folder isn't UTF-8, or the path has a name that is too long.
     Name,
     /// The system failed a call, for no cause of these.
@@ -40,8 +46,13 @@ impl fmt::Display for PathCause {
             PathCause::Absent => "nothing stands there",
             PathCause::Forbidden => "no right to read it",
             PathCause::Neither => "neither a file nor a folder",
-            PathCause::Folder => "a folder, where a file is asked for or no folder so deep is read",
-            PathCause::Content => "no UTF-8, or too long",
+            PathCause::Folder => "a folder, where a file is asked for",
+            PathCause::TooDeep => "a folder below the 32nd level",
+            PathCause::TooLong => "too long",
+            PathCause::NoText => "no UTF-8",
+            PathCause::NoRecord => {
+                "no ISO 2709: yaz-marcdump makes it of MARCXML, gunzip unpacks a file"
+            }
             PathCause::Name => "a name that isn't UTF-8 or is too long",
             PathCause::Failed => "the system failed a call",
             PathCause::Memory => "out of memory",

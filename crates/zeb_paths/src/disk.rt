@@ -9,17 +9,19 @@ ghost use Rattle.sqlite.specs.State.{HasCleanDisk};
 ghost use Rattle.sqlite_store.specs.FileStore.{faults, is_shielded, recovers, view};
 ghost use Rattle.sqlite_trees.specs.View.{IsQuiet};
 ghost use Rattle.zeb_paths.specs.Causes.{path_cause_of};
-ghost use Rattle.zeb_paths.specs.Closing.{IsCauseMet, IsLeft};
+ghost use Rattle.zeb_paths.specs.Closing.{HasReason, IsCauseMet, IsLeft};
 ghost use Rattle.zeb_paths.specs.Opened.{IsWellOpened};
+ghost use Rattle.zeb_paths.specs.PrivateClosings.{IsClosedBy};
 ghost use Rattle.zeb_paths.specs.declared.disk.Progress.TheVariants.{Ended};
 
 use crate::causes::{Closed, PathCause, StoreCause};
 use crate::looks::{may_have_store, why_unopened, why_unread};
 use crate::opening::open_store;
-use crate::paths::{OpenFailed, PathKind, Paths};
+use crate::paths::{Asked, OpenFailed, PathKind, Paths};
 use crate::tally::Tally;
 use sqlite::{Connection, File, FileStore, Unknown};
 use sqlite_disk::{Disk as Medium, Tally as Met};
+use sqlite_trees::error::StoreError;
 use sqlite_trees::store::Store;
 use std::alloc::Global;
 use std::fs::{self, Metadata};
@@ -72,14 +74,34 @@ fn kind_of(found: io::Result<Metadata>) -> Result<PathKind, PathCause>
 /// Ends a store: its log is copied into its one file, where that doesn't fail.
 fn close_store<D: Medium + Drop>(store: FileStore<D>) -> Closed
     ensures { (left : _) × IsLeft result left
-        × IsQuiet view faults recovers is_shielded store left }
+        × IsQuiet view faults recovers is_shielded store left
+        × HasReason view faults store left result }
 {
     let mut store = store;
     // Nothing is undone, since no transaction is open; but just its own rollback tells what the log has.
     store.rollback();
-    let is_whole = store.checkpoint().is_ok();
-    let cause = cause_of(store.tally());
-    Closed { is_whole, cause }
+    let copied = store.checkpoint();
+    closed_by(copied, store.tally())
+}
+
+/// How a store is closed whose log was copied so, and that has met this.
+fn closed_by(copied: Result<(), StoreError>, met: Met) -> Closed
+    ensures { IsClosedBy copied met result }
+{
+    match copied {
+        Ok(()) => Closed {
+            is_whole: true,
+            cause: cause_of(met),
+        },
+        Err(StoreError::OutOfMemory) => Closed {
+            is_whole: false,
+            cause: Some(StoreCause::Memory),
+        },
+        Err(_) => Closed {
+            is_whole: false,
+            cause: cause_of(met),
+        },
+    }
 }
 
 /// Why a store may have failed that has met this.
@@ -139,8 +161,8 @@ impl<'a> Paths for Disk<'a> {
         }
     }
 
-    fn why_unread(&self, path: &str) -> Option<PathCause> {
-        Some(why_unread(self.rt, path))
+    fn why_unread(&self, path: &str, asked: Asked) -> Option<PathCause> {
+        Some(why_unread(self.rt, path, asked))
     }
 
     fn has_store(&self, path: &str) -> bool {

@@ -17,7 +17,7 @@ pub use laws::{
     a_told_file_is_given, a_walk_ends_behind_the_last_path, a_walk_stays_below_its_paths,
     a_walk_stops_at_no_told_file,
 };
-pub use paths::{OpenFailed, PathKind, Paths};
+pub use paths::{Asked, OpenFailed, PathKind, Paths};
 pub use shelf::{Shelf, ShelfReader, Shelved};
 pub use tally::Tally;
 pub use walk::{Walk, WalkFault};

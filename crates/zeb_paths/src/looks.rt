@@ -8,41 +8,72 @@ ghost use Rattle.std.specs.Fs.{IsDir, IsFile, file_type};
 ghost use Rattle.std.specs.IoError.{error_kind};
 ghost use Rattle.std.specs.declared.io.ErrorKind.TheVariants as system;
 ghost use Rattle.zeb_paths.specs.Causes.{sqlite_cause_of};
+ghost use Rattle.zeb_paths.specs.PrivateCauses as spec;
 ghost use Rattle.zeb_paths.specs.PrivateCauses.{IsFree, IsLookedUp, IsUnmade, IsUnreadBy, is_looked_up, log_cause_of, read_cause, told_by_look};
 
 use crate::causes::{PathCause, StoreCause};
+use crate::paths::Asked;
 use sqlite::{Error, ErrorCode};
 use std::fs::{self, Metadata, OpenOptions};
 use std::io::{self, Read};
 use std::os::unix::fs::MetadataExt;
 
-/// Why the path isn't read.
-pub fn why_unread(rt: &HostRuntime, path: &str) -> PathCause
-    ensures { (found : _) × IsUnreadBy found result }
+/// How many bytes a text may have that is read from a file.
+const GREATEST_TEXT: u64 = 1_048_576;
+
+/// How many bytes a file may have that is read whole.
+const GREATEST_WHOLE: u64 = 16_777_216;
+
+/// Why the path isn't read that was asked for so.
+pub fn why_unread(rt: &HostRuntime, path: &str, asked: Asked) -> PathCause
+    ensures { (found : _) × IsUnreadBy asked found result }
 {
-    match read_anew(rt, path) {
+    match read_anew(rt, path, asked) {
         Ok(cause) => cause,
         Err(error) => PathCause::from(error),
     }
 }
 
 /// Looks at a path, and reads what stands there: what it can be, where nothing fails.
-fn read_anew(rt: &HostRuntime, path: &str) -> io::Result<PathCause>
-    ensures { (found : _) × IsUnreadBy found (read_cause result) }
+fn read_anew(rt: &HostRuntime, path: &str, asked: Asked) -> io::Result<PathCause>
+    ensures { (found : _) × IsUnreadBy asked found (read_cause result) }
 {
     let found = fs::metadata(rt, path)?;
     if found.is_dir() {
         for entry in fs::read_dir(rt, path)? {
             let _named = entry?;
         }
-        return Ok(PathCause::Folder);
+        return Ok(readable_folder(asked));
     }
     if !found.is_file() {
         return Ok(PathCause::Neither);
     }
     let mut file = fs::open(rt, path)?;
     let _count = file.read(&mut [0u8])?;
-    Ok(PathCause::Content)
+    Ok(readable_file(asked, found.len()))
+}
+
+/// Why a folder isn't read that can be.
+fn readable_folder(asked: Asked) -> PathCause
+    ensures { result ≡ spec.readable_folder asked }
+{
+    match asked {
+        Asked::Step => PathCause::TooDeep,
+        Asked::Text | Asked::Bytes => PathCause::Folder,
+    }
+}
+
+/// Why a file of so many bytes isn't read that can be.
+fn readable_file(asked: Asked, bytes: u64) -> PathCause
+    ensures { result ≡ spec.readable_file asked bytes }
+{
+    match asked {
+        Asked::Text if bytes > GREATEST_TEXT => PathCause::TooLong,
+        Asked::Text => PathCause::NoText,
+        Asked::Step if bytes > GREATEST_WHOLE => PathCause::TooLong,
+        // It could not be read before.
+        Asked::Step | Asked::Bytes => PathCause::Failed,
+    }
 }
 
 /// The folder that a path stands in.

@@ -4,6 +4,7 @@ ghost use Rattle.std.specs.Prelude.{◌≡◌, ◌⊎◌, [], ℕ, Contains, Lis
 ghost use Rattle.std.specs.Prelude.{IfErr, IfOk, IfSome};
 ghost use Rattle.sqlite.specs.Held.{Held};
 ghost use Rattle.sqlite_trees.specs.View.{IsQuiet};
+ghost use Rattle.zeb_paths.specs.Closing.{HasReason};
 ghost use Rattle.zeb_paths.specs.Told.{AreNames};
 ghost use Rattle.zeb_paths.specs.declared.causes.Closed.{Closed};
 ghost use Rattle.zeb_paths.specs.declared.causes.PathCause.{PathCause};
@@ -21,6 +22,17 @@ use zeb_marc::Source;
 pub enum PathKind {
     File,
     Folder,
+}
+
+/// What a path was asked for that isn't read.
+#[derive(Clone, Copy, Debug, PartialEq, Eq)]
+pub enum Asked {
+    /// The text of a file: it has at most 1,048,576 bytes.
+    Text,
+    /// What a walk comes to: a folder, or a file that is read whole, of at most 16,777,216 bytes.
+    Step,
+    /// The bytes of a file, of which a read failed.
+    Bytes,
 }
 
 /// A store couldn't be opened.
@@ -89,7 +101,7 @@ pub trait Paths {
             → Self.Reader.may_fail result ≡ false };
 
     /// Why the path isn't read, where the paths tell that: what is met where it is looked at anew.
-    fn why_unread(&self, path: &str) -> Option<PathCause>
+    fn why_unread(&self, path: &str, asked: Asked) -> Option<PathCause>
         ensures { explains self.now path.now result };
 
     /// Whether a store may stand at a path: not where nothing stands there and one could be made in its folder.
@@ -107,9 +119,11 @@ pub trait Paths {
     /// Ends a store: what was committed in it, and stands in its log, is put into its one file. Where that fails, the log keeps it.
     fn close(&self, store: Self::Store) -> Closed
         // Whether it fails or not, and also where it is cut short: a crash finds only what it could find before.
+        // And where it isn't whole, something has kept it from that.
         ensures left { (left : Self.Store) × leaves self.now result left
             × IsQuiet Self.Store.Store.view Self.Store.Store.faults Self.Store.Store.recovers
-            Self.Store.Store.is_shielded store left };
+            Self.Store.Store.is_shielded store left
+            × HasReason Self.Store.Store.view Self.Store.Store.faults store left result };
 
     /// Ends a store that isn't used: nothing more is done to it.
     fn let_go(&self, store: Self::Store)

@@ -9,7 +9,7 @@ ghost use Rattle.zeb_paths.specs.Told.{below, first_at, is_slash, name_below, na
 ghost use Rattle.zeb_paths.specs.declared.causes.PathCause.TheVariants.{Memory as Starved};
 
 use crate::causes::{Closed, PathCause};
-use crate::paths::{OpenFailed, PathKind, Paths};
+use crate::paths::{Asked, OpenFailed, PathKind, Paths};
 use sqlite::{Alter, Connection};
 use std::alloc::{AllocError, Global};
 use zeb_marc::{ReadFailed, Slice, Source};
@@ -178,7 +178,7 @@ impl<'a, S: Alter + Drop> Paths for Shelf<'a, S> {
         }
     }
 
-    fn why_unread(&self, _path: &str) -> Option<PathCause> {
+    fn why_unread(&self, _path: &str, _asked: Asked) -> Option<PathCause> {
         None
     }
 

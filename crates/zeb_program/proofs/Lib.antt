@@ -10,6 +10,7 @@ pub mod LineLemmas
 pub mod MemoryLemmas
 pub mod NumberLemmas
 pub mod OpenedStores
+pub mod LayoutLemmas
 pub mod OverLemmas
 pub mod PathLemmas
 pub mod ReaderLemmas

@@ -9,12 +9,13 @@ use Rattle.zeb_change.specs.Reading.{NoneFailed, StayAble}
 use Rattle.zeb_program.specs.PrivateFiles.{IsGiven, ReadsBelow, ReadsContent, sure_bytes}
 use Rattle.zeb_program.specs.WalkedFiles.{FindsNthFile, WalksFrom, WalksOver}
 use Rattle.zeb_program.specs.Inputs.{AreShort, IsShort}
-use Rattle.zeb_paths.specs.Walks.{AreUnder, Due, GivesFile, GivesUnder, IsFaultUnder, IsFaultUntold, IsUnder, Tells, WalksOn, due}
+use Rattle.zeb_paths.specs.Walks.{AreUnder, Due, GivesFile, IsFaultUntold, Tells, WalksOn, due}
+use Rattle.zeb_paths.proofs.WalkLemmas.{stays_under}
 use Rattle.zeb_paths.specs.declared.walk.WalkFault.{WalkFault}
 use Rattle.zeb_paths.specs.declared.walk.WalkFault.TheVariants as walk
 use Rattle.zeb_program.specs.declared.faults.Fault.{Fault}
 use Rattle.zeb_program.specs.declared.faults.Fault.TheVariants as reason
-use Rattle.zeb_program.specs.FaultAnswers.{NamesUnder, NamesUntold}
+use Rattle.zeb_program.specs.FaultAnswers.{NamesMet, NamesUnder, NamesUntold}
 use Rattle.zeb_program.specs.PrivateFaults.{IsUnfound, IsUnread, IsUnreadAt, fault_of}
 
 -- what has been made has the bytes of the first of these files, and the paths that are left lead to the others
@@ -225,33 +226,51 @@ all_in front (path ∷ rest) =
     let here : Contains (front ++ path ∷ rest) path = Contains-append_right front (path ∷ rest) path (0, omega arith, refl) in
     ((path, here, inl refl), subst (λ named. AreUnder named rest) (append_assoc front (path ∷ []) rest) (all_in (front ++ path ∷ []) rest))
 
--- the paths of a walk that begins
-pub under_start : (named left : List (List ℕ)) → left ≡ named → AreUnder named left
-under_start named left e = subst (AreUnder named) (sym e) (all_in [] named)
+dues_paths : (named : List (List ℕ)) → map (λ here. here.path) (map (λ path. due path 1) named) ≡ named
+dues_paths [] = refl
+dues_paths (path ∷ named) = ap (λ rest. path ∷ rest) (dues_paths named)
+
+over_under : (at : Tells) (named : List (List ℕ)) (first : List Due) (files : List (List ℕ)) (left : List Due) → WalksOver at first files left → AreUnder named (map (λ here. here.path) first) → AreUnder named (map (λ here. here.path) left)
+over_under at named first [] left over all = subst (λ dues. AreUnder named (map (λ here. here.path) dues)) (sym over) all
+over_under at named first (file ∷ files) left over all = over_under at named over.1 files left over.4 (stays_under at named first over.1 (Ok (Some over.0)) over.2 all).1
+
+-- what a walk leaves
+from_under : (at : Tells) (named files : List (List ℕ)) (left : List Due) → WalksFrom at named files left → AreUnder named (map (λ here. here.path) left)
+from_under at named files left from = over_under at named (map (λ path. due path 1) named) files left from (subst (AreUnder named) (sym (dues_paths named)) (all_in [] named))
+
+-- a path that a walk comes to is one of those that it is of, or stands below one
+pub met_under : (at : Tells) (Whole : Type 0) (named : List (List ℕ)) (why : Fault) → NamesMet at Whole named why → NamesUnder named why
+met_under at Whole named (reason.Unreadable path) (inl (files, left, later, from, on)) = (stays_under at named left later (Err (walk.Unreadable path)) on (from_under at named files left from)).0
+met_under at Whole named (reason.Unreadable path) (inr (whole, (files, left, later, from, on))) = (stays_under at named left later (Ok (Some path)) on (from_under at named files left from)).0
+met_under at Whole named (reason.Profile file fault) met = tt
+met_under at Whole named (reason.Refused refusal) met = tt
+met_under at Whole named reason.Memory met = tt
 
 -- a walk that can't go on
-pub under_fault : (named : List (List ℕ)) (why : WalkFault) (given : Fault) → given ≡ fault_of why → IsFaultUnder named why → NamesUnder named given
-under_fault named (walk.Unreadable path) given is under = subst (NamesUnder named) (sym is) under
-under_fault named walk.Memory given is under = subst (NamesUnder named) (sym is) tt
+stopped_fault : (at : Tells) (Whole : Type 0) (named files : List (List ℕ)) (left later : List Due) (why : WalkFault) (given : Fault) → given ≡ fault_of why → WalksFrom at named files left → WalksOn at left (Err why) later → NamesMet at Whole named given
+stopped_fault at Whole named files left later (walk.Unreadable path) given is from on = subst (NamesMet at Whole named) (sym is) (inl (files, left, later, from, on))
+stopped_fault at Whole named files left later walk.Memory given is from on = subst (NamesMet at Whole named) (sym is) tt
 
--- a file that can't be read
-pub under_file : (named : List (List ℕ)) (path : String Global) (given : Fault) → (given ≡ reason.Unreadable path) ⊎ (given ≡ reason.Memory) → IsUnder named (string_bytes path) → NamesUnder named given
-under_file named path given (inl is) under = subst (NamesUnder named) (sym is) under
-under_file named path given (inr is) under = subst (NamesUnder named) (sym is) tt
+pub stopped_faults : {X : Type 0} (at : Tells) (Whole : Type 0) (named files : List (List ℕ)) (left later : List Due) (why : WalkFault) (r : Result X Fault) → IfErr r (λ given. IsUnread given × (given ≡ fault_of why)) → WalksFrom at named files left
+    → WalksOn at left (Err why) later → IfErr r (NamesMet at Whole named)
+stopped_faults at Whole named files left later why (Ok x) is from on = tt
+stopped_faults at Whole named files left later why (Err given) is from on = stopped_fault at Whole named files left later why given is.1 from on
 
-pub under_faults : {X : Type 0} (named : List (List ℕ)) (why : WalkFault) (r : Result X Fault) → IfErr r (λ given. IsUnread given × (given ≡ fault_of why)) → IsFaultUnder named why → IfErr r (NamesUnder named)
-under_faults named why (Ok x) is under = tt
-under_faults named why (Err given) is under = under_fault named why given is.1 under
+-- a file that can't be read whole
+pub met_file : {X : Type 0} (at : Tells) (Whole : Type 0) (named files : List (List ℕ)) (left later : List Due) (path : String Global) (r : Result X Fault) (why : Fault) → Whole → r ≡ Err why → (why ≡ reason.Unreadable path) ⊎ (why ≡ reason.Memory)
+    → WalksFrom at named files left → WalksOn at left (Ok (Some path)) later → IfErr r (NamesMet at Whole named)
+met_file at Whole named files left later path r why whole same (inl is) from on = subst (λ it. IfErr it (NamesMet at Whole named)) (sym same) (subst (NamesMet at Whole named) (sym is) (inr (whole, (files, left, later, from, on))))
+met_file at Whole named files left later path r why whole same (inr is) from on = subst (λ it. IfErr it (NamesMet at Whole named)) (sym same) (subst (NamesMet at Whole named) (sym is) tt)
 
 untold_fault : (tells : List ℕ → Option (List ℕ)) (why : WalkFault) (given : Fault) → given ≡ fault_of why → IsFaultUntold tells why → NamesUntold tells given
 untold_fault tells (walk.Unreadable path) given is untold = subst (NamesUntold tells) (sym is) untold
 untold_fault tells walk.Memory given is untold = subst (NamesUntold tells) (sym is) tt
 
 -- some of the files aren't found
-pub unfound_faults : {X : Type 0} (tells : List ℕ → Option (List ℕ)) (named : List (List ℕ)) (why : WalkFault) (r : Result X Fault) → IfErr r (λ given. IsUnread given × (given ≡ fault_of why)) → IsFaultUntold tells why → IsFaultUnder named why
-    → IfErr r (IsUnfound tells named)
-unfound_faults tells named why (Ok x) is untold under = tt
-unfound_faults tells named why (Err given) is untold under = (is.0, untold_fault tells why given is.1 untold, under_fault named why given is.1 under)
+pub unfound_faults : {X : Type 0} (at : Tells) (named files : List (List ℕ)) (left later : List Due) (why : WalkFault) (r : Result X Fault) → IfErr r (λ given. IsUnread given × (given ≡ fault_of why)) → IsFaultUntold at.bytes why → WalksFrom at named files left
+    → WalksOn at left (Err why) later → IfErr r (IsUnfound at named)
+unfound_faults at named files left later why (Ok x) is untold from on = tt
+unfound_faults at named files left later why (Err given) is untold from on = (is.0, untold_fault at.bytes why given is.1 untold, stopped_fault at ⊥ named files left later why given is.1 from on)
 
 -- where a walk can't go on no bytes are told
 none_told : (told : Option (List ℕ)) → ((bytes : List ℕ) → told ≢ Some bytes) → IfSome told (λ bytes. ¬ IsShort bytes)
@@ -265,6 +284,3 @@ unread_fault tells walk.Memory given is untold = subst (IsUnreadAt tells) (sym i
 pub unread_faults : {X : Type 0} (tells : List ℕ → Option (List ℕ)) (why : WalkFault) (r : Result X Fault) → IfErr r (λ given. IsUnread given × (given ≡ fault_of why)) → IsFaultUntold tells why → IfErr r (IsUnreadAt tells)
 unread_faults tells why (Ok x) is untold = tt
 unread_faults tells why (Err given) is untold = unread_fault tells why given is.1 untold
-
-pub under_files : {X : Type 0} (named : List (List ℕ)) (path : String Global) (r : Result X Fault) (why : Fault) → r ≡ Err why → (why ≡ reason.Unreadable path) ⊎ (why ≡ reason.Memory) → IsUnder named (string_bytes path) → IfErr r (NamesUnder named)
-under_files named path r why same is under = subst (λ it. IfErr it (NamesUnder named)) (sym same) (under_file named path why is under)

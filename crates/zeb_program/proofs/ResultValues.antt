@@ -6,8 +6,8 @@ unwrapped (Ok value) P other ok err = ok
 unwrapped (Err fault) P other ok err = err
 
 -- what is said of a value, and of one that is made of it
-pub made_of : {T E V F : Type 0} (from : Result T E) (to : Result V F) (P : T → Type 0) (Q : T → V → Type 0) (R : V → Type 0) (why : F)
-    → IfOk from P → IfOk from (λ value. IfOk to (Q value)) → OnErr from (to ≡ Err why) → ((value : T) (made : V) → P value → Q value made → R made) → IfOk to R
+pub made_of : {T E V F : Type 0} (from : Result T E) (to : Result V F) (P : T → Type 0) (Q : T → V → Type 0) (R : V → Type 0) (why : E → F)
+    → IfOk from P → IfOk from (λ value. IfOk to (Q value)) → IfErr from (λ fault. to ≡ Err (why fault)) → ((value : T) (made : V) → P value → Q value made → R made) → IfOk to R
 made_of (Ok value) (Ok made) P Q R why one both never so = so value made one both
 made_of (Ok value) (Err fault) P Q R why one both never so = tt
 made_of (Err none) (Ok made) P Q R why one both never so = absurd cc

@@ -1,6 +1,6 @@
 -- What a task is answered.
 use Rattle.std.proofs.Common.{◌≡◌, ◌⊎◌, [], inl, inr, ℕ, List, map, refl, subst, sym, Vec}
-use Rattle.std.specs.Prelude.{IfErr, Option, Result, Ok, Err, String, string_bytes}
+use Rattle.std.specs.Prelude.{⊤, IfErr, Option, Result, Ok, Err, String, string_bytes}
 use Rattle.std.specs.declared.alloc.Global.{Global}
 use Rattle.sqlite.specs.State.{State}
 use Rattle.zeb_change.specs.Conditions.{Conditions}
@@ -19,11 +19,10 @@ use Rattle.zeb_image.specs.NameOf.{name_bytes}
 use Rattle.zeb_image.specs.declared.names.DbName.{DbName}
 use Rattle.zeb_program.specs.Answers.{ChangesBy}
 use Rattle.zeb_program.specs.PrivateFaults.{IsUnread}
-use Rattle.zeb_program.specs.FaultAnswers.{IsUnreadWhole, NamesUnder, Reaches}
+use Rattle.zeb_program.specs.FaultAnswers.{IsUnreadWhole, NamesMet, Reaches}
 use Rattle.zeb_program.specs.OverTables.{AnalysesOver, IsAnalysisOver}
-use Rattle.zeb_program.specs.PrivateServing.{StandsFor}
 use Rattle.zeb_program.specs.Serving.{AnswersFrom, ServesTask}
-use Rattle.zeb_program.specs.TaskAnswers.{AnalysesFiles, AnswersCommand, AreTold, paths_of}
+use Rattle.zeb_program.specs.TaskAnswers.{AnalysesFiles, AnswersCommand, AreTold, ReadsWhole, paths_of}
 use Rattle.zeb_program.specs.declared.faults.Fault.{Fault}
 use Rattle.zeb_program.specs.declared.faults.Fault.TheVariants as fault
 use Rattle.zeb_program.specs.declared.tasks.Served.{Served}
@@ -82,22 +81,22 @@ module _ (told : List ℕ → Option (List ℕ)) (c : Conditions) (task : Task) 
 -- ---- the path that can't be read
 
 -- a fault that isn't that names none
-under_read : (named : List (List ℕ)) (why : Fault) → ¬ IsUnread why → NamesUnder named why
-under_read named (fault.Unreadable path) not = absurd (not tt)
-under_read named (fault.Profile file why) not = tt
-under_read named (fault.Refused why) not = tt
-under_read named fault.Memory not = tt
+met_read : (at : Tells) (Whole : Type 0) (named : List (List ℕ)) (why : Fault) → ¬ IsUnread why → NamesMet at Whole named why
+met_read at Whole named (fault.Unreadable path) not = absurd (not tt)
+met_read at Whole named (fault.Profile file why) not = tt
+met_read at Whole named (fault.Refused why) not = tt
+met_read at Whole named fault.Memory not = tt
 
 -- a task that names no path
-pub asked_reaches : (at : Tells) (task : Task) (command : Command) (r : Result Reply Fault) → task ≡ Ask command → IfErr r (λ why. ¬ IsUnread why) → Reaches at (paths_of task) r
+pub asked_reaches : (at : Tells) (task : Task) (command : Command) (r : Result Reply Fault) → task ≡ Ask command → IfErr r (λ why. ¬ IsUnread why) → Reaches at (ReadsWhole task) (paths_of task) r
 asked_reaches at task command (Ok reply) is h = subst (λ t. FindsAll at (paths_of t)) (sym is) ([], [], [], refl, at_end)
-asked_reaches at task command (Err why) is h = under_read (paths_of task) why h
+asked_reaches at task command (Err why) is h = met_read at (ReadsWhole task) (paths_of task) why h
 
 -- the paths that a task names
 pub change_reaches : (at : Tells) (task : Task) (kind : Kind) (database : DbName) (paths : Vec (String Global) Global) (named : List (String Global)) (r : Result Reply Fault) → task ≡ Change kind database paths → named ≡ paths.items
-    → Reaches at (map string_bytes named) r → Reaches at (paths_of task) r
-change_reaches at task kind database paths named r is same h = subst (λ t. Reaches at (paths_of t) r) (sym is) (subst (λ items. Reaches at (map string_bytes items) r) same h)
+    → Reaches at ⊥ (map string_bytes named) r → Reaches at (ReadsWhole task) (paths_of task) r
+change_reaches at task kind database paths named r is same h = subst (λ t. Reaches at (ReadsWhole t) (paths_of t) r) (sym is) (subst (λ items. Reaches at ⊥ (map string_bytes items) r) same h)
 
 pub analysis_reaches : (at : Tells) (task : Task) (paths : Vec (String Global) Global) (named : List (String Global)) (r : Result Served Fault) → task ≡ Analyse paths → named ≡ paths.items
-    → Reaches at (map string_bytes named) r → Reaches at (paths_of task) r
-analysis_reaches at task paths named r is same h = subst (λ t. Reaches at (paths_of t) r) (sym is) (subst (λ items. Reaches at (map string_bytes items) r) same h)
+    → Reaches at ⊤ (map string_bytes named) r → Reaches at (ReadsWhole task) (paths_of task) r
+analysis_reaches at task paths named r is same h = subst (λ t. Reaches at (ReadsWhole t) (paths_of t) r) (sym is) (subst (λ items. Reaches at ⊤ (map string_bytes items) r) same h)

@@ -7,8 +7,9 @@ use Rattle.zeb_words.specs.declared.words.Usage.TheVariants as usage
 use Rattle.zeb_program.specs.declared.tasks.Task.{Task}
 use Rattle.zeb_words.specs.Names.{NamesWords}
 use Rattle.zeb_words.specs.declared.words.Act.TheVariants.{Batch, Shell}
+use Rattle.zeb_words.specs.declared.words.LayoutChoice.{LayoutChoice}
 use Rattle.zeb_words.specs.declared.words.Words.{Words}
-use Rattle.zeb_program.specs.Errands.{IsTaskOf}
+use Rattle.zeb_program.specs.Errands.{IsTaskOf, choice_of}
 use Rattle.zeb_program.specs.Registers.{Places}
 use Rattle.zeb_program.specs.WordAnswers.{AnswersWords, misused, batched, served, named, EndsWords, NamesTask, StopsWords, stopped_task, stopped_batch, stopped_shell, TellsApart, TellsUsage}
 use Rattle.zeb_program.specs.WordRuns.{RunsBatch, RunsShell, StopsBatch, StopsShell}
@@ -40,7 +41,7 @@ AnswersWords-kept at words given left unread old mid new fault_old fault_mid fau
     passed (inl there) = inl there
     passed (inr same) = inr (Keeps-trans old mid new same kept)
 AnswersWords-kept at words given left unread old mid new fault_old fault_mid fault_new status kept fault_kept (named all task names is tells) =
-    named all task names is (TellsApart-kept at all.config task old mid new fault_old fault_mid fault_new status kept fault_kept tells)
+    named all task names is (TellsApart-kept at (choice_of all.act) all.config task old mid new fault_old fault_mid fault_new status kept fault_kept tells)
 
 StopsWords-kept : {S : Type 0} (at : Places S) (words : List (List ℕ)) (given left old mid new fault_old fault_mid fault_new : Option (List ℕ)) → Keeps mid new → Keeps fault_mid fault_new
     → StopsWords at words given left old mid fault_old fault_mid → StopsWords at words given left old new fault_old fault_new
@@ -91,12 +92,13 @@ untouched (Ok status) P Q first second = tt
 untouched (Err e) P Q first second = (first, second)
 
 -- a task
-pub task_words : {S : Type 0} (at : Places S) (words : List (List ℕ)) (given left : Option (List ℕ)) (unread : Bool) (old new fault_old fault_new : Option (List ℕ)) (all : Words) (task : Task) (failed fault_failed : Bool) (r : Result Status AllocError)
-    → NamesWords words all → IsTaskOf all.database all.act task
-    → IfOk r (λ status. failed ≡ false → fault_failed ≡ false → TellsApart at all.config task old new fault_old fault_new status)
+pub task_words : {S : Type 0} (at : Places S) (words : List (List ℕ)) (given left : Option (List ℕ)) (unread : Bool) (old new fault_old fault_new : Option (List ℕ)) (all : Words) (choice : LayoutChoice) (task : Task) (failed fault_failed : Bool) (r : Result Status AllocError)
+    → NamesWords words all → IsTaskOf all.database all.act task → choice ≡ choice_of all.act
+    → IfOk r (λ status. failed ≡ false → fault_failed ≡ false → TellsApart at choice all.config task old new fault_old fault_new status)
     → IfOk r (λ status. failed ≡ false → fault_failed ≡ false → AnswersWords at words given left unread old new fault_old fault_new status)
-task_words at words given left unread old new fault_old fault_new all task failed fault_failed (Err e) names is h = h
-task_words at words given left unread old new fault_old fault_new all task failed fault_failed (Ok status) names is h = λ sound quiet. named all task names is (h sound quiet)
+task_words at words given left unread old new fault_old fault_new all choice task failed fault_failed (Err e) names is asks h = h
+task_words at words given left unread old new fault_old fault_new all choice task failed fault_failed (Ok status) names is asks h = λ sound quiet.
+    named all task names is (subst (λ c. TellsApart at c all.config task old new fault_old fault_new status) asks (h sound quiet))
 
 pub stopped_task_words : {S W V : Type 0} (at : Places S) (contents : W → Option (List ℕ)) (fault_contents : V → Option (List ℕ)) (words : List (List ℕ)) (given left : Option (List ℕ)) (old new : W) (fault_old fault_new : V) (task : Task) (failed fault_failed : Bool) (r : Result Status AllocError)
     → NamesTask words task → OnErr r ((new ≡ old) × (fault_new ≡ fault_old))

@@ -1,6 +1,6 @@
 -- What comes of words, from the profile that they name and the register in the store at its path.
 use Rattle.std.proofs.Common.{◌≡◌, ◌⊎◌, ℕ, Bool, true, false, List, inl, inr, refl, subst, sym}
-use Rattle.std.specs.Prelude.{◌≢◌, [], Option, Some, None, Result, Ok, Err, IfOk, IfErr, IfSome, OnErr, String, codes, string_bytes}
+use Rattle.std.specs.Prelude.{Option, Some, None, Result, Ok, Err, IfOk, IfErr, IfSome, OnErr, String, codes, string_bytes}
 use Rattle.std.specs.declared.alloc.AllocError.{AllocError}
 use Rattle.std.specs.declared.alloc.Global.{Global}
 use Rattle.std.specs.Io.KnownBytes.{Appends, Keeps}
@@ -10,7 +10,6 @@ use Rattle.sqlite.specs.State.{HasCleanDisk, State}
 use Rattle.sqlite.specs.Store.{Ghosts}
 use Rattle.zeb_change.specs.Conditions.{Conditions}
 use Rattle.zeb_change.specs.declared.refusals.Refusal.{Refusal}
-use Rattle.zeb_change.specs.declared.refusals.Refusal.TheVariants as refusal
 use Rattle.zeb_engine.specs.declared.commands.Command.TheVariants.{Init}
 use Rattle.zeb_engine.specs.declared.replies.Reply.{Reply}
 use Rattle.zeb_engine.specs.Replies.{reply_text}
@@ -23,9 +22,7 @@ use Rattle.zeb_paths.specs.declared.causes.Closed.{Closed}
 use Rattle.zeb_paths.specs.declared.paths.OpenFailed.{OpenFailed}
 use Rattle.zeb_program.specs.declared.input.InputFault.{InputFault}
 use Rattle.zeb_program.specs.declared.input.InputFault.TheVariants.{Unreadable, Memory as Starved}
-use Rattle.zeb_program.specs.ProfileFiles.{ReadsProfile}
 use Rattle.zeb_paths.specs.declared.causes.StoreCause.{StoreCause}
-use Rattle.zeb_paths.specs.declared.causes.StoreCause.TheVariants as store_cause
 use Rattle.zeb_program.specs.declared.failures.Cause.{Cause}
 use Rattle.zeb_program.specs.declared.failures.Failure.{Failure}
 use Rattle.zeb_program.specs.declared.faults.Fault.{Fault}
@@ -36,30 +33,31 @@ use Rattle.zeb_program.specs.declared.tasks.Served.TheVariants.{Replied, Shown}
 use Rattle.zeb_program.specs.declared.tasks.Task.{Task}
 use Rattle.zeb_program.specs.declared.tasks.Task.TheVariants.{Ask}
 use Rattle.zeb_program.specs.Answers.{Writes}
-use Rattle.zeb_register.specs.Formats.{packed_blocks}
+use Rattle.zeb_register.specs.Formats.{Format, packed_blocks}
 use Rattle.zeb_program.specs.Doing.{DoesTask, RunsText, ServesText}
-use Rattle.zeb_program.specs.FaultAnswers.{GivesAnswer, IsOpeningFailure, IsUnreadWhole, Reaches}
-use Rattle.zeb_program.specs.OverTables.{TaskOver}
-use Rattle.zeb_program.specs.FaultLines.{TellsCaused, unclosed_lines}
+use Rattle.zeb_program.specs.FaultAnswers.{GivesAnswer, IsOpeningFailure, IsUnreadWhole, Reaches, unopened_refusal}
+use Rattle.zeb_program.specs.FaultLines.{TellsCaused, TellsPlaced, unclosed_lines}
 use Rattle.zeb_program.specs.Inputs.{IsInput}
-use Rattle.zeb_program.specs.Explanations.{Explains, ExplainsUnread, refusal_cause}
+use Rattle.zeb_program.specs.Explanations.{Explains, ExplainsUnread, NamesRegister, refusal_cause}
 use Rattle.zeb_program.specs.PrivateFaults.{IsOpeningFault}
-use Rattle.zeb_program.specs.PrivateServing.{StandsFor}
+use Rattle.zeb_program.specs.PrivateServing.{CarriesOut, StandsFor}
 use Rattle.zeb_program.specs.Serving.{AnswersFrom, ServesTask}
-use Rattle.zeb_program.specs.PrivateWordRuns.{ExplainsFailure, GivesClosed, GivesFor, IsOwnOr, OpensUnder, RunsIn, RunsOnNothing, ServesIn, ServesOnNothing, TakesStore}
-use Rattle.zeb_program.specs.Registers.{ClosesStore, FailsOpening, shut, given_back, FromStore, IsGivenBack, IsLetGo, IsTakenOver, HasStore, LacksStore, kept, none, Places, nothing_met}
-use Rattle.zeb_program.specs.ScriptAnswers.{AnswersStopped, AreScriptConditions, RunsFromNothing}
+use Rattle.zeb_program.specs.PrivateWordRuns.{ExplainsFailure, GivesClosed, GivesFor, IsOwnOr, OpensUnder, RunsIn, RunsOnNothing, ServesHeld, ServesIn, ServesOnNothing, TakesIn, TakesStore}
+use Rattle.zeb_program.specs.Registers.{ClosesStore, FailsOpening, shut, given_back, FromStore, IsForeignCause, IsGivenBack, IsLetGo, IsTakenOver, HasStore, LacksStore, kept, none, Places, nothing_met}
+use Rattle.zeb_program.specs.ScriptAnswers.{AnswersStopped, AreConditionsIn, AreScriptConditions, RunsFromNothing}
 use Rattle.zeb_program.specs.TaskAnswers.{AnswersOn, AnswersTask, ReadsWhole, paths_of}
 use Rattle.zeb_program.specs.WordAnswers.{TellsApart, WarnsClosed}
 use Rattle.zeb_program.specs.WordRuns.{IsText, Performs, ReadsAt, RunsBatch, batch_stopped, batch_ran, RunsLines, on_store, in_memory, no_memory, no_register, RunsShell, shell_stopped, shell_ran}
 use Rattle.zeb_program.specs.WordRuns.{ServesUnder, answered, starved, unopened, none_made, StopsOpening, StopsReading, not_opened, TellsWhy, WritesReply}
+use Rattle.zeb_words.specs.declared.words.LayoutChoice.{LayoutChoice}
+use Rattle.zeb_words.specs.declared.words.LayoutChoice.TheVariants.{Unsaid}
 use Rattle.zeb_program.specs.Closings.{TellsClosed}
 use Rattle.zeb_program.specs.declared.statuses.Status.{Status}
 use Rattle.zeb_program.specs.Statuses.{IsFaultStatus, closing_status}
 use Rattle.zeb_program.proofs.ScriptAnswerLemmas.{RunsFromNothing-kept, RunsText-kept, Writes-kept, silent_batch}
 use Rattle.zeb_program.proofs.ShellTextLemmas.{ServesText-kept}
 use Rattle.zeb_program.specs.Scripts.{BeginsRegister}
-use Rattle.zeb_program.proofs.ExplanationLemmas.{fails_so, opening_explained}
+use Rattle.zeb_program.proofs.ExplanationLemmas.{fails_so, opening_explained, unopened_so}
 use Rattle.zeb_program.proofs.ResultValues.{failing, second_same}
 
 -- ---- what is passed on stays what it was
@@ -68,47 +66,49 @@ pub TellsClosed-kept : (old mid new : Option (List ℕ)) (closed : Closed) → K
 TellsClosed-kept old mid new closed stays t =
     (λ whole. Keeps-trans old mid new (t.0 whole) stays, λ part. Appends-kept old mid new (unclosed_lines closed.cause) (t.1 part) stays)
 
-WritesReply-kept : {S : Type 0} (at : Places S) (config : String Global) (task : Task) (closed : Closed) (old mid new : Option (List ℕ)) → Keeps mid new → WritesReply at config task closed old mid → WritesReply at config task closed old new
-WritesReply-kept at config task closed old mid new stays w = (w.0, w.1, Appends-kept old mid new (reply_text w.0) w.2 stays)
+WritesReply-kept : {S : Type 0} (at : Places S) (choice : LayoutChoice) (config : String Global) (task : Task) (closed : Closed) (old mid new : Option (List ℕ)) → Keeps mid new → WritesReply at choice config task closed old mid → WritesReply at choice config task closed old new
+WritesReply-kept at choice config task closed old mid new stays w = (w.0, w.1, Appends-kept old mid new (reply_text w.0) w.2 stays)
 
-pub TellsApart-kept : {S : Type 0} (at : Places S) (config : String Global) (task : Task) (old mid new fault_old fault_mid fault_new : Option (List ℕ)) (status : Status) → Keeps mid new → Keeps fault_mid fault_new
-    → TellsApart at config task old mid fault_old fault_mid status → TellsApart at config task old new fault_old fault_new status
-TellsApart-kept at config task old mid new fault_old fault_mid fault_new status stays fault_kept (inl (closed, is, writes, warned)) =
-    inl (closed, is, WritesReply-kept at config task closed old mid new stays writes, (warned.0, warned.1, TellsClosed-kept warned.0 fault_mid fault_new closed fault_kept warned.2))
-TellsApart-kept at config task old mid new fault_old fault_mid fault_new status stays fault_kept (inr t) =
-    inr (t.0, Keeps-trans old mid new t.1 stays, Writes-kept fault_old fault_mid fault_new (TellsWhy at config task status) fault_kept t.2)
+pub TellsApart-kept : {S : Type 0} (at : Places S) (choice : LayoutChoice) (config : String Global) (task : Task) (old mid new fault_old fault_mid fault_new : Option (List ℕ)) (status : Status) → Keeps mid new → Keeps fault_mid fault_new
+    → TellsApart at choice config task old mid fault_old fault_mid status → TellsApart at choice config task old new fault_old fault_new status
+TellsApart-kept at choice config task old mid new fault_old fault_mid fault_new status stays fault_kept (inl (closed, is, writes, warned)) =
+    inl (closed, is, WritesReply-kept at choice config task closed old mid new stays writes, (warned.0, warned.1, TellsClosed-kept warned.0 fault_mid fault_new closed fault_kept warned.2))
+TellsApart-kept at choice config task old mid new fault_old fault_mid fault_new status stays fault_kept (inr t) =
+    inr (t.0, Keeps-trans old mid new t.1 stays, Writes-kept fault_old fault_mid fault_new (TellsWhy at choice config task status) fault_kept t.2)
 
 -- what is said of a store's tables
-pub from_kept : {S : Type 0} (at : Places S) (profile : List Directive) (closed : Closed) (P Q : Held S → Held S → Type 0) → ((first last : Held S) → P first last → Q first last) → FromStore at profile closed P
-    → FromStore at profile closed Q
-from_kept at profile closed P Q so from = record {
+pub from_kept : {S : Type 0} (at : Places S) (choice : LayoutChoice) (format : Format) (profile : List Directive) (closed : Closed) (P Q : Held S → Held S → Type 0) → ((first last : Held S) → P first last → Q first last)
+    → FromStore at choice format profile closed P → FromStore at choice format profile closed Q
+from_kept at choice format profile closed P Q so from = record {
   opened = from.opened;
   taken = from.taken;
   last = from.last;
   opens = from.opens;
   takes = from.takes;
+  used = from.used;
   does = λ clean. so from.taken from.last (from.does clean);
   ends = from.ends;
 }
 
 -- of the store that was taken over, and then closed
-pub from_taken : {S : Type 0} (at : Places S) (profile : List Directive) (closed : Closed) (held last : Held S) (P : Held S → Held S → Type 0) → TakesStore at profile held
-    → (HasCleanDisk (state at.store last) → HasCleanDisk (state at.store held)) → (HasCleanDisk (state at.store last) → P held last) → ClosesStore at.store at.leaves last closed → FromStore at profile closed P
-from_taken at profile closed held last P takes clean does ends = record {
-  opened = takes.0;
+pub from_taken : {S : Type 0} (at : Places S) (choice : LayoutChoice) (format : Format) (profile : List Directive) (closed : Closed) (held last : Held S) (P : Held S → Held S → Type 0) → TakesIn at choice format profile held
+    → (HasCleanDisk (state at.store last) → HasCleanDisk (state at.store held)) → (HasCleanDisk (state at.store last) → P held last) → ClosesStore at.store at.leaves last closed → FromStore at choice format profile closed P
+from_taken at choice format profile closed held last P takes clean does ends = record {
+  opened = takes.0.0;
   taken = held;
   last = last;
-  opens = takes.1;
-  takes = λ whole. takes.2 (clean whole);
+  opens = takes.0.1;
+  takes = λ whole. takes.0.2 (clean whole);
+  used = λ whole. takes.1 (clean whole);
   does = does;
   ends = ends;
 }
 
 RunsLines-kept : {S : Type 0} (at : Places S) (profile : List Directive) (text : List ℕ) (old mid new fault_old fault_mid fault_new : Option (List ℕ)) (status : Status) → Keeps mid new → Keeps fault_mid fault_new
     → RunsLines at profile text old mid fault_old fault_mid status → RunsLines at profile text old new fault_old fault_new status
-RunsLines-kept at profile text old mid new fault_old fault_mid fault_new _ same fault_same (on_store c here closed under may from closes) =
-    on_store c here closed under may
-    (from_kept at profile closed (RunsText at.store at.tells packed_blocks c 0 text old mid here) (RunsText at.store at.tells packed_blocks c 0 text old new here) (λ first last. RunsText-kept at.store at.tells packed_blocks c 0 text old mid new here first last same) from)
+RunsLines-kept at profile text old mid new fault_old fault_mid fault_new _ same fault_same (on_store format c here closed under may from closes) =
+    on_store format c here closed under may
+    (from_kept at Unsaid format profile closed (RunsText at.store at.tells format c 0 text old mid here) (RunsText at.store at.tells format c 0 text old new here) (λ first last. RunsText-kept at.store at.tells format c 0 text old mid new here first last same) from)
     (TellsClosed-kept fault_old fault_mid fault_new closed fault_same closes)
 RunsLines-kept at profile text old mid new fault_old fault_mid fault_new status same fault_same (in_memory lacks unmade quiet opened) =
     in_memory lacks unmade (Keeps-trans fault_old fault_mid fault_new quiet fault_same) (RunsFromNothing-kept at.tells profile 0 text old mid new status same opened)
@@ -133,31 +133,42 @@ pub RunsShell-kept : {S : Type 0} (at : Places S) (config : String Global) (give
     → RunsShell at config given left failed old mid fault_old fault_mid status → RunsShell at config given left failed old new fault_old fault_new status
 RunsShell-kept at config given left failed old mid new fault_old fault_mid fault_new status same fault_same (shell_stopped why cause is unread quiet tells) =
     shell_stopped why cause is unread (Keeps-trans old mid new quiet same) (Writes-kept fault_old fault_mid fault_new (λ bytes. TellsCaused why cause bytes status) fault_same tells)
-RunsShell-kept at config given left failed old mid new fault_old fault_mid fault_new _ same fault_same (shell_ran profile c between here closed read under from closes) =
-    shell_ran profile c between here closed read under
-    (from_kept at profile closed (λ first last. IfSome given (λ text. ServesText at.store at.tells packed_blocks c text left failed old mid fault_old between here first last))
-    (λ first last. IfSome given (λ text. ServesText at.store at.tells packed_blocks c text left failed old new fault_old between here first last))
-    (λ first last. some_kept given (λ text. ServesText at.store at.tells packed_blocks c text left failed old mid fault_old between here first last) (λ text. ServesText at.store at.tells packed_blocks c text left failed old new fault_old between here first last)
-    (λ text. ServesText-kept at.store at.tells packed_blocks c text left failed old mid new fault_old between here first last same)) from)
+RunsShell-kept at config given left failed old mid new fault_old fault_mid fault_new _ same fault_same (shell_ran profile format c between here closed read under from closes) =
+    shell_ran profile format c between here closed read under
+    (from_kept at Unsaid format profile closed (λ first last. IfSome given (λ text. ServesText at.store at.tells format c text left failed old mid fault_old between here first last))
+    (λ first last. IfSome given (λ text. ServesText at.store at.tells format c text left failed old new fault_old between here first last))
+    (λ first last. some_kept given (λ text. ServesText at.store at.tells format c text left failed old mid fault_old between here first last) (λ text. ServesText at.store at.tells format c text left failed old new fault_old between here first last)
+    (λ text. ServesText-kept at.store at.tells format c text left failed old mid new fault_old between here first last same)) from)
     (TellsClosed-kept between fault_mid fault_new closed fault_same closes)
 
 -- ---- a task
 
 -- a task that has its own answer, or memory ran out in the program itself
-own_served : {S : Type 0} (at : Places S) (profile : List Directive) (task : Task) (closed : Closed) (own answer : Result Reply Fault) → IsOwnOr answer own → ServesUnder at profile task closed own → ServesUnder at profile task closed answer
-own_served at profile task closed own answer (inl is) serves = subst (ServesUnder at profile task closed) (sym is) serves
-own_served at profile task closed own answer (inr is) serves = subst (ServesUnder at profile task closed) (sym is) starved
+own_served : {S : Type 0} (at : Places S) (choice : LayoutChoice) (profile : List Directive) (task : Task) (closed : Closed) (own answer : Result Reply Fault) → IsOwnOr answer own → ServesUnder at choice profile task closed own → ServesUnder at choice profile task closed answer
+own_served at choice profile task closed own answer (inl is) serves = subst (ServesUnder at choice profile task closed) (sym is) serves
+own_served at choice profile task closed own answer (inr is) serves = subst (ServesUnder at choice profile task closed) (sym is) starved
 
 -- a task on the register in the store
-pub answered_kept : {S : Type 0} (at : Places S) (profile : List Directive) (task : Task) (closed : Closed) (tells : List ℕ → Option (List ℕ)) (c : Conditions) (held last : Held S) (own answer : Result Reply Fault)
-    → tells ≡ at.tells → HasStore at profile ⊎ (task ≡ Ask Init) → AreScriptConditions profile c → TakesStore at profile held
-    → (HasCleanDisk (state at.store last) → HasCleanDisk (state at.store held)) → (HasCleanDisk (state at.store last) → TaskOver tells packed_blocks c task (state at.store held) (state at.store last) own)
-    → (HasCleanDisk (state at.store last) → ServesTask tells c task (state at.store held) (state at.store last) own)
-    → Reaches at.sees (paths_of task) own → ClosesStore at.store at.leaves last closed → IsOwnOr answer own → ServesUnder at profile task closed answer
-answered_kept at profile task closed tells c held last own answer same may under takes clean over serves named ends is =
-    let does : HasCleanDisk (state at.store last) → DoesTask at.store at.tells at.sees c task own held last =
-    subst (λ t. HasCleanDisk (state at.store last) → DoesTask at.store t at.sees c task own held last) same (λ whole. record { over = over whole; reaches = named; serves = serves whole }) in
-    own_served at profile task closed own answer is (answered c under (kept may (from_taken at profile closed held last (DoesTask at.store at.tells at.sees c task own) takes clean does ends)))
+pub answered_kept : {S : Type 0} (at : Places S) (choice : LayoutChoice) (format : Format) (profile : List Directive) (task : Task) (tells : List ℕ → Option (List ℕ)) (c : Conditions) (held : Held S) (closed : Closed) (answer : Result Reply Fault)
+    → tells ≡ at.tells → HasStore at profile ⊎ (task ≡ Ask Init) → AreConditionsIn format profile c → TakesIn at choice format profile held
+    → ServesHeld at.store at.leaves tells at.sees format c task held closed answer → ServesUnder at choice profile task closed answer
+answered_kept at choice format profile task tells c held closed answer same may under takes serves =
+    let s = subst (λ t. ServesHeld at.store at.leaves t at.sees format c task held closed answer) same serves in
+    own_served at choice profile task closed s.own answer s.is
+    (answered format c under (kept may (from_taken at choice format profile closed held s.last (DoesTask at.store at.tells at.sees format c task s.own) takes s.clean s.does s.ends)))
+
+-- carried out in a session, which is then closed
+pub served_held : {S : Type 0} (g : Ghosts S) (leaves : Closed → S → Type 0) (tells : List ℕ → Option (List ℕ)) (at : Tells) (format : Format) (c : Conditions) (task : Task) (held last : Held S) (closed : Closed) (own answer : Result Reply Fault)
+    → (HasCleanDisk (state g last) → HasCleanDisk (state g held)) → CarriesOut tells at format c task (state g held) (state g last) own
+    → ClosesStore g leaves last closed → IsOwnOr answer own → ServesHeld g leaves tells at format c task held closed answer
+served_held g leaves tells at format c task held last closed own answer clean done ends is = record {
+  own = own;
+  is = is;
+  last = last;
+  clean = clean;
+  does = λ whole. record { over = done.over whole; reaches = done.reaches; serves = done.serves whole };
+  ends = ends;
+}
 
 -- what comes of it, by its parts
 pub gives_for : (r : Result Told Failure) (P Q : Result Reply Fault → Type 0) → ((answer : Result Reply Fault) → P answer → Q answer) → GivesFor r P → GivesFor r Q
@@ -182,23 +193,23 @@ begun_or A B begins (inl a) so = inl a
 begun_or A B begins (inr is) so = inr (so is)
 
 -- a register wasn't opened
-pub unopened_register : {S : Type 0} (at : Places S) (profile : List Directive) (task : Task) (r : Result Told Failure) (failure : Failure) → HasStore at profile ⊎ (task ≡ Ask Init) → r ≡ Err failure → IsOpeningFault at profile failure.fault failure.cause
-    → GivesClosed r (ServesUnder at profile task) (ExplainsFailure at.sees at.explains (paths_of task))
-unopened_register at profile task r failure may is fails =
-    subst (λ it. GivesClosed it (ServesUnder at profile task) (ExplainsFailure at.sees at.explains (paths_of task))) (sym is) (go failure.fault failure.cause fails)
+pub unopened_register : {S : Type 0} (at : Places S) (choice : LayoutChoice) (profile : List Directive) (task : Task) (r : Result Told Failure) (failure : Failure) → HasStore at profile ⊎ (task ≡ Ask Init) → r ≡ Err failure → IsOpeningFault at profile failure.fault failure.cause
+    → GivesClosed r (ServesUnder at choice profile task) (ExplainsFailure at.sees at.explains (paths_of task))
+unopened_register at choice profile task r failure may is fails =
+    subst (λ it. GivesClosed it (ServesUnder at choice profile task) (ExplainsFailure at.sees at.explains (paths_of task))) (sym is) (go failure.fault failure.cause fails)
   where
     go : (why : Fault) (cause : Option Cause) → IsOpeningFault at profile why cause
-        → (closed : Closed) × ServesUnder at profile task closed (Err why) × Explains at.sees at.explains (paths_of task) closed.cause why cause
-    go (fault.Refused why) cause (met, failing, told) = (record { is_whole = true; cause = met }, unopened may failing, opening_explained at.sees (paths_of task) met why cause told (fails_so at profile why met failing))
+        → (closed : Closed) × ServesUnder at choice profile task closed (Err why) × Explains at.sees at.explains (paths_of task) closed.cause why cause
+    go (fault.Refused why) cause (met, failing, told) = (record { is_whole = true; cause = met }, unopened may failing, opening_explained at.sees at.explains (paths_of task) met why cause told (fails_so at profile why met failing))
     go (fault.Profile file why) cause is = absurd is
     go (fault.Unreadable path) cause is = absurd is
     go fault.Memory cause is = absurd is
 
 -- a task on nothing, where no store stands
-pub on_nothing : {S : Type 0} (at : Places S) (profile : List Directive) (task : Task) (tells : List ℕ → Option (List ℕ)) (answer : Result Reply Fault) → tells ≡ at.tells → LacksStore at profile → ¬ (task ≡ Ask Init)
-    → ServesOnNothing tells at.sees profile task answer → ServesUnder at profile task nothing_met answer
-on_nothing at profile task tells answer same lacks other (inl h) = answered h.0 h.1 (none lacks other refl (h.2, subst (λ t. AnswersOn t h.0 task answer nothing_yet) same h.3))
-on_nothing at profile task tells answer same lacks other (inr h) = subst (ServesUnder at profile task nothing_met) (sym h.2) (none_made lacks other h.1 refl)
+pub on_nothing : {S : Type 0} (at : Places S) (choice : LayoutChoice) (profile : List Directive) (task : Task) (tells : List ℕ → Option (List ℕ)) (answer : Result Reply Fault) → tells ≡ at.tells → LacksStore at profile → ¬ (task ≡ Ask Init)
+    → ServesOnNothing tells at.sees profile task answer → ServesUnder at choice profile task nothing_met answer
+on_nothing at choice profile task tells answer same lacks other (inl h) = answered packed_blocks h.0 h.1 (none refl lacks other refl (h.2, subst (λ t. AnswersOn t h.0 task answer nothing_yet) same h.3))
+on_nothing at choice profile task tells answer same lacks other (inr h) = subst (ServesUnder at choice profile task nothing_met) (sym h.2) (none_made lacks other h.1 refl)
 
 -- what is answered on what a connection keeps is the answer on it
 given_answer : (r : Result Reply Fault) (P Q : Result Reply Refusal → Type 0) → ((answer : Result Reply Refusal) → P answer → Q answer) → GivesAnswer P r → GivesAnswer Q r
@@ -219,7 +230,7 @@ served_on told c task held last r before serves keeps files known = go (serves f
 
 -- a task on a register in memory
 pub served_nothing : (tells : List ℕ → Option (List ℕ)) (at : Tells) (profile : List Directive) (task : Task) (c : Conditions) (held last : State) (own answer : Result Reply Fault)
-    → AreScriptConditions profile c → Holding held nothing_yet → ServesTask tells c task held last own → Reaches at (paths_of task) own
+    → AreScriptConditions profile c → Holding held nothing_yet → ServesTask tells c task held last own → Reaches at (ReadsWhole task) (paths_of task) own
     → IsOwnOr answer own → ServesOnNothing tells at profile task answer
 served_nothing tells at profile task c held last own answer under keeps serves named (inl is) =
     subst (ServesOnNothing tells at profile task) (sym is) (inl (c, under, named, served_on tells c task held last own nothing_yet serves keeps))
@@ -229,41 +240,49 @@ served_nothing tells at profile task c held last own answer under keeps serves n
 -- ---- what is told of a task
 
 -- of one that is answered
-pub told_done : {S : Type 0} (at : Places S) (config : String Global) (task : Task) (old new fault_old fault_new : Option (List ℕ)) (status : Status) (told : Told) (Why : Option StoreCause → Failure → Type 0)
-    → GivesClosed (Ok told) (Performs at config task) Why → status ≡ closing_status told.closed → Appends old new told.text.items → WarnsClosed at.tells task told.closed fault_old fault_new
-    → TellsApart at config task old new fault_old fault_new status
-told_done at config task old new fault_old fault_new status told Why gives closing wrote warns =
+pub told_done : {S : Type 0} (at : Places S) (choice : LayoutChoice) (config : String Global) (task : Task) (old new fault_old fault_new : Option (List ℕ)) (status : Status) (told : Told) (Why : Option StoreCause → Failure → Type 0)
+    → GivesClosed (Ok told) (Performs at choice config task) Why → status ≡ closing_status told.closed → Appends old new told.text.items → WarnsClosed at.tells task told.closed fault_old fault_new
+    → TellsApart at choice config task old new fault_old fault_new status
+told_done at choice config task old new fault_old fault_new status told Why gives closing wrote warns =
     inl (told.closed, closing, (gives.0, gives.2, subst (Appends old new) gives.1 wrote), warns)
 
+-- the path of the register in the profile at a path of the same bytes
+named_so : (tells : List ℕ → Option (List ℕ)) (config named : String Global) (why : Fault) (register : Option (String Global)) → string_bytes named ≡ string_bytes config → NamesRegister (tells (string_bytes named)) named why register
+    → NamesRegister (tells (string_bytes config)) config why register
+named_so tells config named why None same names = tt
+named_so tells config named why (Some path) same names = subst (λ bytes. NamesRegister (tells bytes) config why (Some path)) same names
+
 -- of one that has no answer
-pub told_why : {S : Type 0} (at : Places S) (config : String Global) (task : Task) (old fault_old fault_new : Option (List ℕ)) (failure : Failure) (failed fault_failed : Bool) (r : Result Status AllocError)
-    → GivesClosed (Err failure) (Performs at config task) (ExplainsFailure at.sees at.explains (paths_of task)) → IfOk r IsFaultStatus
-    → IfOk r (λ status. fault_failed ≡ false → Writes fault_old fault_new (λ bytes. TellsCaused failure.fault failure.cause bytes status))
-    → IfOk r (λ status. failed ≡ false → fault_failed ≡ false → TellsApart at config task old old fault_old fault_new status)
-told_why at config task old fault_old fault_new failure failed fault_failed (Err e) comes is tells = tt
-told_why at config task old fault_old fault_new failure failed fault_failed (Ok status) comes is tells = λ _ sound.
+pub told_why : {S : Type 0} (at : Places S) (choice : LayoutChoice) (config named : String Global) (task : Task) (old fault_old fault_new : Option (List ℕ)) (failure : Failure) (failed fault_failed : Bool) (r : Result Status AllocError)
+    → string_bytes named ≡ string_bytes config → GivesClosed (Err failure) (Performs at choice config task) (ExplainsFailure at.sees at.explains (paths_of task)) → IfOk r IsFaultStatus
+    → IfOk r (λ status. fault_failed ≡ false → Writes fault_old fault_new (λ bytes. (register : Option (String Global)) × NamesRegister (at.sees.bytes (string_bytes named)) named failure.fault register
+    × TellsPlaced failure.fault failure.cause register bytes status))
+    → IfOk r (λ status. failed ≡ false → fault_failed ≡ false → TellsApart at choice config task old old fault_old fault_new status)
+told_why at choice config named task old fault_old fault_new failure failed fault_failed (Err e) same comes is tells = tt
+told_why at choice config named task old fault_old fault_new failure failed fault_failed (Ok status) same comes is tells = λ _ sound.
     let wrote = tells sound in
-    inr (is, Keeps-refl old, (wrote.0, (failure.fault, failure.cause, comes.0, comes.1, comes.2, wrote.1), wrote.2))
+    let names = named_so at.sees.bytes config named failure.fault wrote.1.0 same wrote.1.1 in
+    inr (is, Keeps-refl old, (wrote.0, (failure.fault, failure.cause, comes.0, comes.1, comes.2, (wrote.1.0, names, wrote.1.2)), wrote.2))
 
 -- ---- the lines of the input
 
 -- the lines of a batch on the register in the store
-pub lines_kept : {S : Type 0} (at : Places S) (profile : List Directive) (text : List ℕ) (tells : List ℕ → Option (List ℕ)) (c : Conditions) (held : Held S) (n : ℕ) (old new fault_old fault_new : Option (List ℕ)) (status : Status)
-    → n ≡ 0 → tells ≡ at.tells → HasStore at profile ⊎ BeginsRegister text → AreScriptConditions profile c → TakesStore at profile held
-    → RunsIn at.store at.leaves tells c n text held old new fault_old fault_new status → RunsLines at profile text old new fault_old fault_new status
-lines_kept at profile text tells c held n old new fault_old fault_new status first same may under takes runs =
-    let r = subst (λ t. RunsIn at.store at.leaves t c 0 text held old new fault_old fault_new status) same (subst (λ k. RunsIn at.store at.leaves tells c k text held old new fault_old fault_new status) first runs) in
+pub lines_kept : {S : Type 0} (at : Places S) (format : Format) (profile : List Directive) (text : List ℕ) (tells : List ℕ → Option (List ℕ)) (c : Conditions) (held : Held S) (n : ℕ) (old new fault_old fault_new : Option (List ℕ)) (status : Status)
+    → n ≡ 0 → tells ≡ at.tells → HasStore at profile ⊎ BeginsRegister text → AreConditionsIn format profile c → TakesIn at Unsaid format profile held
+    → RunsIn at.store at.leaves tells format c n text held old new fault_old fault_new status → RunsLines at profile text old new fault_old fault_new status
+lines_kept at format profile text tells c held n old new fault_old fault_new status first same may under takes runs =
+    let r = subst (λ t. RunsIn at.store at.leaves t format c 0 text held old new fault_old fault_new status) same (subst (λ k. RunsIn at.store at.leaves tells format c k text held old new fault_old fault_new status) first runs) in
     let whole = r.3 in
     subst (RunsLines at profile text old new fault_old fault_new) (sym r.2)
-    (on_store c r.0 r.1 under may (from_taken at profile r.1 held whole.last (RunsText at.store at.tells packed_blocks c 0 text old new r.0) takes whole.clean whole.lines whole.ends) whole.closes)
+    (on_store format c r.0 r.1 under may (from_taken at Unsaid format profile r.1 held whole.last (RunsText at.store at.tells format c 0 text old new r.0) takes whole.clean whole.lines whole.ends) whole.closes)
 
-pub run_kept : {S : Type 0} (at : Places S) (profile : List Directive) (text : List ℕ) (tells : List ℕ → Option (List ℕ)) (c : Conditions) (held : Held S) (n : ℕ) (old new fault_old fault_new : Option (List ℕ)) (failed fault_failed : Bool) (r : Result Status AllocError)
-    → n ≡ 0 → tells ≡ at.tells → HasStore at profile ⊎ BeginsRegister text → AreScriptConditions profile c → TakesStore at profile held
-    → IfOk r (λ status. failed ≡ false → fault_failed ≡ false → RunsIn at.store at.leaves tells c n text held old new fault_old fault_new status)
+pub run_kept : {S : Type 0} (at : Places S) (format : Format) (profile : List Directive) (text : List ℕ) (tells : List ℕ → Option (List ℕ)) (c : Conditions) (held : Held S) (n : ℕ) (old new fault_old fault_new : Option (List ℕ)) (failed fault_failed : Bool) (r : Result Status AllocError)
+    → n ≡ 0 → tells ≡ at.tells → HasStore at profile ⊎ BeginsRegister text → AreConditionsIn format profile c → TakesIn at Unsaid format profile held
+    → IfOk r (λ status. failed ≡ false → fault_failed ≡ false → RunsIn at.store at.leaves tells format c n text held old new fault_old fault_new status)
     → IfOk r (λ status. failed ≡ false → fault_failed ≡ false → RunsLines at profile text old new fault_old fault_new status)
-run_kept at profile text tells c held n old new fault_old fault_new failed fault_failed (Err e) first same may under takes runs = tt
-run_kept at profile text tells c held n old new fault_old fault_new failed fault_failed (Ok status) first same may under takes runs = λ sound quiet.
-    lines_kept at profile text tells c held n old new fault_old fault_new status first same may under takes (runs sound quiet)
+run_kept at format profile text tells c held n old new fault_old fault_new failed fault_failed (Err e) first same may under takes runs = tt
+run_kept at format profile text tells c held n old new fault_old fault_new failed fault_failed (Ok status) first same may under takes runs = λ sound quiet.
+    lines_kept at format profile text tells c held n old new fault_old fault_new status first same may under takes (runs sound quiet)
 
 -- on one in memory
 pub ran_on_nothing : (tells : List ℕ → Option (List ℕ)) (profile : List Directive) (n : ℕ) (text : List ℕ) (old new fault_old : Option (List ℕ)) (failed fault_failed : Bool) (r : Result Status AllocError)
@@ -340,55 +359,57 @@ shell_unopened at config given read_failed old fault_old fault_new why cause fai
 shell_unopened at config given read_failed old fault_old fault_new why cause failed fault_failed (Ok status) is tells = λ _ sound. shell_stopped why cause is refl (Keeps-refl old) (tells sound)
 
 -- its lines, on the register in the store
-shell_kept : {S : Type 0} (at : Places S) (config : String Global) (tells : List ℕ → Option (List ℕ)) (c : Conditions) (held : Held S) (given left : Option (List ℕ)) (read_failed : Bool) (old new fault_old fault_new : Option (List ℕ)) (status : Status)
-    → tells ≡ at.tells → OpensUnder at config c held → ServesIn at.store at.leaves tells c given left read_failed held old new fault_old fault_new status → RunsShell at config given left read_failed old new fault_old fault_new status
-shell_kept at config tells c held given left read_failed old new fault_old fault_new status same under serves =
-    let s = subst (λ t. ServesIn at.store at.leaves t c given left read_failed held old new fault_old fault_new status) same serves in
+shell_kept : {S : Type 0} (at : Places S) (config : String Global) (tells : List ℕ → Option (List ℕ)) (format : Format) (c : Conditions) (held : Held S) (given left : Option (List ℕ)) (read_failed : Bool) (old new fault_old fault_new : Option (List ℕ)) (status : Status)
+    → tells ≡ at.tells → OpensUnder at config format c held → ServesIn at.store at.leaves tells format c given left read_failed held old new fault_old fault_new status → RunsShell at config given left read_failed old new fault_old fault_new status
+shell_kept at config tells format c held given left read_failed old new fault_old fault_new status same under serves =
+    let s = subst (λ t. ServesIn at.store at.leaves t format c given left read_failed held old new fault_old fault_new status) same serves in
     let takes = under.3 in
     let whole = s.4 in
     subst (RunsShell at config given left read_failed old new fault_old fault_new) (sym s.3)
-    (shell_ran under.0 c s.0 s.1 s.2 under.1 under.2
-    (from_taken at under.0 s.2 held whole.last (λ first last. IfSome given (λ text. ServesText at.store at.tells packed_blocks c text left read_failed old new fault_old s.0 s.1 first last)) takes whole.clean whole.lines whole.ends)
+    (shell_ran under.0 format c s.0 s.1 s.2 under.1 under.2
+    (from_taken at Unsaid format under.0 s.2 held whole.last (λ first last. IfSome given (λ text. ServesText at.store at.tells format c text left read_failed old new fault_old s.0 s.1 first last)) takes whole.clean whole.lines whole.ends)
     whole.closes)
 
-pub shell_served : {S : Type 0} (at : Places S) (config : String Global) (tells : List ℕ → Option (List ℕ)) (c : Conditions) (held : Held S) (given left : Option (List ℕ)) (read_failed : Bool) (old new fault_old fault_new : Option (List ℕ)) (failed fault_failed : Bool) (r : Result Status AllocError)
-    → tells ≡ at.tells → OpensUnder at config c held → IfOk r (λ status. failed ≡ false → fault_failed ≡ false → ServesIn at.store at.leaves tells c given left read_failed held old new fault_old fault_new status)
+pub shell_served : {S : Type 0} (at : Places S) (config : String Global) (tells : List ℕ → Option (List ℕ)) (format : Format) (c : Conditions) (held : Held S) (given left : Option (List ℕ)) (read_failed : Bool) (old new fault_old fault_new : Option (List ℕ)) (failed fault_failed : Bool) (r : Result Status AllocError)
+    → tells ≡ at.tells → OpensUnder at config format c held → IfOk r (λ status. failed ≡ false → fault_failed ≡ false → ServesIn at.store at.leaves tells format c given left read_failed held old new fault_old fault_new status)
     → IfOk r (λ status. failed ≡ false → fault_failed ≡ false → RunsShell at config given left read_failed old new fault_old fault_new status)
-shell_served at config tells c held given left read_failed old new fault_old fault_new failed fault_failed (Err e) same under serves = tt
-shell_served at config tells c held given left read_failed old new fault_old fault_new failed fault_failed (Ok status) same under serves = λ sound quiet.
-    shell_kept at config tells c held given left read_failed old new fault_old fault_new status same under (serves sound quiet)
+shell_served at config tells format c held given left read_failed old new fault_old fault_new failed fault_failed (Err e) same under serves = tt
+shell_served at config tells format c held given left read_failed old new fault_old fault_new failed fault_failed (Ok status) same under serves = λ sound quiet.
+    shell_kept at config tells format c held given left read_failed old new fault_old fault_new status same under (serves sound quiet)
 
 -- ---- what functions give on
 
 -- the store that was opened is the one that was taken over
-pub taken_store : {S : Type 0} (at : Places S) (profile : List Directive) (path : List ℕ) (opened : Result (Held S) OpenFailed) (taken : Held S) (Never : Type 0) → store_path profile ≡ Some path → IfOk opened (at.opens path)
+pub taken_store : {S : Type 0} (at : Places S) (profile : List Directive) (path : List ℕ) (opened : Result (Held S) OpenFailed) (taken : Held S) (Never : OpenFailed → Type 0) → store_path profile ≡ Some path → IfOk opened (at.opens path)
     → IfOk opened (λ connection. HasCleanDisk (state at.store taken) → IsTakenOver at.store connection taken)
-    → OnErr opened Never → (Never → ⊥) → TakesStore at profile taken
+    → IfErr opened Never → ((failed : OpenFailed) → Never failed → ⊥) → TakesStore at profile taken
 taken_store at profile path (Ok connection) taken Never named opens keeps failed never = (connection, (path, named, opens), keeps)
-taken_store at profile path (Err why) taken Never named opens keeps failed never = absurd (never failed)
+taken_store at profile path (Err why) taken Never named opens keeps failed never = absurd (never why failed)
 
 -- or there is none, and what was opened, if it was, is let go
 pub fails_opening : {S : Type 0} (T : Type 0) (at : Places S) (profile : List Directive) (path : List ℕ) (opened : Result (Held S) OpenFailed) (back : Option (Held S)) (why : Refusal) (met : Option StoreCause) → store_path profile ≡ Some path → IfOk opened (at.opens path)
-    → IfErr opened (λ failed. at.refuses path failed.cause) → OnErr opened (failing T (Option (Held S)) Refusal back why ≡ failing T (Option (Held S)) Refusal None refusal.Store)
-    → IfOk opened (λ connection. (state at.store connection).now.schema.tables ≡ [] → met ≡ None) → IfOk opened (λ connection. (state at.store connection).now.schema.tables ≢ [] → met ≡ Some store_cause.Foreign)
+    → IfErr opened (λ failed. at.refuses path failed.cause) → IfErr opened (λ failed. failing T (Option (Held S)) Refusal back why ≡ failing T (Option (Held S)) Refusal None (unopened_refusal failed.cause))
+    → IfOk opened (λ connection. IsForeignCause (state at.store connection) met)
     → IfErr opened (λ failed. met ≡ failed.cause)
     → IfOk opened (λ connection. (left : Held S) × (back ≡ Some left) × IsGivenBack at.store connection left why) → IfSome back (IsLetGo at.store at.lets_go) → FailsOpening at profile why met
-fails_opening T at profile path (Ok connection) back why met named opens refuses lost bare other is given gone =
-    given_back connection given.0 (path, named, opens) (bare, other) given.2 (subst (λ b. IfSome b (IsLetGo at.store at.lets_go)) given.1 gone)
-fails_opening {S} T at profile path (Err failed) back why met named opens refuses lost bare other is given gone =
-    subst (λ it. FailsOpening at profile it met) (sym (second_same T (Option (Held S)) Refusal back None why refusal.Store lost)) (shut path named (subst (at.refuses path) (sym is) refuses))
+fails_opening T at profile path (Ok connection) back why met named opens refuses lost other is given gone =
+    given_back connection given.0 (path, named, opens) other given.2 (subst (λ b. IfSome b (IsLetGo at.store at.lets_go)) given.1 gone)
+fails_opening {S} T at profile path (Err failed) back why met named opens refuses lost other is given gone =
+    let same : why ≡ unopened_refusal failed.cause = second_same T (Option (Held S)) Refusal back None why (unopened_refusal failed.cause) lost in
+    subst (λ it. FailsOpening at profile it met) (sym same) (subst (λ it. FailsOpening at profile (unopened_refusal failed.cause) it) (sym is) (shut path named refuses))
 
 -- of the store or of the memory
-pub fails_anyway : {S : Type 0} (T : Type 0) (opened : Result (Held S) OpenFailed) (g : Ghosts S) (back : Option (Held S)) (why : Refusal) → OnErr opened (failing T (Option (Held S)) Refusal back why ≡ failing T (Option (Held S)) Refusal None refusal.Store)
+pub fails_anyway : {S : Type 0} (T : Type 0) (opened : Result (Held S) OpenFailed) (g : Ghosts S) (back : Option (Held S)) (why : Refusal) → IfErr opened (λ failed. failing T (Option (Held S)) Refusal back why ≡ failing T (Option (Held S)) Refusal None (unopened_refusal failed.cause))
     → IfOk opened (λ connection. (left : Held S) × (back ≡ Some left) × IsGivenBack g connection left why) → IsOpeningFailure why
 fails_anyway T (Ok connection) g back why lost given = given.2.0
-fails_anyway {S} T (Err failed) g back why lost given = inl (second_same T (Option (Held S)) Refusal back None why refusal.Store lost)
+fails_anyway {S} T (Err failed) g back why lost given =
+    subst IsOpeningFailure (sym (second_same T (Option (Held S)) Refusal back None why (unopened_refusal failed.cause) lost)) (unopened_so failed.cause)
 
 -- under the profile in a file
-pub opens_under : {S B E : Type 0} (at : Places S) (config : String Global) (profile : List Directive) (r : Result B E) (held : B → Held S) (c : B → Conditions) → ReadsAt at config (Ok profile)
-    → IfOk r (λ session. AreScriptConditions profile (c session)) → IfOk r (λ session. TakesStore at profile (held session)) → IfOk r (λ session. OpensUnder at config (c session) (held session))
-opens_under at config profile (Ok session) held c read under takes = (profile, read, under, takes)
-opens_under at config profile (Err failure) held c read under takes = tt
+pub opens_under : {S B E : Type 0} (at : Places S) (config : String Global) (profile : List Directive) (r : Result B E) (held : B → Held S) (format : B → Format) (c : B → Conditions) → ReadsAt at config (Ok profile)
+    → IfOk r (λ it. AreConditionsIn (format it) profile (c it)) → IfOk r (λ it. TakesIn at Unsaid (format it) profile (held it)) → IfOk r (λ it. OpensUnder at config (format it) (c it) (held it))
+opens_under at config profile (Ok session) held format c read under takes = (profile, read, under, takes)
+opens_under at config profile (Err failure) held format c read under takes = tt
 
 pub stops_so : {S B : Type 0} (at : Places S) (config : String Global) (profile : List Directive) (r : Result B Failure) → ReadsAt at config (Ok profile) → IfErr r (λ failure. IsOpeningFault at profile failure.fault failure.cause)
     → IfErr r (λ failure. StopsOpening at config failure.fault failure.cause)
@@ -409,10 +430,10 @@ pub profile_fault : {S : Type 0} (at : Places S) (config : String Global) (given
 profile_fault at config given failed failure read told = inl (read, told)
 
 -- what a task is answered names paths as what it stands for does
-pub replied_reaches : (at : Tells) (named : List (List ℕ)) (r : Result Served Fault) (own : Result Reply Fault) → StandsFor r own → Reaches at named r → Reaches at named own
-replied_reaches at named (Ok (Replied reply)) own stands h = subst (Reaches at named) (sym stands) h
-replied_reaches at named (Ok (Shown lines unmarked)) own stands h = subst (Reaches at named) (sym stands.1) h
-replied_reaches at named (Err why) own stands h = subst (Reaches at named) (sym stands) h
+pub replied_reaches : (at : Tells) (Whole : Type 0) (named : List (List ℕ)) (r : Result Served Fault) (own : Result Reply Fault) → StandsFor r own → Reaches at Whole named r → Reaches at Whole named own
+replied_reaches at Whole named (Ok (Replied reply)) own stands h = subst (Reaches at Whole named) (sym stands) h
+replied_reaches at Whole named (Ok (Shown lines unmarked)) own stands h = subst (Reaches at Whole named) (sym stands.1) h
+replied_reaches at Whole named (Err why) own stands h = subst (Reaches at Whole named) (sym stands) h
 
 -- what is passed on by `?`
 pub passed_failure : {A : Type 0} (P : Failure → Type 0) (r : Result A Failure) (why : Failure) → r ≡ Err why → P why → IfErr r P

@@ -4,7 +4,7 @@ use Rattle.std.specs.Prelude.{◌≡◌, ⊤, ℕ, Bool, false, List, Option, Re
 use Rattle.std.specs.Io.KnownBytes.{Appends, IsAtEnd, Keeps as Stays}
 use Rattle.sqlite.specs.Held.{Held, state}
 use Rattle.sqlite.specs.Store.{Ghosts}
-use Rattle.zeb_register.specs.Formats.{Format, packed_blocks}
+use Rattle.zeb_register.specs.Formats.{Format}
 use Rattle.zeb_change.specs.Conditions.{Conditions}
 use Rattle.zeb_image.specs.Holdings.{Holdings}
 use Rattle.zeb_engine.specs.declared.replies.Reply.{Reply}
@@ -20,16 +20,16 @@ use Rattle.zeb_program.specs.FaultLines.{unread_lines}
 use Rattle.zeb_program.specs.InputCauses.{EndsInLine, is_failed_read}
 use Rattle.zeb_program.specs.OverTables.{LineOver, LinesOver, TaskOver}
 use Rattle.zeb_program.specs.Serving.{LeadsOn, ServesTask, Stops}
-use Rattle.zeb_program.specs.TaskAnswers.{paths_of}
+use Rattle.zeb_program.specs.TaskAnswers.{ReadsWhole, paths_of}
 use Rattle.zeb_program.specs.declared.statuses.Status.{Status}
 use Rattle.zeb_program.specs.declared.statuses.Status.TheVariants.{Failed}
 
 -- a task is answered so
-pub record DoesTask {S : Type 0} (g : Ghosts S) (told : List ℕ → Option (List ℕ)) (at : Tells) (c : Conditions) (task : Task) (result : Result Reply Fault) (old new : Held S) : Type 0 where
+pub record DoesTask {S : Type 0} (g : Ghosts S) (told : List ℕ → Option (List ℕ)) (at : Tells) (format : Format) (c : Conditions) (task : Task) (result : Result Reply Fault) (old new : Held S) : Type 0 where
   -- as the engine says of it on any tables
-  pub over : TaskOver told packed_blocks c task (state g old) (state g new) result
-  -- it is accepted only where all files at and below its paths are found, and a path that can't be read is one of these, or stands below one
-  pub reaches : Reaches at (paths_of task) result
+  pub over : TaskOver told format c task (state g old) (state g new) result
+  -- it is accepted only where all files at and below its paths are found, and a path that can't be read is one that a walk over these comes to
+  pub reaches : Reaches at (ReadsWhole task) (paths_of task) result
   -- from tables that keep what a register holds to such that keep what it holds then
   pub serves : ServesTask told c task (state g old) (state g new) result
 

@@ -1,11 +1,13 @@
 -- Why a command that words or a line name has no answer of a register (this program's own).
-use Rattle.std.specs.Prelude.{◌≡◌, ◌⊎◌, ⊤, ℕ, List, Option, IfSome, Result, Ok, Err, string_bytes}
+use Rattle.std.specs.Prelude.{◌≡◌, ◌⊎◌, ⊤, ℕ, List, Option, Some, IfSome, Result, Ok, Err, string_bytes}
 use Rattle.zeb_change.specs.declared.refusals.Refusal.{Refusal}
 use Rattle.zeb_change.specs.declared.refusals.Refusal.TheVariants as refusal
 use Rattle.zeb_engine.specs.declared.replies.Reply.{Reply}
 use Rattle.zeb_paths.specs.Walks.{IsUnder, IsUntold, Tells}
+use Rattle.zeb_paths.specs.declared.causes.StoreCause.{StoreCause}
+use Rattle.zeb_paths.specs.declared.causes.StoreCause.TheVariants as cause
 use Rattle.zeb_program.specs.Inputs.{IsShort}
-use Rattle.zeb_program.specs.WalkedFiles.{FindsAll}
+use Rattle.zeb_program.specs.WalkedFiles.{FindsAll, GivesAt, StopsAt}
 use Rattle.zeb_program.specs.declared.faults.Fault.{Fault}
 use Rattle.zeb_program.specs.declared.faults.Fault.TheVariants.{Profile, Unreadable, Refused, Memory}
 
@@ -29,6 +31,11 @@ IsUnreadWhole told (Err Memory) = ⊥
 abbrev pub IsOpeningFailure : Refusal → Type 0
 IsOpeningFailure why = (why ≡ refusal.Store) ⊎ (why ≡ refusal.Memory)
 
+-- that of a store which can't be opened for this cause, as far as one is told: want of memory is told as that
+abbrev pub unopened_refusal : Option StoreCause → Refusal
+unopened_refusal (Some cause.Memory) = refusal.Memory
+unopened_refusal other = refusal.Store
+
 -- P is so of the answer of a register, unless memory ran out in the program itself; that something couldn't be read is none
 abbrev pub GivesAnswer : (P : Result Reply Refusal → Type 0) → Result Reply Fault → Type 0
 GivesAnswer P (Ok reply) = P (Ok reply)
@@ -44,10 +51,18 @@ NamesUnder named (Profile file fault) = ⊤
 NamesUnder named (Refused refusal) = ⊤
 NamesUnder named Memory = ⊤
 
--- what reads the files at and below these paths is given only where all are found, and a path that can't be read is one of these, or stands below one
-abbrev pub Reaches : {T : Type 0} → Tells → List (List ℕ) → Result T Fault → Type 0
-Reaches at named (Ok given) = FindsAll at named
-Reaches at named (Err fault) = NamesUnder named fault
+-- A path that can't be read is the one at which a walk over these paths can't go on; or, where files are read whole, that of a file which it gives.
+abbrev pub NamesMet : Tells → (Whole : Type 0) → List (List ℕ) → Fault → Type 0
+NamesMet at Whole named (Unreadable path) = StopsAt at named path ⊎ (Whole × GivesAt at named path)
+NamesMet at Whole named (Profile file fault) = ⊤
+NamesMet at Whole named (Refused refusal) = ⊤
+NamesMet at Whole named Memory = ⊤
+
+-- What reads the files at and below these paths is given only where all are found, and a path that can't be read is one that a walk over these
+-- comes to and can't read. Whole says whether files are read whole.
+abbrev pub Reaches : {T : Type 0} → Tells → (Whole : Type 0) → List (List ℕ) → Result T Fault → Type 0
+Reaches at Whole named (Ok given) = FindsAll at named
+Reaches at Whole named (Err fault) = NamesMet at Whole named fault
 
 -- a path that can't be read is none at which a file's bytes are told
 abbrev pub NamesUntold : (List ℕ → Option (List ℕ)) → Fault → Type 0

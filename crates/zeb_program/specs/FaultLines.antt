@@ -1,6 +1,7 @@
 -- What is written where a command that words or a line name isn't answered, and the status that goes with it (this program's own).
-use Rattle.std.specs.Prelude.{◌≡◌, ◌==◌, ℕ, Bool, true, false, IsTrue, List, [], ◌∷◌, ◌++◌, Option, Some, None, codes, string_bytes}
+use Rattle.std.specs.Prelude.{◌≡◌, ◌==◌, ℕ, Bool, true, false, IsTrue, List, [], ◌∷◌, ◌++◌, Option, Some, None, String, codes, string_bytes}
 use Rattle.std.specs.Option.{option_map, option_map_or}
+use Rattle.std.specs.declared.alloc.Global.{Global}
 use Rattle.zeb_change.specs.declared.refusals.Refusal.{Refusal}
 use Rattle.zeb_change.specs.declared.refusals.Refusal.TheVariants as refusal
 use Rattle.zeb_profile.specs.declared.faults.ProfileFault.{ProfileFault}
@@ -9,6 +10,7 @@ use Rattle.zeb_program.specs.declared.faults.Fault.{Fault}
 use Rattle.zeb_program.specs.declared.faults.Fault.TheVariants.{Profile, Unreadable, Refused, Memory}
 use Rattle.std.specs.Fmt.{decimal}
 use Rattle.zeb_paths.specs.Causes.{path_cause_text, store_cause_text}
+use Rattle.zeb_paths.specs.declared.causes.PathCause.{PathCause}
 use Rattle.zeb_paths.specs.declared.causes.StoreCause.{StoreCause}
 use Rattle.zeb_program.specs.declared.failures.Cause.{Cause}
 use Rattle.zeb_program.specs.declared.failures.Cause.TheVariants.{Path, Store, Input, File}
@@ -34,12 +36,25 @@ TellsFault (Unreadable path) line status = (line ≡ unreadable_path (string_byt
 TellsFault (Refused refusal) line status = (line ≡ refusal_line refusal) × (status ≡ refusal_status refusal)
 TellsFault Memory line status = ⊥
 
+-- of the path of the file that has this number
+abbrev pub file_line : ℕ → List ℕ → List ℕ
+file_line number path = codes "zebraidx: file " ++ decimal number ++ codes " is " ++ path ++ 10 ∷ []
+
+-- of why a path isn't read
+abbrev pub met_line : PathCause → List ℕ
+met_line cause = codes "zebraidx: cause: " ++ path_cause_text cause ++ 10 ∷ []
+
+-- such a line where that is known, else nothing
+abbrev pub met_lines : Option PathCause → List ℕ
+met_lines None = []
+met_lines (Some cause) = met_line cause
+
 -- of what is known of why there is a fault
 abbrev pub cause_line : Cause → List ℕ
-cause_line (Path cause) = codes "zebraidx: cause: " ++ path_cause_text cause ++ 10 ∷ []
+cause_line (Path cause) = met_line cause
 cause_line (Store cause) = codes "zebraidx: cause: " ++ store_cause_text cause ++ 10 ∷ []
 cause_line (Input cause) = codes "zebraidx: cause: " ++ input_cause_text cause ++ 10 ∷ []
-cause_line (File number path) = codes "zebraidx: file " ++ decimal number ++ codes " is " ++ string_bytes path ++ 10 ∷ []
+cause_line (File number path met) = file_line number (string_bytes path) ++ met_lines met
 
 -- such a line where a cause is known, else nothing
 abbrev pub cause_lines : Option Cause → List ℕ
@@ -61,7 +76,7 @@ is_store _ = false
 abbrev pub is_cause_of : Fault → Cause → Bool
 is_cause_of (Unreadable path) (Path cause) = true
 is_cause_of (Refused why) (Store cause) = is_store why
-is_cause_of (Refused why) (File number path) = option_map_or (λ file. file == number) (file_in why) false
+is_cause_of (Refused why) (File number path met) = option_map_or (λ file. file == number) (file_in why) false
 is_cause_of _ _ = false
 
 -- so it is of a cause that is known
@@ -71,6 +86,21 @@ IsCauseOf fault cause = IsTrue (option_map_or (is_cause_of fault) cause true)
 -- the line of a fault, with this status, and below it that of this cause, which the fault may have, where one is known
 abbrev pub TellsCaused : Fault → Option Cause → List ℕ → Status → Type 0
 TellsCaused fault cause bytes status = (line : List ℕ) × TellsFault fault line status × IsCauseOf fault cause × (bytes ≡ line ++ cause_lines cause)
+
+-- a fault is about the register at the profile's path: it isn't initialised, or its store failed
+abbrev pub is_of_register : Fault → Bool
+is_of_register (Refused refusal.NotInitialised) = true
+is_of_register (Refused refusal.Store) = true
+is_of_register _ = false
+
+-- of the path of a register, where it is told; else nothing
+abbrev pub register_lines : Option (String Global) → List ℕ
+register_lines None = []
+register_lines (Some path) = codes "zebraidx: register is " ++ string_bytes path ++ 10 ∷ []
+
+-- the lines of a fault and its cause, and below them the path of this register, where one is told
+abbrev pub TellsPlaced : Fault → Option Cause → Option (String Global) → List ℕ → Status → Type 0
+TellsPlaced fault cause register bytes status = (first : List ℕ) × TellsCaused fault cause first status × (bytes ≡ first ++ register_lines register)
 
 -- what is written where an input can't be read on
 abbrev pub unread_lines : InputCause → List ℕ

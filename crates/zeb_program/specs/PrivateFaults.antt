@@ -1,16 +1,17 @@
 -- What only the contracts of private functions speak of; no public clause reaches it.
 -- Why a command that words or a line name isn't answered: what couldn't be read, and failures to open a register.
-use Rattle.std.specs.Prelude.{◌≡◌, ⊤, ℕ, List, Option, None, IfSome, string_bytes}
+use Rattle.std.specs.Prelude.{◌≡◌, ⊤, ℕ, List, Option, IfSome, string_bytes}
 use Rattle.zeb_profile.specs.declared.directives.Directive.{Directive}
 use Rattle.zeb_paths.specs.declared.causes.StoreCause.{StoreCause}
 use Rattle.zeb_program.specs.Explanations.{refusal_cause}
 use Rattle.zeb_program.specs.Registers.{FailsOpening, Places}
 use Rattle.zeb_program.specs.declared.faults.Fault.{Fault}
+use Rattle.zeb_paths.specs.Walks.{Tells}
 use Rattle.zeb_paths.specs.declared.walk.WalkFault.{WalkFault}
 use Rattle.zeb_paths.specs.declared.walk.WalkFault.TheVariants as walk
 use Rattle.zeb_program.specs.declared.faults.Fault.TheVariants.{Profile, Unreadable, Refused, Memory}
 use Rattle.zeb_program.specs.declared.failures.Cause.{Cause}
-use Rattle.zeb_program.specs.FaultAnswers.{NamesUnder, NamesUntold}
+use Rattle.zeb_program.specs.FaultAnswers.{NamesMet, NamesUntold}
 use Rattle.zeb_program.specs.Inputs.{IsShort}
 
 -- something couldn't be read, or memory ran out in the program itself
@@ -39,7 +40,7 @@ abbrev pub fault_of : WalkFault → Fault
 fault_of (walk.Unreadable path) = Unreadable path
 fault_of walk.Memory = Memory
 
--- Why the files at and below these paths aren't all found: a path can't be read that is one of them or stands below one, and at which no file's bytes
--- are told; or memory ran out.
-abbrev pub IsUnfound : (List ℕ → Option (List ℕ)) → List (List ℕ) → Fault → Type 0
-IsUnfound told named fault = IsUnread fault × NamesUntold told fault × NamesUnder named fault
+-- Why the files at and below these paths aren't all found: a walk over them can't go on at a path, at which no file's bytes are told; or memory ran
+-- out.
+abbrev pub IsUnfound : Tells → List (List ℕ) → Fault → Type 0
+IsUnfound at named fault = IsUnread fault × NamesUntold at.bytes fault × NamesMet at ⊥ named fault

@@ -1,6 +1,6 @@
 -- What only the contracts of private functions speak of; no public clause reaches it.
 -- What is read of files that are read whole, those of an analysis, and what their readers are sure to give (this program's own).
-use Rattle.std.specs.Prelude.{◌≡◌, ◌||◌, ⊤, Bool, ℕ, List, Option, None, Some, IfSome, Result, Ok, Err, String, Vec, if◌then◌else◌, map, string_bytes}
+use Rattle.std.specs.Prelude.{◌≡◌, ◌||◌, ⊤, Bool, ℕ, List, Option, None, Some, IfSome, Result, Ok, Err, String, Vec, if◌then◌else◌, map}
 use Rattle.std.specs.declared.alloc.Global.{Global}
 use Rattle.zeb_paths.specs.Walks.{Due, Tells, WalksOn}
 use Rattle.zeb_paths.specs.declared.walk.WalkFault.{WalkFault}

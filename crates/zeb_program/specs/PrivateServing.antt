@@ -15,7 +15,7 @@ use Rattle.zeb_program.specs.declared.tasks.Task.{Task}
 use Rattle.zeb_program.specs.FaultAnswers.{Reaches}
 use Rattle.zeb_program.specs.OverTables.{TaskOver}
 use Rattle.zeb_program.specs.Serving.{ServesTask}
-use Rattle.zeb_program.specs.TaskAnswers.{paths_of}
+use Rattle.zeb_program.specs.TaskAnswers.{ReadsWhole, paths_of}
 use Rattle.zeb_paths.specs.Walks.{Tells}
 use Rattle.zeb_register.specs.Formats.{Format}
 
@@ -41,5 +41,5 @@ pub record CarriesOut (told : List ℕ → Option (List ℕ)) (at : Tells) (form
   pub serves : HasCleanDisk new → ServesTask told c task old new answer
   -- as the engine says of it on any tables, and refused it changes nothing
   pub over : HasCleanDisk new → TaskOver told format c task old new answer
-  -- it is accepted only where all files at and below its paths are found, and a path that can't be read is one of these, or stands below one
-  pub reaches : Reaches at (paths_of task) answer
+  -- it is accepted only where all files at and below its paths are found, and a path that can't be read is one that a walk over these comes to
+  pub reaches : Reaches at (ReadsWhole task) (paths_of task) answer

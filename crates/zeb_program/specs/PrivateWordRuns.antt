@@ -1,13 +1,14 @@
 -- What only the contracts of private functions speak of; no public clause reaches it.
 -- The parts of what comes of words (this program's own).
-use Rattle.std.specs.Prelude.{◌≡◌, ◌⊎◌, ℕ, Bool, false, Option, None, IfSome, Result, Ok, Err, List, String}
+use Rattle.std.specs.Prelude.{◌≡◌, ◌⊎◌, ⊤, ℕ, Bool, false, Option, None, IfSome, Result, Ok, Err, List, String}
 use Rattle.std.specs.declared.alloc.AllocError.{AllocError}
 use Rattle.std.specs.declared.alloc.Global.{Global}
 use Rattle.sqlite.specs.Held.{Held, state}
-use Rattle.sqlite.specs.State.{HasCleanDisk}
+use Rattle.sqlite.specs.State.{HasCleanDisk, State, Survives}
 use Rattle.sqlite.specs.Store.{Ghosts}
 use Rattle.zeb_change.specs.Conditions.{Conditions}
 use Rattle.zeb_change.specs.declared.refusals.Refusal.{Refusal}
+use Rattle.zeb_engine.specs.Causes.{OnlyLooks}
 use Rattle.zeb_engine.specs.declared.replies.Reply.{Reply}
 use Rattle.zeb_engine.specs.Replies.{reply_text}
 use Rattle.zeb_image.specs.Holdings.{nothing_yet}
@@ -16,7 +17,11 @@ use Rattle.zeb_paths.specs.declared.causes.Closed.{Closed}
 use Rattle.zeb_paths.specs.declared.causes.PathCause.{PathCause}
 use Rattle.zeb_paths.specs.declared.causes.StoreCause.{StoreCause}
 use Rattle.zeb_profile.specs.declared.directives.Directive.{Directive}
-use Rattle.zeb_register.specs.Formats.{packed_blocks}
+use Rattle.zeb_register.specs.Formats.{Format, packed_blocks, packed_leaves}
+use Rattle.zeb_words.specs.declared.words.LayoutChoice.{LayoutChoice}
+use Rattle.zeb_words.specs.declared.words.LayoutChoice.TheVariants.{Unsaid}
+use Rattle.zeb_program.specs.declared.opening.UsedLayout.{UsedLayout}
+use Rattle.zeb_program.specs.declared.opening.UsedLayout.TheVariants.{Blocks, Leaves}
 use Rattle.zeb_program.specs.declared.failures.Failure.{Failure}
 use Rattle.zeb_program.specs.declared.faults.Fault.{Fault}
 use Rattle.zeb_program.specs.declared.faults.Fault.TheVariants.{Refused, Memory}
@@ -24,12 +29,12 @@ use Rattle.zeb_program.specs.declared.line_input.LineFault.TheVariants.{Memory a
 use Rattle.zeb_program.specs.declared.performing.Told.{Told}
 use Rattle.zeb_program.specs.declared.tasks.Task.{Task}
 use Rattle.zeb_program.specs.Answers.{AnswersPart, Writes}
-use Rattle.zeb_program.specs.Doing.{RunsText, ServesText, StopsText}
+use Rattle.zeb_program.specs.Doing.{DoesTask, RunsText, ServesText, StopsText}
 use Rattle.zeb_program.specs.FaultAnswers.{IsOpeningFailure, Reaches}
 use Rattle.zeb_program.specs.Serving.{Stops}
-use Rattle.zeb_program.specs.TaskAnswers.{AnswersOn, paths_of}
-use Rattle.zeb_program.specs.Registers.{ClosesStore, IsTakenOver, OpensStore, Places}
-use Rattle.zeb_program.specs.ScriptAnswers.{AreScriptConditions, RunsFromNothing}
+use Rattle.zeb_program.specs.TaskAnswers.{AnswersOn, ReadsWhole, paths_of}
+use Rattle.zeb_program.specs.Registers.{ClosesStore, IsTakenOver, OpensStore, Places, UsedAs}
+use Rattle.zeb_program.specs.ScriptAnswers.{AreConditionsIn, AreScriptConditions, RunsFromNothing}
 use Rattle.std.specs.Io.KnownBytes.{Keeps as Stays}
 use Rattle.zeb_program.specs.Explanations.{Explains}
 use Rattle.zeb_program.specs.FaultLines.{TellsCaused}
@@ -44,10 +49,29 @@ use Rattle.zeb_program.specs.WordRuns.{ReadsAt}
 abbrev pub TakesStore : {S : Type 0} → Places S → List Directive → Held S → Type 0
 TakesStore {S} at profile taken = (opened : Held S) × OpensStore at profile opened × (HasCleanDisk (state at.store taken) → IsTakenOver at.store opened taken)
 
--- so it was under the profile in this file
-abbrev pub OpensUnder : {S : Type 0} → Places S → String Global → Conditions → Held S → Type 0
-OpensUnder at config c taken =
-    (profile : List Directive) × ReadsAt at config (Ok profile) × AreScriptConditions profile c × TakesStore at profile taken
+-- and is used in this format
+abbrev pub TakesIn : {S : Type 0} → Places S → LayoutChoice → Format → List Directive → Held S → Type 0
+TakesIn at choice format profile taken = TakesStore at profile taken × (HasCleanDisk (state at.store taken) → UsedAs choice (state at.store taken) format)
+
+-- so it was under the profile in this file, where no layout is asked for
+abbrev pub OpensUnder : {S : Type 0} → Places S → String Global → Format → Conditions → Held S → Type 0
+OpensUnder at config format c taken =
+    (profile : List Directive) × ReadsAt at config (Ok profile) × AreConditionsIn format profile c × TakesIn at Unsaid format profile taken
+
+-- the format of the layout in which a register is used
+abbrev pub format_of : UsedLayout → Format
+format_of Blocks = packed_blocks
+format_of Leaves = packed_leaves
+
+-- nothing is done to a connection but a look at its tables, which finds the store failed only for a cause
+pub record OnlyLooked {T : Type 0} (old new : State) (result : Result T Refusal) : Type 0 where
+  pub looks : HasCleanDisk new → OnlyLooks old new result
+  pub survives : Survives old new (λ _. ⊥)
+
+-- which layout is used on the tables of a store, or why that can't be told
+abbrev pub TellsLayout : LayoutChoice → State → Result UsedLayout Refusal → Type 0
+TellsLayout choice s (Ok layout) = UsedAs choice s (format_of layout)
+TellsLayout choice s (Err why) = ⊤
 
 -- ---- a task
 
@@ -74,10 +98,19 @@ GivesClosed (Err failure) P Why = (closed : Closed) × P closed (Err failure.fau
 abbrev pub IsOwnOr : Result Reply Fault → Result Reply Fault → Type 0
 IsOwnOr answer own = (answer ≡ own) ⊎ (answer ≡ Err Memory)
 
+-- A task is carried out over a connection in this format, which is then closed so.
+pub record ServesHeld {S : Type 0} (g : Ghosts S) (leaves : Closed → S → Type 0) (told : List ℕ → Option (List ℕ)) (at : Tells) (format : Format) (c : Conditions) (task : Task) (held : Held S) (closed : Closed) (answer : Result Reply Fault) : Type 0 where
+  pub own : Result Reply Fault
+  pub is : IsOwnOr answer own
+  pub last : Held S
+  pub clean : HasCleanDisk (state g last) → HasCleanDisk (state g held)
+  pub does : HasCleanDisk (state g last) → DoesTask g told at format c task own held last
+  pub ends : ClosesStore g leaves last closed
+
 -- what comes of a task on a register in memory that holds nothing yet
 abbrev pub ServesOnNothing : (List ℕ → Option (List ℕ)) → Tells → List Directive → Task → Result Reply Fault → Type 0
 ServesOnNothing told at profile task result =
-    ((c : Conditions) × AreScriptConditions profile c × Reaches at (paths_of task) result × AnswersOn told c task result nothing_yet)
+    ((c : Conditions) × AreScriptConditions profile c × Reaches at (ReadsWhole task) (paths_of task) result × AnswersOn told c task result nothing_yet)
     ⊎ ((why : Refusal) × IsOpeningFailure why × (result ≡ Err (Refused why)))
 
 -- ---- the lines of the input
@@ -100,9 +133,9 @@ EndsSession (Ok answered) result Closing = (closed : Closed) × (result ≡ Ok (
 EndsSession (Err error) result Closing = (closed : Closed) × (result ≡ Err error) × Closing closed
 
 -- the lines of a batch are run so
-abbrev pub RunsIn : {S : Type 0} → Ghosts S → (Closed → S → Type 0) → (List ℕ → Option (List ℕ)) → Conditions → ℕ → List ℕ → Held S → Option (List ℕ) → Option (List ℕ) → Option (List ℕ) → Option (List ℕ) → Status → Type 0
-RunsIn g leaves told c n text held old new fault_old fault_new status = (answered : Status) × (closed : Closed) × (status ≡ greater answered (closing_status closed))
-    × Closes g leaves held (RunsText g told packed_blocks c n text old new answered held) fault_old fault_new closed
+abbrev pub RunsIn : {S : Type 0} → Ghosts S → (Closed → S → Type 0) → (List ℕ → Option (List ℕ)) → Format → Conditions → ℕ → List ℕ → Held S → Option (List ℕ) → Option (List ℕ) → Option (List ℕ) → Option (List ℕ) → Status → Type 0
+RunsIn g leaves told format c n text held old new fault_old fault_new status = (answered : Status) × (closed : Closed) × (status ≡ greater answered (closing_status closed))
+    × Closes g leaves held (RunsText g told format c n text old new answered held) fault_old fault_new closed
 
 -- The lines of a batch are run on a register in memory that holds nothing yet, and the fault output is left alone; or why none was opened is told
 -- there, and nothing else.
@@ -112,10 +145,10 @@ RunsOnNothing told profile n text old new fault_old fault_new status =
     ⊎ ((why : Refusal) × IsOpeningFailure why × Stays old new × Writes fault_old fault_new (λ bytes. TellsCaused (Refused why) None bytes status))
 
 -- and those of a shell
-abbrev pub ServesIn : {S : Type 0} → Ghosts S → (Closed → S → Type 0) → (List ℕ → Option (List ℕ)) → Conditions → Option (List ℕ) → Option (List ℕ) → Bool → Held S → Option (List ℕ) → Option (List ℕ) → Option (List ℕ) → Option (List ℕ) → Status → Type 0
-ServesIn g leaves told c given left failed held old new fault_old fault_new status =
+abbrev pub ServesIn : {S : Type 0} → Ghosts S → (Closed → S → Type 0) → (List ℕ → Option (List ℕ)) → Format → Conditions → Option (List ℕ) → Option (List ℕ) → Bool → Held S → Option (List ℕ) → Option (List ℕ) → Option (List ℕ) → Option (List ℕ) → Status → Type 0
+ServesIn g leaves told format c given left failed held old new fault_old fault_new status =
     (between : Option (List ℕ)) × (answered : Status) × (closed : Closed) × (status ≡ greater answered (closing_status closed))
-    × Closes g leaves held (λ last. IfSome given (λ text. ServesText g told packed_blocks c text left failed old new fault_old between answered held last)) between fault_new closed
+    × Closes g leaves held (λ last. IfSome given (λ text. ServesText g told format c text left failed old new fault_old between answered held last)) between fault_new closed
 
 -- Where memory runs out for the program itself, the first lines of a batch are answered so, or none, and the rest are not.
 abbrev pub StopsIn : {S : Type 0} → Ghosts S → (Closed → S → Type 0) → (List ℕ → Option (List ℕ)) → Conditions → ℕ → List ℕ → Held S → Option (List ℕ) → Option (List ℕ) → Option (List ℕ) → Option (List ℕ) → Type 0
@@ -123,6 +156,6 @@ StopsIn g leaves told c n text held old new fault_old fault_new =
     (closed : Closed) × Closes g leaves held (λ last. Stops (state g held) old new (AnswersPart told c n text)) fault_old fault_new closed
 
 -- and those of a shell
-abbrev pub StopsServing : {S : Type 0} → Ghosts S → (Closed → S → Type 0) → (List ℕ → Option (List ℕ)) → Conditions → Option (List ℕ) → Option (List ℕ) → Held S → Option (List ℕ) → Option (List ℕ) → Option (List ℕ) → Option (List ℕ) → Type 0
-StopsServing g leaves told c given left held old new fault_old fault_new =
-    (closed : Closed) × Closes g leaves held (λ last. IfSome given (λ text. StopsText g told packed_blocks c Starved text left old new held last)) fault_old fault_new closed
+abbrev pub StopsServing : {S : Type 0} → Ghosts S → (Closed → S → Type 0) → (List ℕ → Option (List ℕ)) → Format → Conditions → Option (List ℕ) → Option (List ℕ) → Held S → Option (List ℕ) → Option (List ℕ) → Option (List ℕ) → Option (List ℕ) → Type 0
+StopsServing g leaves told format c given left held old new fault_old fault_new =
+    (closed : Closed) × Closes g leaves held (λ last. IfSome given (λ text. StopsText g told format c Starved text left old new held last)) fault_old fault_new closed

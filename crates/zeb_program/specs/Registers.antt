@@ -1,16 +1,18 @@
 -- On which register words have a command carried out: that in the store at the profile's path, or one in memory (this program's own).
-use Rattle.std.specs.Prelude.{◌≡◌, ◌≢◌, ◌⊎◌, [], ℕ, IsTrue, true, List, Option, None, Some, Result}
+use Rattle.std.specs.Prelude.{◌≡◌, ◌⊎◌, ℕ, Bool, IsTrue, codes, true, List, Option, None, Some, Result, Err}
 use Rattle.sqlite.specs.Held.{Held, state}
 use Rattle.sqlite.specs.State.{HasCleanDisk, State}
 use Rattle.sqlite.specs.Store.{Ghosts}
 use Rattle.sqlite_trees.specs.View.{IsQuiet}
 use Rattle.zeb_change.specs.declared.refusals.Refusal.{Refusal}
-use Rattle.zeb_change.specs.declared.refusals.Refusal.TheVariants.{Store}
+use Rattle.zeb_engine.specs.Adopting.{HasOtherTables}
+use Rattle.zeb_engine.specs.Causes.{OnlyLooks}
 use Rattle.zeb_engine.specs.Crashes.{AdoptLasts, Bears}
 use Rattle.zeb_engine.specs.Taking.{GivesBack}
 use Rattle.zeb_engine.specs.Transactions.{IsDurable}
 use Rattle.zeb_image.specs.Holdings.{Holdings, nothing_yet}
 use Rattle.zeb_image.specs.Image.{Keeps}
+use Rattle.zeb_paths.specs.Closing.{HasReason}
 use Rattle.zeb_paths.specs.Walks.{Tells, telling}
 use Rattle.zeb_paths.specs.declared.causes.Closed.{Closed}
 use Rattle.zeb_paths.specs.declared.causes.PathCause.{PathCause}
@@ -20,9 +22,14 @@ use Rattle.zeb_paths.specs.declared.paths.PathKind.{PathKind}
 use Rattle.zeb_paths.specs.Opened.{IsWellOpened}
 use Rattle.zeb_profile.specs.declared.directives.Directive.{Directive}
 use Rattle.zeb_profile.specs.Indexes.{store_path}
-use Rattle.zeb_register.specs.Store.{IsStore}
+use Rattle.sqlite.specs.Tree.{Trees}
+use Rattle.zeb_engine.specs.Readiness.{KeepsText}
+use Rattle.zeb_register.specs.Formats.{Format, packed_blocks, packed_leaves, plain_rows, version_of}
+use Rattle.zeb_register.specs.Store.{AreReadableTexts, IsStore}
 use Rattle.zeb_register.specs.Tables.{store_schema}
-use Rattle.zeb_program.specs.FaultAnswers.{IsOpeningFailure}
+use Rattle.zeb_words.specs.declared.words.LayoutChoice.{LayoutChoice}
+use Rattle.zeb_words.specs.declared.words.LayoutChoice.TheVariants.{Leaves, Unsaid}
+use Rattle.zeb_program.specs.FaultAnswers.{IsOpeningFailure, unopened_refusal}
 
 -- What is known of the paths that a program is given: the bytes of files, what a walk over them sees behind a command, what may be told of why one isn't
 -- read, by which connections the store at a path may be opened, where it may not be, where none may stand and where one may, which stores were let go, and
@@ -84,16 +91,16 @@ IsLetGo {S} g lets_go back = (left : S) × lets_go left × IsQuiet g.view g.faul
 abbrev pub IsGivenBack : {S : Type 0} → Ghosts S → Held S → Held S → Refusal → Type 0
 IsGivenBack g opened back why = IsOpeningFailure why × (HasCleanDisk (state g back) → GivesBack (state g opened) (state g back) why)
 
--- what is known of why a store isn't taken over that was opened: whether it has tables
-abbrev pub IsForeignCause : State → Option StoreCause → Type 0
-IsForeignCause s met = (s.now.schema.tables ≡ [] → met ≡ None) × (s.now.schema.tables ≢ [] → met ≡ Some store_cause.Foreign)
+-- the tables keep the version of leaves, which can be read there
+abbrev pub KeepsLeaves : Trees → Type 0
+KeepsLeaves trees = KeepsText trees (codes "version") (version_of packed_leaves) × AreReadableTexts trees (codes "version")
 
--- Why there is no register in the store at the profile's path, and what is known of the cause: it can't be opened; or it is opened, isn't taken over,
--- and is let go.
-pub data FailsOpening {S : Type 0} (at : Places S) (profile : List Directive) : Refusal → Option StoreCause → Type 0 where
-  shut : {met : Option StoreCause} → (path : List ℕ) → store_path profile ≡ Some path → at.refuses path met → FailsOpening at profile Store met
-  given_back : {why : Refusal} → {met : Option StoreCause} → (opened : Held S) → (back : Held S) → OpensStore at profile opened → IsForeignCause (state at.store opened) met
-      → IsGivenBack at.store opened back why → IsLetGo at.store at.lets_go back → FailsOpening at profile why met
+-- A register is used in this format: in leaves where they are asked for, or where its tables keep their version; else in packed blocks.
+abbrev pub UsedAs : LayoutChoice → State → Format → Type 0
+UsedAs Leaves s format = format ≡ packed_leaves
+UsedAs Unsaid s packed_leaves = IsTrue s.is_open → IsStore s → KeepsLeaves s.now.trees
+UsedAs Unsaid s packed_blocks = IsTrue s.is_open → IsStore s → ¬ KeepsLeaves s.now.trees
+UsedAs Unsaid s plain_rows = ⊥
 
 -- A store is taken over.
 pub record IsTakenOver {S : Type 0} (g : Ghosts S) (opened taken : Held S) : Type 0 where
@@ -113,15 +120,39 @@ pub record ClosesStore {S : Type 0} (g : Ghosts S) (leaves : Closed → S → Ty
   pub quiet : IsQuiet g.view g.faults g.recovers g.is_shielded last.store left
   -- and, where the connection was open, that is just what it showed
   pub durable : IsDurable (state g last)
+  -- and where it isn't closed whole, something has kept it from that
+  pub reason : HasReason g.view g.faults last.store left closed
 
--- The store at the profile's path is opened by this connection and taken over, at the end it is as the last one, and just that one is closed. P is so
--- from the one that was taken over to the last, if the disk has given back what was written.
-pub record FromStore {S : Type 0} (at : Places S) (profile : List Directive) (closed : Closed) (P : Held S → Held S → Type 0) : Type 0 where
+-- what is known of why a store isn't taken over that was opened: that it has other tables than a register's, or nothing
+abbrev pub IsForeignCause : State → Option StoreCause → Type 0
+IsForeignCause s met = (HasOtherTables s → met ≡ Some store_cause.Foreign) × (¬ HasOtherTables s → met ≡ None)
+
+abbrev failed_look : Refusal → Result Bool Refusal
+failed_look why = Err why
+
+-- nothing is done but a look, which fails so, and where the store fails it has a cause
+abbrev pub FailsLook : State → State → Refusal → Type 0
+FailsLook old new why = OnlyLooks old new (failed_look why)
+
+-- Why there is no register in the store at the profile's path, and what is known of the cause: it can't be opened; or it is opened, isn't taken over,
+-- and is let go; or it is taken over, and closed, since a look at its version fails: nothing is done to it, and where the store fails it has a cause.
+pub data FailsOpening {S : Type 0} (at : Places S) (profile : List Directive) : Refusal → Option StoreCause → Type 0 where
+  shut : {met : Option StoreCause} → (path : List ℕ) → store_path profile ≡ Some path → at.refuses path met → FailsOpening at profile (unopened_refusal met) met
+  given_back : {why : Refusal} → {met : Option StoreCause} → (opened : Held S) → (back : Held S) → OpensStore at profile opened → IsForeignCause (state at.store opened) met
+      → IsGivenBack at.store opened back why → IsLetGo at.store at.lets_go back → FailsOpening at profile why met
+  untold : {why : Refusal} → (closed : Closed) → (opened taken last : Held S) → OpensStore at profile opened → IsOpeningFailure why
+      → (HasCleanDisk (state at.store last) → IsTakenOver at.store opened taken × FailsLook (state at.store taken) (state at.store last) why)
+      → ClosesStore at.store at.leaves last closed → FailsOpening at profile why closed.cause
+
+-- The store at the profile's path is opened by this connection and taken over, and used in this format, at the end it is as the last one, and just
+-- that one is closed. P is so from the one that was taken over to the last, if the disk has given back what was written.
+pub record FromStore {S : Type 0} (at : Places S) (choice : LayoutChoice) (format : Format) (profile : List Directive) (closed : Closed) (P : Held S → Held S → Type 0) : Type 0 where
   pub opened : Held S
   pub taken : Held S
   pub last : Held S
   pub opens : OpensStore at profile opened
   pub takes : HasCleanDisk (state at.store last) → IsTakenOver at.store opened taken
+  pub used : HasCleanDisk (state at.store last) → UsedAs choice (state at.store taken) format
   pub does : HasCleanDisk (state at.store last) → P taken last
   pub ends : ClosesStore at.store at.leaves last closed
 
@@ -130,7 +161,7 @@ abbrev pub nothing_met : Closed
 nothing_met = record { is_whole = true; cause = None }
 
 -- P is so of the store of the register that is begun with, where one may stand there or one is to be made; or, where none stands there and none is to
--- be made, Q is of one in memory that holds nothing yet
-pub data OnRegister {S : Type 0} (at : Places S) (profile : List Directive) (closed : Closed) (Makes : Type 0) (P : Held S → Held S → Type 0) (Q : Holdings → Type 0) : Type 0 where
-  kept : HasStore at profile ⊎ Makes → FromStore at profile closed P → OnRegister at profile closed Makes P Q
-  none : LacksStore at profile → ¬ Makes → closed ≡ nothing_met → Q nothing_yet → OnRegister at profile closed Makes P Q
+-- be made, Q is of one in memory that holds nothing yet, and is in packed blocks
+pub data OnRegister {S : Type 0} (at : Places S) (choice : LayoutChoice) (format : Format) (profile : List Directive) (closed : Closed) (Makes : Type 0) (P : Held S → Held S → Type 0) (Q : Holdings → Type 0) : Type 0 where
+  kept : HasStore at profile ⊎ Makes → FromStore at choice format profile closed P → OnRegister at choice format profile closed Makes P Q
+  none : format ≡ packed_blocks → LacksStore at profile → ¬ Makes → closed ≡ nothing_met → Q nothing_yet → OnRegister at choice format profile closed Makes P Q

@@ -8,6 +8,7 @@ use Rattle.zeb_profile.specs.declared.faults.ProfileFault.{ProfileFault}
 use Rattle.zeb_profile.specs.Faults.{fault_text}
 use Rattle.zeb_profile.specs.Outcomes.{FailsPlaced}
 use Rattle.zeb_profile.specs.Profiles.{profile_of}
+use Rattle.zeb_register.specs.Formats.{Format, packed_blocks, version_of}
 use Rattle.zeb_program.specs.FixedLines.{refusal_line, unreadable_line}
 use Rattle.zeb_program.specs.Inputs.{IsInput}
 use Rattle.zeb_program.specs.Scripts.{DividesAt, HasNoDivider}
@@ -24,13 +25,17 @@ IsUnopened bytes status = ((bytes ≡ refusal_line refusal.Store) ⊎ (bytes ≡
 abbrev pub fault_line : ProfileFault → List ℕ
 fault_line fault = codes "zebraidx: input " ++ fault_text fault ++ 10 ∷ []
 
--- what a register works under that the program opens, by the directives of its profile: the version is that of the layout with packed
--- blocks, and the limits are the greatest that there are
-pub record AreScriptConditions (directives : List Directive) (c : Conditions) : Type 0 where
-  pub version : c.version ≡ codes "2"
+-- what a register works under that the program opens and uses in this format, by the directives of its profile: the version is that of the
+-- format, and the limits are the greatest that there are
+pub record AreConditionsIn (format : Format) (directives : List Directive) (c : Conditions) : Type 0 where
+  pub version : c.version ≡ version_of format
   pub profile : c.profile ≡ directives
   pub records : c.limits.records ≡ 1000000
   pub numbers : c.limits.numbers ≡ 999999999
+
+-- the register of a script is in packed blocks
+abbrev pub AreScriptConditions : List Directive → Conditions → Type 0
+AreScriptConditions = AreConditionsIn packed_blocks
 
 -- what the lines of a batch add to a writer's known bytes, from a register that holds nothing yet: their answers
 abbrev pub RunsFromNothing : (List ℕ → Option (List ℕ)) → List Directive → ℕ → List ℕ → Option (List ℕ) → Option (List ℕ) → Status → Type 0

@@ -38,6 +38,14 @@ abbrev pub FindsNthFile : Tells → List (List ℕ) → ℕ → Option (String G
 FindsNthFile at named number (Some path) = IsNthFile at named number path
 FindsNthFile at named number None = LacksNthFile at named number
 
+-- a walk over the named paths comes to this path, and can't go on there
+abbrev pub StopsAt : Tells → List (List ℕ) → String Global → Type 0
+StopsAt at named path = (files : List (List ℕ)) × (left later : List Due) × WalksFrom at named files left × WalksOn at left (Err (Unreadable path)) later
+
+-- it gives the file at this path
+abbrev pub GivesAt : Tells → List (List ℕ) → String Global → Type 0
+GivesAt at named path = (files : List (List ℕ)) × (left later : List Due) × WalksFrom at named files left × WalksOn at left (Ok (Some path)) later
+
 -- a walk over the named paths comes to its end: each of them is found, and all that stands below one
 abbrev pub FindsAll : Tells → List (List ℕ) → Type 0
 FindsAll at named = (files : List (List ℕ)) × (left later : List Due) × WalksFrom at named files left × WalksOn at left (Ok None) later

@@ -4,13 +4,14 @@ use Rattle.std.specs.declared.alloc.Global.{Global}
 use Rattle.std.specs.Io.KnownBytes.{Appends, IsAtEnd, Keeps}
 use Rattle.zeb_words.specs.Names.{NamesNone, NamesWords}
 use Rattle.zeb_words.specs.Parses.{IsRefusedAs}
+use Rattle.zeb_words.specs.declared.words.LayoutChoice.{LayoutChoice}
 use Rattle.zeb_words.specs.declared.words.Words.{Words}
 use Rattle.zeb_words.specs.declared.words.Act.TheVariants.{Batch, Shell}
 use Rattle.zeb_words.specs.declared.words.Usage.{Usage}
 use Rattle.zeb_words.specs.declared.words.Usage.TheVariants.{BadUsage, Refused, Help, Memory}
 use Rattle.zeb_program.specs.declared.tasks.Task.{Task}
 use Rattle.zeb_program.specs.Answers.{Writes}
-use Rattle.zeb_program.specs.Errands.{IsTaskOf}
+use Rattle.zeb_program.specs.Errands.{IsTaskOf, choice_of}
 use Rattle.zeb_paths.specs.declared.causes.Closed.{Closed}
 use Rattle.zeb_program.specs.Closings.{TellsClosed}
 use Rattle.zeb_program.specs.Registers.{Places}
@@ -60,13 +61,13 @@ Warns told task fault_old fault_new = (warning : Option (List ℕ)) × WarnsOf t
 abbrev pub WarnsClosed : (List ℕ → Option (List ℕ)) → Task → Closed → Option (List ℕ) → Option (List ℕ) → Type 0
 WarnsClosed told task closed fault_old fault_new = (between : Option (List ℕ)) × Warns told task fault_old between × TellsClosed between fault_new closed
 
--- the answer to a task, under the profile in this file, goes to the output, and only a warning to the fault output, and, with status 3, that the
+-- the answer to a task that asks for this layout, under the profile in this file, goes to the output, and only a warning to the fault output, and, with status 3, that the
 -- register's file needs its log; why there is no answer goes to the fault output alone, as the line of a fault, with the status of that fault, and below
 -- it its cause
-abbrev pub TellsApart : {S : Type 0} → Places S → String Global → Task → Option (List ℕ) → Option (List ℕ) → Option (List ℕ) → Option (List ℕ) → Status → Type 0
-TellsApart at config task old new fault_old fault_new status =
-    ((closed : Closed) × (status ≡ closing_status closed) × WritesReply at config task closed old new × WarnsClosed at.tells task closed fault_old fault_new)
-    ⊎ (IsFaultStatus status × Keeps old new × Writes fault_old fault_new (TellsWhy at config task status))
+abbrev pub TellsApart : {S : Type 0} → Places S → LayoutChoice → String Global → Task → Option (List ℕ) → Option (List ℕ) → Option (List ℕ) → Option (List ℕ) → Status → Type 0
+TellsApart at choice config task old new fault_old fault_new status =
+    ((closed : Closed) × (status ≡ closing_status closed) × WritesReply at choice config task closed old new × WarnsClosed at.tells task closed fault_old fault_new)
+    ⊎ (IsFaultStatus status × Keeps old new × Writes fault_old fault_new (TellsWhy at choice config task status))
 
 -- What is written for words, and the status: of an input that has this before, where it tells that, and this behind, and of which a read failed or didn't.
 pub data AnswersWords {S : Type 0} (at : Places S) (words : List (List ℕ)) (given left : Option (List ℕ)) (failed : Bool) (old new fault_old fault_new : Option (List ℕ)) (status : Status) : Type 0 where
@@ -81,7 +82,7 @@ pub data AnswersWords {S : Type 0} (at : Places S) (words : List (List ℕ)) (gi
       → RunsShell at named.config given left failed old new fault_old fault_new status → AnswersWords at words given left failed old new fault_old fault_new status
   -- words that name a task, so neither a batch nor a shell
   named : (named : Words) → (task : Task) → NamesWords words named → IsTaskOf named.database named.act task
-      → TellsApart at named.config task old new fault_old fault_new status → AnswersWords at words given left failed old new fault_old fault_new status
+      → TellsApart at (choice_of named.act) named.config task old new fault_old fault_new status → AnswersWords at words given left failed old new fault_old fault_new status
 
 -- what is written for them where memory runs out for the program itself: nothing, where they name a task; of a batch and of a shell the answers of
 -- the first lines, or nothing

@@ -10,10 +10,12 @@ use Rattle.zeb_engine.specs.declared.commands.Command.TheVariants.{Init}
 use Rattle.zeb_engine.specs.declared.replies.Reply.{Reply}
 use Rattle.zeb_engine.specs.Replies.{reply_text}
 use Rattle.zeb_profile.specs.declared.directives.Directive.{Directive}
-use Rattle.zeb_register.specs.Formats.{packed_blocks}
+use Rattle.zeb_register.specs.Formats.{Format}
 use Rattle.zeb_paths.specs.declared.causes.Closed.{Closed}
 use Rattle.zeb_paths.specs.declared.causes.StoreCause.{StoreCause}
-use Rattle.zeb_program.specs.Explanations.{Explains, ExplainsUnread, refusal_cause}
+use Rattle.zeb_words.specs.declared.words.LayoutChoice.{LayoutChoice}
+use Rattle.zeb_words.specs.declared.words.LayoutChoice.TheVariants.{Unsaid}
+use Rattle.zeb_program.specs.Explanations.{Explains, ExplainsUnread, NamesRegister, refusal_cause}
 use Rattle.zeb_program.specs.declared.failures.Cause.{Cause}
 use Rattle.zeb_program.specs.declared.faults.Fault.{Fault}
 use Rattle.zeb_program.specs.declared.faults.Fault.TheVariants.{Unreadable, Refused, Memory}
@@ -23,18 +25,17 @@ use Rattle.zeb_program.specs.declared.tasks.Task.TheVariants.{Ask}
 use Rattle.zeb_program.specs.Answers.{AnswersPart, Writes}
 use Rattle.zeb_program.specs.Doing.{DoesTask, RunsText, ServesText, StopsText}
 use Rattle.zeb_program.specs.FaultAnswers.{IsOpeningFailure, Reaches}
-use Rattle.zeb_program.specs.FaultLines.{TellsCaused}
+use Rattle.zeb_program.specs.FaultLines.{TellsCaused, TellsPlaced}
 use Rattle.zeb_program.specs.Inputs.{IsInput}
 use Rattle.zeb_program.specs.ProfileFiles.{ReadsProfile}
 use Rattle.zeb_program.specs.Registers.{FailsOpening, FromStore, HasStore, LacksStore, OnRegister, Places, nothing_met}
 use Rattle.zeb_program.specs.Closings.{TellsClosed}
-use Rattle.zeb_program.specs.ScriptAnswers.{AnswersStopped, AreScriptConditions, RunsFromNothing}
+use Rattle.zeb_program.specs.ScriptAnswers.{AnswersStopped, AreConditionsIn, RunsFromNothing}
 use Rattle.zeb_program.specs.Scripts.{BeginsRegister}
 use Rattle.zeb_program.specs.Statuses.{closing_status, greater}
 use Rattle.zeb_program.specs.Serving.{Stops}
-use Rattle.zeb_program.specs.TaskAnswers.{AnswersOn, paths_of}
+use Rattle.zeb_program.specs.TaskAnswers.{AnswersOn, ReadsWhole, paths_of}
 use Rattle.zeb_program.specs.declared.statuses.Status.{Status}
-use Rattle.zeb_program.specs.declared.statuses.Status.TheVariants.{Answered, Failed}
 
 -- this is read of the profile's file
 abbrev pub ReadsAt : {S : Type 0} → Places S → String Global → Result (List Directive) Fault → Type 0
@@ -42,34 +43,35 @@ ReadsAt at config read = ReadsProfile (at.tells (string_bytes config)) config re
 
 -- ---- a task
 
--- What comes of a task under a profile, where its register was closed so; where none was opened, this is known of why.
-pub data ServesUnder {S : Type 0} (at : Places S) (profile : List Directive) (task : Task) (closed : Closed) : Result Reply Fault → Type 0 where
+-- What comes of a task under a profile, where this layout was asked for and its register was closed so; where none was opened, this is known of why.
+pub data ServesUnder {S : Type 0} (at : Places S) (choice : LayoutChoice) (profile : List Directive) (task : Task) (closed : Closed) : Result Reply Fault → Type 0 where
   -- the answer of the register, or that one of the task's paths can't be read, or one below them
-  answered : {result : Result Reply Fault} → (c : Conditions) → AreScriptConditions profile c
-      → OnRegister at profile closed (task ≡ Ask Init) (DoesTask at.store at.tells at.sees c task result)
-      (λ before. Reaches at.sees (paths_of task) result × AnswersOn at.tells c task result before) → ServesUnder at profile task closed result
+  answered : {result : Result Reply Fault} → (format : Format) → (c : Conditions) → AreConditionsIn format profile c
+      → OnRegister at choice format profile closed (task ≡ Ask Init) (DoesTask at.store at.tells at.sees format c task result)
+      (λ before. Reaches at.sees (ReadsWhole task) (paths_of task) result × AnswersOn at.tells c task result before) → ServesUnder at choice profile task closed result
   -- or memory ran out for the program itself
-  starved : ServesUnder at profile task closed (Err Memory)
+  starved : ServesUnder at choice profile task closed (Err Memory)
   -- or why none is opened
-  unopened : {why : Refusal} → HasStore at profile ⊎ (task ≡ Ask Init) → FailsOpening at profile why closed.cause → ServesUnder at profile task closed (Err (Refused why))
+  unopened : {why : Refusal} → HasStore at profile ⊎ (task ≡ Ask Init) → FailsOpening at profile why closed.cause → ServesUnder at choice profile task closed (Err (Refused why))
   -- or why none is made in memory, where none stands there and none is to be made
-  none_made : {why : Refusal} → LacksStore at profile → ¬ (task ≡ Ask Init) → IsOpeningFailure why → closed ≡ nothing_met → ServesUnder at profile task closed (Err (Refused why))
+  none_made : {why : Refusal} → LacksStore at profile → ¬ (task ≡ Ask Init) → IsOpeningFailure why → closed ≡ nothing_met → ServesUnder at choice profile task closed (Err (Refused why))
 
 -- what comes of a task by the profile in this file: no more than its fault, where it isn't read
-pub data Performs {S : Type 0} (at : Places S) (config : String Global) (task : Task) (closed : Closed) : Result Reply Fault → Type 0 where
-  unread : {fault : Fault} → ReadsAt at config (Err fault) → Performs at config task closed (Err fault)
-  performed : {result : Result Reply Fault} → (profile : List Directive) → ReadsAt at config (Ok profile) → ServesUnder at profile task closed result
-      → Performs at config task closed result
+pub data Performs {S : Type 0} (at : Places S) (choice : LayoutChoice) (config : String Global) (task : Task) (closed : Closed) : Result Reply Fault → Type 0 where
+  unread : {fault : Fault} → ReadsAt at config (Err fault) → Performs at choice config task closed (Err fault)
+  performed : {result : Result Reply Fault} → (profile : List Directive) → ReadsAt at config (Ok profile) → ServesUnder at choice profile task closed result
+      → Performs at choice config task closed result
 
 -- the text of a reply that comes of the task is written
-abbrev pub WritesReply : {S : Type 0} → Places S → String Global → Task → Closed → Option (List ℕ) → Option (List ℕ) → Type 0
-WritesReply at config task closed old new = (reply : Reply) × Performs at config task closed (Ok reply) × Appends old new (reply_text reply)
+abbrev pub WritesReply : {S : Type 0} → Places S → LayoutChoice → String Global → Task → Closed → Option (List ℕ) → Option (List ℕ) → Type 0
+WritesReply at choice config task closed old new = (reply : Reply) × Performs at choice config task closed (Ok reply) × Appends old new (reply_text reply)
 
--- the lines of a fault that comes of the task, and of what is known of why
-abbrev pub TellsWhy : {S : Type 0} → Places S → String Global → Task → Status → List ℕ → Type 0
-TellsWhy at config task status bytes =
-    (fault : Fault) × (cause : Option Cause) × (closed : Closed) × Performs at config task closed (Err fault)
-    × Explains at.sees at.explains (paths_of task) closed.cause fault cause × TellsCaused fault cause bytes status
+-- the lines of a fault that comes of the task, and of what is known of why; and of one about the register its path
+abbrev pub TellsWhy : {S : Type 0} → Places S → LayoutChoice → String Global → Task → Status → List ℕ → Type 0
+TellsWhy at choice config task status bytes =
+    (fault : Fault) × (cause : Option Cause) × (closed : Closed) × Performs at choice config task closed (Err fault)
+    × Explains at.sees at.explains (paths_of task) closed.cause fault cause
+    × ((register : Option (String Global)) × NamesRegister (at.sees.bytes (string_bytes config)) config fault register × TellsPlaced fault cause register bytes status)
 
 -- ---- the lines of the input
 
@@ -97,7 +99,8 @@ IsText given text = IsInput text × IfSome given (λ bytes. text ≡ bytes)
 -- The lines of a text are run as a batch, numbered from 1: on the register in the store, or, where none stands there and no line begins one, on one in
 -- memory as those of a script. This is the greatest status met.
 pub data RunsLines {S : Type 0} (at : Places S) (profile : List Directive) (text : List ℕ) (old new fault_old fault_new : Option (List ℕ)) : Status → Type 0 where
-  on_store : (c : Conditions) → (answered : Status) → (closed : Closed) → AreScriptConditions profile c → HasStore at profile ⊎ BeginsRegister text → FromStore at profile closed (RunsText at.store at.tells packed_blocks c 0 text old new answered)
+  on_store : (format : Format) → (c : Conditions) → (answered : Status) → (closed : Closed) → AreConditionsIn format profile c → HasStore at profile ⊎ BeginsRegister text
+      → FromStore at Unsaid format profile closed (RunsText at.store at.tells format c 0 text old new answered)
       → TellsClosed fault_old fault_new closed → RunsLines at profile text old new fault_old fault_new (greater answered (closing_status closed))
   in_memory : {status : Status} → LacksStore at profile → ¬ BeginsRegister text → Keeps fault_old fault_new
       → RunsFromNothing at.tells profile 0 text old new status → RunsLines at profile text old new fault_old fault_new status
@@ -119,10 +122,10 @@ pub data RunsShell {S : Type 0} (at : Places S) (config : String Global) (given 
   -- no register is opened, and no byte of the input is gone
   shell_stopped : {status : Status} → (fault : Fault) → (cause : Option Cause) → StopsOpening at config fault cause → left ≡ given → Keeps old new
       → Writes fault_old fault_new (λ bytes. TellsCaused fault cause bytes status) → RunsShell at config given left failed old new fault_old fault_new status
-  shell_ran : (profile : List Directive) → (c : Conditions) → (between : Option (List ℕ)) → (answered : Status) → (closed : Closed)
-      → ReadsAt at config (Ok profile) → AreScriptConditions profile c
-      → FromStore at profile closed (λ first last. IfSome given
-      (λ text. ServesText at.store at.tells packed_blocks c text left failed old new fault_old between answered first last))
+  shell_ran : (profile : List Directive) → (format : Format) → (c : Conditions) → (between : Option (List ℕ)) → (answered : Status) → (closed : Closed)
+      → ReadsAt at config (Ok profile) → AreConditionsIn format profile c
+      → FromStore at Unsaid format profile closed (λ first last. IfSome given
+      (λ text. ServesText at.store at.tells format c text left failed old new fault_old between answered first last))
       → TellsClosed between fault_new closed → RunsShell at config given left failed old new fault_old fault_new (greater answered (closing_status closed))
 
 -- ---- where memory runs out for the program itself
@@ -130,8 +133,8 @@ pub data RunsShell {S : Type 0} (at : Places S) (config : String Global) (given 
 -- Of the lines of a text that are run as a batch the first are answered, or none, and the rest are not: on the register in the store, on one in
 -- memory, or before one is opened.
 pub data StopsLines {S : Type 0} (at : Places S) (profile : List Directive) (text : List ℕ) (old new fault_old fault_new : Option (List ℕ)) : Type 0 where
-  part_on_store : (c : Conditions) → (closed : Closed) → AreScriptConditions profile c → HasStore at profile ⊎ BeginsRegister text
-      → FromStore at profile closed (λ first _. Stops (state at.store first) old new (AnswersPart at.tells c 0 text))
+  part_on_store : (format : Format) → (c : Conditions) → (closed : Closed) → AreConditionsIn format profile c → HasStore at profile ⊎ BeginsRegister text
+      → FromStore at Unsaid format profile closed (λ first _. Stops (state at.store first) old new (AnswersPart at.tells c 0 text))
       → TellsClosed fault_old fault_new closed → StopsLines at profile text old new fault_old fault_new
   part_in_memory : LacksStore at profile → ¬ BeginsRegister text → Keeps fault_old fault_new
       → AnswersStopped at.tells profile 0 text old new → StopsLines at profile text old new fault_old fault_new
@@ -146,6 +149,6 @@ pub data StopsBatch {S : Type 0} (at : Places S) (config : String Global) (given
 -- and for a shell, where this is left of the input
 pub data StopsShell {S : Type 0} (at : Places S) (config : String Global) (given left old new fault_old fault_new : Option (List ℕ)) : Type 0 where
   shell_silent : Keeps old new → Keeps fault_old fault_new → StopsShell at config given left old new fault_old fault_new
-  shell_part : (profile : List Directive) → (c : Conditions) → (closed : Closed) → ReadsAt at config (Ok profile) → AreScriptConditions profile c
-      → FromStore at profile closed (λ first last. IfSome given (λ text. StopsText at.store at.tells packed_blocks c Starved text left old new first last))
+  shell_part : (profile : List Directive) → (format : Format) → (c : Conditions) → (closed : Closed) → ReadsAt at config (Ok profile) → AreConditionsIn format profile c
+      → FromStore at Unsaid format profile closed (λ first last. IfSome given (λ text. StopsText at.store at.tells format c Starved text left old new first last))
       → TellsClosed fault_old fault_new closed → StopsShell at config given left old new fault_old fault_new

@@ -1,9 +1,9 @@
 //! The analysis of the files at and below paths, one after the other: one file is held at a time, and the lines of the records before.
 
-ghost use Rattle.std.specs.Prelude.{◌≡◌, ◌⊎◌, ◌+◌, ◌∷◌, ◌++◌, [], ℕ, List, length, map, string_bytes, IfErr, IfOk};
+ghost use Rattle.std.specs.Prelude.{◌≡◌, ◌⊎◌, ⊤, ◌+◌, ◌∷◌, ◌++◌, [], ℕ, List, length, map, string_bytes, IfErr, IfOk};
 ghost use Rattle.zeb_engine.specs.Analysed.{HasLines};
 ghost use Rattle.zeb_paths.specs.Walks.{telling};
-ghost use Rattle.zeb_program.specs.FaultAnswers.{NamesUnder};
+ghost use Rattle.zeb_program.specs.FaultAnswers.{NamesMet};
 ghost use Rattle.zeb_program.specs.Inputs.{AreShort};
 ghost use Rattle.zeb_program.specs.PrivateAnalyses.{ReadsFiles};
 ghost use Rattle.zeb_program.specs.PrivateFaults.{IsUnreadAt};
@@ -45,7 +45,8 @@ pub fn analyse_files<S: Alter, L: Layout, P: Paths>(
         (map string_bytes named.now) files
         → IfErr result (λ fault. (fault ≡ Memory) ⊎ (¬ AreShort files)) }
     ensures unread { IfErr result (IsUnreadAt (P.tells paths.now)) }
-    ensures under { IfErr result (NamesUnder (map string_bytes named.now)) }
+    ensures met { IfErr result (NamesMet (telling (P.tells paths.now) (P.stands paths.now)
+        (P.lists paths.now)) ⊤ (map string_bytes named.now)) }
     ensures found { IfOk result (λ _. FindsAll (telling (P.tells paths.now) (P.stands paths.now)
         (P.lists paths.now)) (map string_bytes named.now)) }
 {

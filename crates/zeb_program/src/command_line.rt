@@ -3,8 +3,8 @@
 ghost use Rattle.std.specs.Prelude.{◌≡◌, ◌≢◌, ◌⊎◌, ◌+◌, ◌++◌, false, true, map, string_bytes, Ok, IfErr, IfOk};
 ghost use Rattle.std.specs.Prelude.{OnErr, IsErrAnd};
 ghost use Rattle.zeb_change.specs.Conditions.{conditions};
-ghost use Rattle.zeb_register.specs.Formats.{packed_blocks, version_of};
-ghost use Rattle.zeb_program.specs.PrivateWordRuns.{ClosesAloud, EndsSession, OpensUnder, RunsIn, ServesIn, StopsIn, StopsServing};
+ghost use Rattle.zeb_register.specs.Formats.{version_of};
+ghost use Rattle.zeb_program.specs.PrivateWordRuns.{OpensUnder, format_of};
 ghost use Rattle.zeb_program.specs.ProfileFiles.{ReadsProfile};
 ghost use Rattle.zeb_program.specs.Registers.{places};
 ghost use Rattle.zeb_program.specs.Statuses.{closing_status};
@@ -19,25 +19,24 @@ ghost use Rattle.zeb_program.specs.Warnings.{warning_bytes};
 ghost use Rattle.zeb_program.specs.Closings.{TellsClosed};
 ghost use Rattle.std.specs.Option.{option_map};
 
-use crate::batch::{run_lines, run_on_nothing};
-use crate::failures::{Failure, tell_closed, tell_failure};
+use crate::batch::run_on_nothing;
+use crate::failures::{Failure, tell_closed, tell_failure, tell_task_failure};
 use crate::files::unread;
 use crate::input::{GREATEST_INPUT, read_text};
+use crate::opening::OpenRegister;
 use crate::outputs::Output;
-use crate::performing::{Told, close_register, open_register, perform, profile_at, uses_store};
+use crate::performing::{Told, open_register, perform, profile_at, uses_store};
+use crate::register_lines::{run_on, serve_on};
 use crate::script::Batch;
-use crate::shell::serve_lines;
 use crate::sinks::Sink;
 use crate::statuses::Status;
-use crate::tasks::{Errand, Task};
+use crate::tasks::{Errand, Task, layout_asked};
 use std::alloc::{AllocError, Global};
 use std::io::Write;
-use zeb_engine::Session;
 use zeb_marc::Source;
-use zeb_packed::Blocks;
 use zeb_paths::Paths;
 use zeb_profile::Profile;
-use zeb_words::{Usage, Words, read_words};
+use zeb_words::{LayoutChoice, Usage, Words, read_words};
 
 /// Does what the words ask for, and answers the status. Memory that runs out in the program itself is no status.
 pub fn run_words<R: Source, W: Output, V: Write, P: Paths>(
@@ -76,8 +75,9 @@ pub fn run_words<R: Source, W: Output, V: Write, P: Paths>(
         Ok(words) => words,
         Err(usage) => return Ok(refuse_words(usage, output, fault_output)),
     };
+    let choice = layout_asked(&act);
     match Errand::of(database, act) {
-        Errand::Task(task) => run_task(alloc, config, &task, paths, output, fault_output),
+        Errand::Task(task) => run_task(alloc, config, choice, &task, paths, output, fault_output),
         Errand::Batch => run_batch(alloc, config, paths, input, output, fault_output),
         Errand::Shell => run_shell(alloc, config, paths, input, output, fault_output),
     }
@@ -115,10 +115,11 @@ fn misuse<V: Write>(text: &str, fault_output: &mut Sink<V>) -> Status
     Status::Misused
 }
 
-/// Carries out a task, writes its answer and what it warns of, and answers the status.
+/// Carries out a task that asks for this layout, writes its answer and what it warns of, and answers the status.
 fn run_task<W: Write, V: Write, P: Paths>(
     alloc: Global,
     config: String,
+    choice: LayoutChoice,
     task: &Task,
     paths: &mut P,
     output: &mut Sink<W>,
@@ -127,15 +128,16 @@ fn run_task<W: Write, V: Write, P: Paths>(
     ensures apart { IfOk result (λ status. output.new.failed ≡ false
         → fault_output.new.failed ≡ false → TellsApart (places P.Store.Store P.tells P.stands
         P.lists P.explains P.opens P.refuses P.lacks P.has P.lets_go P.leaves paths.old paths.new)
-        config task.now (W.contents output.old.writer) (W.contents output.new.writer)
+        choice config task.now (W.contents output.old.writer) (W.contents output.new.writer)
         (V.contents fault_output.old.writer) (V.contents fault_output.new.writer) status) }
     // Memory that runs out in the program itself is found before anything is written.
     ensures stopped { OnErr result ((output.new ≡ output.old)
         × (fault_output.new ≡ fault_output.old)) }
 {
-    match perform(alloc, config, task, paths) {
+    let named = config.clone()?;
+    match perform(alloc, config, choice, task, paths) {
         Ok(told) => Ok(tell_answer(&told, output, fault_output)),
-        Err(failure) => tell_failure(alloc, &failure, fault_output),
+        Err(failure) => tell_task_failure(alloc, paths, named, &failure, fault_output),
     }
 }
 
@@ -264,38 +266,10 @@ fn serve_batch<W: Write, V: Write, P: Paths>(
     if !uses_store(paths, &profile, batch.begins()) {
         return run_on_nothing(alloc, profile, paths, batch, output, fault_output);
     }
-    match open_register(alloc, paths, profile) {
-        Ok(session) => run_in(alloc, session, paths, batch, output, fault_output),
+    match open_register(alloc, paths, LayoutChoice::Unsaid, profile) {
+        Ok(register) => run_on(alloc, register, paths, batch, output, fault_output),
         Err(failure) => tell_failure(alloc, &failure, fault_output),
     }
-}
-
-/// Runs the lines of a batch in a session, and closes its register.
-fn run_in<W: Write, V: Write, P: Paths>(
-    alloc: Global,
-    session: Session<P::Store, Blocks>,
-    paths: &P,
-    batch: Batch<'_>,
-    output: &mut Sink<W>,
-    fault_output: &mut Sink<V>,
-) -> Result<Status, AllocError>
-    ensures answer { IfOk result (λ status. output.new.failed ≡ false
-        → fault_output.new.failed ≡ false → RunsIn P.Store.Store (P.leaves paths.now)
-        (P.tells paths.now)
-        (conditions (version_of packed_blocks) session.profile session.limits)
-        batch.entry.lines_before batch.entry.text.now session.connection
-        (W.contents output.old.writer) (W.contents output.new.writer)
-        (V.contents fault_output.old.writer) (V.contents fault_output.new.writer) status) }
-    ensures stopped { OnErr result (output.new.failed ≡ false → fault_output.new.failed ≡ false
-        → StopsIn P.Store.Store (P.leaves paths.now) (P.tells paths.now)
-        (conditions (version_of packed_blocks)
-        session.profile session.limits) batch.entry.lines_before batch.entry.text.now
-        session.connection (W.contents output.old.writer) (W.contents output.new.writer)
-        (V.contents fault_output.old.writer) (V.contents fault_output.new.writer)) }
-{
-    let mut session = session;
-    let answered = run_lines(alloc, &mut session, paths, batch, output);
-    end_session(paths, session, answered, fault_output)
 }
 
 /// Runs the lines of the input as they come, and answers the greatest status met.
@@ -325,59 +299,9 @@ fn run_shell<R: Source, W: Output, V: Write, P: Paths>(
         (V.contents fault_output.old.writer) (V.contents fault_output.new.writer)) }
 {
     match open(alloc, config, paths) {
-        Ok(session) => serve_in(alloc, session, paths, input, output, fault_output),
+        Ok(register) => serve_on(alloc, register, paths, input, output, fault_output),
         Err(failure) => tell_failure(alloc, &failure, fault_output),
     }
-}
-
-/// Serves the lines of the input in a session, and closes its register behind the last.
-fn serve_in<R: Source, W: Output, V: Write, P: Paths>(
-    alloc: Global,
-    session: Session<P::Store, Blocks>,
-    paths: &P,
-    input: &mut R,
-    output: &mut Sink<W>,
-    fault_output: &mut Sink<V>,
-) -> Result<Status, AllocError>
-    requires { R.has_failed input.old ≡ false }
-    ensures failed_read { R.has_failed input.new ≡ true
-        → IfOk result (λ status. status ≡ Status.Failed) }
-    ensures whole { IfOk result (λ status. status ≢ Status.Failed
-        → IsAtEnd (R.remaining input.new)) }
-    ensures answer { IfOk result (λ status. output.new.failed ≡ false
-        → fault_output.new.failed ≡ false → ServesIn P.Store.Store (P.leaves paths.now)
-        (P.tells paths.now)
-        (conditions (version_of packed_blocks) session.profile session.limits)
-        (R.remaining input.old) (R.remaining input.new) (R.has_failed input.new)
-        session.connection (W.contents output.old.writer) (W.contents output.new.writer)
-        (V.contents fault_output.old.writer) (V.contents fault_output.new.writer) status) }
-    ensures stopped { OnErr result (output.new.failed ≡ false → fault_output.new.failed ≡ false
-        → StopsServing P.Store.Store (P.leaves paths.now) (P.tells paths.now)
-        (conditions (version_of packed_blocks)
-        session.profile session.limits) (R.remaining input.old) (R.remaining input.new)
-        session.connection (W.contents output.old.writer) (W.contents output.new.writer)
-        (V.contents fault_output.old.writer) (V.contents fault_output.new.writer)) }
-{
-    let mut session = session;
-    let answered = serve_lines(alloc, &mut session, paths, input, output, fault_output);
-    end_session(paths, session, answered, fault_output)
-}
-
-/// Closes the register of a session whose lines are answered so, tells where not all stands in its one file then, and answers the
-/// greatest status.
-fn end_session<V: Write, P: Paths>(
-    paths: &P,
-    session: Session<P::Store, Blocks>,
-    answered: Result<Status, AllocError>,
-    fault_output: &mut Sink<V>,
-) -> Result<Status, AllocError>
-    ensures sound { fault_output.new.failed ≡ false → fault_output.old.failed ≡ false }
-    ensures ends { EndsSession answered result (ClosesAloud P.Store.Store (P.leaves paths.now)
-        session.connection fault_output.new.failed (V.contents fault_output.old.writer)
-        (V.contents fault_output.new.writer)) }
-{
-    let closed = tell_closed(close_register(paths, session), fault_output);
-    Ok(answered?.max(closed))
 }
 
 /// Opens the register that the profile in this file names.
@@ -385,16 +309,16 @@ fn open<P: Paths>(
     alloc: Global,
     config: String,
     paths: &mut P,
-) -> Result<Session<P::Store, Blocks>, Failure>
-    ensures opened { IfOk result (λ session. OpensUnder (places P.Store.Store P.tells P.stands
+) -> Result<OpenRegister<P::Store>, Failure>
+    ensures opened { IfOk result (λ register. OpensUnder (places P.Store.Store P.tells P.stands
         P.lists P.explains P.opens P.refuses P.lacks P.has P.lets_go P.leaves paths.old paths.new)
-        config (conditions (version_of packed_blocks) session.profile session.limits)
-        session.connection) }
+        config (format_of register.1) (conditions (version_of (format_of register.1))
+        register.0.profile register.0.limits) register.0.connection) }
     ensures failed { IfErr result (λ failure. StopsOpening (places P.Store.Store P.tells P.stands
         P.lists P.explains P.opens P.refuses P.lacks P.has P.lets_go P.leaves paths.old paths.new)
         config failure.fault failure.cause) }
     ensures told { P.tells paths.new ≡ P.tells paths.old }
 {
     let profile = profile_at(alloc, paths, config)?;
-    open_register(alloc, paths, profile)
+    open_register(alloc, paths, LayoutChoice::Unsaid, profile)
 }

@@ -1,25 +1,28 @@
 //! Why a command that words name isn't answered, with its cause, and what is written of both.
 
-ghost use Rattle.std.specs.Prelude.{◌≡◌, false, true, None, IfOk, OnErr};
+ghost use Rattle.std.specs.Prelude.{◌≡◌, false, true, None, IfOk, OnErr, string_bytes};
 ghost use Rattle.std.specs.Option.{option_map};
 ghost use Rattle.zeb_program.specs.Answers.{Writes};
 ghost use Rattle.zeb_program.specs.Closings.{TellsClosed};
-ghost use Rattle.zeb_program.specs.FaultLines.{IsCauseOf, TellsCaused, cause_line, cause_lines, unclosed_lines, unread_lines};
+ghost use Rattle.zeb_program.specs.FaultLines.{IsCauseOf, TellsCaused, TellsPlaced, cause_line, cause_lines, met_line, met_lines, register_lines, unclosed_lines, unread_lines};
 ghost use Rattle.zeb_program.specs.declared.failures.Cause.TheVariants.{Path as PathOf, Store as StoreOf};
-ghost use Rattle.zeb_program.specs.Explanations.{ExplainsUnread, refusal_cause};
+ghost use Rattle.zeb_program.specs.Explanations as spec;
+ghost use Rattle.zeb_program.specs.FaultLines as lines;
+ghost use Rattle.zeb_program.specs.Explanations.{ExplainsUnread, IsFileCause, MeetsFile, NamesRegister, refusal_cause};
 ghost use Rattle.zeb_program.specs.PrivateFaults.{IsUnread};
 ghost use Rattle.zeb_program.specs.Statuses.{IsFaultStatus, closing_status};
 ghost use Rattle.zeb_program.specs.declared.faults.Fault.TheVariants.{Memory, Refused};
 ghost use Rattle.std.specs.Io.KnownBytes.{Appends};
 
 use crate::faults::{Fault, tell};
+use crate::files::read_profile;
 use crate::line_input::InputCause;
 use crate::sinks::Sink;
 use crate::statuses::Status;
 use std::alloc::{AllocError, Global};
 use std::io::Write;
-use zeb_engine::Refusal;
-use zeb_paths::{Closed, PathCause, Paths, StoreCause};
+use zeb_engine::{RecordFault, Refusal};
+use zeb_paths::{Asked, Closed, PathCause, Paths, StoreCause};
 
 /// What is known of why there is a fault.
 #[derive(Debug, Drop)]
@@ -30,8 +33,12 @@ pub enum Cause {
     Store(StoreCause),
     /// Why the input can't be read on.
     Input(InputCause),
-    /// The path of the file that has this number.
-    File { number: u64, path: String },
+    /// The path of the file that has this number, and what is told of it.
+    File {
+        number: u64,
+        path: String,
+        met: Option<PathCause>,
+    },
 }
 
 /// Why a command isn't answered, and the cause, where it is known.
@@ -66,13 +73,13 @@ impl From<Refusal> for Failure {
     }
 }
 
-/// A fault, with what its path is met with where it is looked at anew.
-pub fn of_path<P: Paths>(paths: &P, fault: Fault) -> Failure
+/// A fault, with what its path, which was asked for so, is met with where it is looked at anew.
+pub fn of_path<P: Paths>(paths: &P, fault: Fault, asked: Asked) -> Failure
     ensures fault { result.fault ≡ fault }
     ensures cause { ExplainsUnread (P.explains paths.now) fault result.cause }
 {
     let cause = match &fault {
-        Fault::Unreadable(path) => path_cause(paths.why_unread(path.as_str())),
+        Fault::Unreadable(path) => path_cause(paths.why_unread(path.as_str(), asked)),
         _ => None,
     };
     Failure { fault, cause }
@@ -90,6 +97,45 @@ fn store_cause(met: Option<StoreCause>) -> Option<Cause>
     ensures { result ≡ option_map StoreOf met }
 {
     met.map(Cause::Store)
+}
+
+/// The path of the file that a refusal is about, which has this number, as a cause, with what is told of it.
+pub fn of_file<P: Paths>(
+    paths: &P,
+    refusal: &Refusal,
+    number: u64,
+    found: Option<String>,
+) -> Option<Cause>
+    ensures { IsFileCause (P.explains paths.now) refusal.now number found result }
+{
+    match found {
+        Some(path) => {
+            let met = file_met(paths, refusal, path.as_str());
+            Some(Cause::File { number, path, met })
+        }
+        None => None,
+    }
+}
+
+/// What is told of the file at this path that a refusal is about: why a read failed, or what its first record may be.
+fn file_met<P: Paths>(paths: &P, refusal: &Refusal, path: &str) -> Option<PathCause>
+    ensures { MeetsFile (P.explains paths.now) refusal.now path.now result }
+{
+    match refusal {
+        Refusal::ReadFault { .. } => paths.why_unread(path, Asked::Bytes),
+        Refusal::Record { nth, fault, .. } => record_cause(*nth, *fault),
+        _ => None,
+    }
+}
+
+/// What is told of a file with a faulty record of this number.
+fn record_cause(nth: u64, fault: RecordFault) -> Option<PathCause>
+    ensures { result ≡ spec.record_cause nth fault }
+{
+    match fault {
+        RecordFault::LengthDigits if nth == 1 => Some(PathCause::NoRecord),
+        _ => None,
+    }
 }
 
 /// A refusal; of a failed store the cause is this one.
@@ -126,6 +172,63 @@ pub fn tell_failure<W: Write>(
     Ok(status)
 }
 
+/// Writes the lines of a task's failure, and below them the path of its register, where the fault is about that, and answers the
+/// status. For want of memory nothing is written.
+pub fn tell_task_failure<P: Paths, W: Write>(
+    alloc: Global,
+    paths: &P,
+    config: String,
+    failure: &Failure,
+    output: &mut Sink<W>,
+) -> Result<Status, AllocError>
+    ensures told { IfOk result (λ status. output.new.failed ≡ false →
+        Writes (W.contents output.old.writer) (W.contents output.new.writer) (λ bytes. (register : _)
+        × NamesRegister (P.tells paths.now (string_bytes config)) config failure.now.fault register
+        × TellsPlaced failure.now.fault failure.now.cause register bytes status)) }
+    ensures status { IfOk result IsFaultStatus }
+    ensures silent { OnErr result (output.new ≡ output.old) }
+{
+    let register = register_of(alloc, paths, config, &failure.fault);
+    let status = tell_failure(alloc, failure, output)?;
+    tell_register(&register, output);
+    Ok(status)
+}
+
+/// The path of the register that a fault is about, by the profile in this file, which is read anew.
+fn register_of<P: Paths>(alloc: Global, paths: &P, config: String, fault: &Fault) -> Option<String>
+    ensures { NamesRegister (P.tells paths.now (string_bytes config)) config fault.now result }
+{
+    if !is_of_register(fault) {
+        return None;
+    }
+    match read_profile(alloc, paths, config) {
+        Ok(profile) => String::from_str(alloc, profile.store_path()).ok(),
+        Err(_) => None,
+    }
+}
+
+/// Whether a fault is about the register at the profile's path.
+fn is_of_register(fault: &Fault) -> bool
+    ensures { result ≡ lines.is_of_register fault.now }
+{
+    matches!(
+        fault,
+        Fault::Refused(Refusal::NotInitialised | Refusal::Store)
+    )
+}
+
+/// Writes the line of a register's path, where one is told.
+fn tell_register<W: Write>(register: &Option<String>, output: &mut Sink<W>)
+    ensures told { output.new.failed ≡ false → Appends (W.contents output.old.writer)
+        (W.contents output.new.writer) (register_lines register.now) }
+    ensures sound { output.new.failed ≡ false → output.old.failed ≡ false }
+{
+    match register {
+        Some(path) => output.write_line(format_args!("zebraidx: register is {path}")),
+        None => {}
+    }
+}
+
 /// Writes the line of a cause, where one is known.
 fn tell_cause<W: Write>(cause: &Option<Cause>, output: &mut Sink<W>)
     ensures told { output.new.failed ≡ false → Appends (W.contents output.old.writer)
@@ -144,13 +247,34 @@ fn write_cause<W: Write>(cause: &Cause, output: &mut Sink<W>)
     ensures sound { output.new.failed ≡ false → output.old.failed ≡ false }
 {
     match cause {
-        Cause::Path(cause) => output.write_line(format_args!("zebraidx: cause: {cause}")),
+        Cause::Path(cause) => write_met(*cause, output),
         Cause::Store(cause) => output.write_line(format_args!("zebraidx: cause: {cause}")),
         Cause::Input(cause) => output.write_line(format_args!("zebraidx: cause: {cause}")),
-        Cause::File { number, path } => {
+        Cause::File { number, path, met } => {
             output.write_line(format_args!("zebraidx: file {number} is {path}"));
+            tell_met(*met, output);
         }
     }
+}
+
+/// Writes the line of what is told of a path, where something is.
+fn tell_met<W: Write>(met: Option<PathCause>, output: &mut Sink<W>)
+    ensures told { output.new.failed ≡ false → Appends (W.contents output.old.writer)
+        (W.contents output.new.writer) (met_lines met) }
+    ensures sound { output.new.failed ≡ false → output.old.failed ≡ false }
+{
+    match met {
+        Some(cause) => write_met(cause, output),
+        None => {}
+    }
+}
+
+fn write_met<W: Write>(cause: PathCause, output: &mut Sink<W>)
+    ensures line { output.new.failed ≡ false → Appends (W.contents output.old.writer)
+        (W.contents output.new.writer) (met_line cause) }
+    ensures sound { output.new.failed ≡ false → output.old.failed ≡ false }
+{
+    output.write_line(format_args!("zebraidx: cause: {cause}"));
 }
 
 /// Writes that the input can't be read on, and why.

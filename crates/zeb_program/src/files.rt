@@ -76,7 +76,10 @@ pub fn readers_of<P: Paths>(
     ensures given { IfOk result (λ readers. ReadsBelow P.Reader.remaining
         (telling (P.tells paths.now) (P.stands paths.now) (P.lists paths.now))
         (map string_bytes named.now) readers.items) }
-    ensures unfound { IfErr result (IsUnfound (P.tells paths.now) (map string_bytes named.now)) }
+    // The path that is told is the one that the walk comes to and can't go on at.
+    ensures unfound { IfErr result (IsUnfound
+        (telling (P.tells paths.now) (P.stands paths.now) (P.lists paths.now))
+        (map string_bytes named.now)) }
 {
     let mut readers = Vec::new(alloc);
     let mut walk = Walk::new(alloc, paths, named)?;

@@ -19,6 +19,7 @@ mod outputs;
 mod path_changes;
 mod performing;
 mod program;
+mod register_lines;
 mod script;
 mod shell;
 mod sinks;

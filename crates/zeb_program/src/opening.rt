@@ -1,20 +1,25 @@
 //! The session over a register's store, or the refusal by which there is none.
 
-ghost use Rattle.std.specs.Prelude.{◌≡◌, false, None, Ok, Err, Some, IfErr, IfOk, MatchResult, OnErr};
+ghost use Rattle.std.specs.Prelude.{◌≡◌, false, None, Ok, Err, Some, IfErr, IfOk, MatchResult};
 ghost use Rattle.sqlite.specs.Held.{state};
 ghost use Rattle.sqlite.specs.State.{HasCleanDisk};
 ghost use Rattle.zeb_change.specs.Conditions.{conditions};
 ghost use Rattle.zeb_engine.specs.Adopting.{HasOtherTables};
 ghost use Rattle.zeb_register.specs.Formats.{packed_blocks, version_of};
+ghost use Rattle.zeb_words.specs.declared.words.LayoutChoice.TheVariants.{Unsaid};
+ghost use Rattle.zeb_program.specs.FaultAnswers.{IsOpeningFailure, unopened_refusal};
+ghost use Rattle.zeb_program.specs.PrivateWordRuns.{OnlyLooked, TellsLayout};
 ghost use Rattle.zeb_program.specs.Registers.{IsGivenBack, IsTakenOver};
 ghost use Rattle.zeb_program.specs.ScriptAnswers.{AreScriptConditions};
 
 use sqlite::{Alter, Connection};
 use std::alloc::Global;
 use zeb_engine::{Limits, Refusal, Session};
+use zeb_leaves::Leaves;
 use zeb_packed::Blocks;
-use zeb_paths::OpenFailed;
+use zeb_paths::{OpenFailed, StoreCause};
 use zeb_profile::Profile;
+use zeb_words::LayoutChoice;
 
 /// What a session that takes a store over answers: where it refuses, with the store.
 type Adopted<S> = Result<Session<S, Blocks>, (Connection<S>, Refusal)>;
@@ -22,15 +27,26 @@ type Adopted<S> = Result<Session<S, Blocks>, (Connection<S>, Refusal)>;
 /// A session, or why there is none, with what was opened, if it was.
 pub type Opened<S> = Result<Session<S, Blocks>, (Option<Connection<S>>, Refusal)>;
 
+/// A register that is open, and in which layout it is used.
+pub type OpenRegister<S> = (Session<S, Blocks>, UsedLayout);
+
+/// In which layout a register is used.
+#[derive(Clone, Copy, Debug, PartialEq, Eq)]
+pub enum UsedLayout {
+    Blocks,
+    Leaves,
+}
+
 /// Takes over what was opened for a register, under the profile and the greatest limits. An open that failed is a failed
-/// store, and a store that isn't taken over is refused by what refused it.
+/// store, or want of memory where that is its cause, and a store that isn't taken over is refused by what refused it.
 pub fn session_over<S: Alter + Drop>(
     alloc: Global,
     opened: Result<Connection<S>, OpenFailed>,
     profile: Profile,
 ) -> Opened<S>
     requires idle { IfOk opened (λ connection. connection.in_transaction ≡ false) }
-    ensures unopened { OnErr opened (result ≡ Err (None, Refusal.Store)) }
+    ensures unopened { IfErr opened (λ failed.
+        result ≡ Err (None, unopened_refusal failed.cause)) }
     ensures other { IfOk opened (λ connection. HasOtherTables (state S.Store connection)
         → result ≡ Err (Some connection, Refusal.Store)) }
     ensures refused { IfOk opened (λ connection. IfErr result (λ why. (back : _)
@@ -45,7 +61,57 @@ pub fn session_over<S: Alter + Drop>(
         Ok(connection) => {
             taken_over(Session::adopt(alloc, connection, profile, Limits::GREATEST))
         }
-        Err(_) => Err((None, Refusal::Store)),
+        Err(failed) => Err((None, unopened(failed))),
+    }
+}
+
+/// The refusal of a store that can't be opened: where memory ran out, that is told.
+fn unopened(failed: OpenFailed) -> Refusal
+    ensures { result ≡ unopened_refusal failed.cause }
+{
+    match failed.cause {
+        Some(StoreCause::Memory) => Refusal::Memory,
+        _ => Refusal::Store,
+    }
+}
+
+/// In which layout a register is used: in leaves where they are asked for or where the store keeps their version, else in packed
+/// blocks. So it is where the version can't be read, and a command tells that. Nothing is done to the store but a look.
+pub fn layout_of<S: Alter>(
+    choice: LayoutChoice,
+    session: &mut Session<S, Blocks>,
+) -> Result<UsedLayout, Refusal>
+    ensures told { HasCleanDisk (state S.Store session.new.connection)
+        → TellsLayout choice (state S.Store session.new.connection) result }
+    ensures failed { IfErr result IsOpeningFailure }
+    ensures looked { OnlyLooked (state S.Store session.old.connection)
+        (state S.Store session.new.connection) result }
+    ensures under { (session.new.profile ≡ session.old.profile)
+        × (session.new.limits ≡ session.old.limits) }
+{
+    match choice {
+        LayoutChoice::Leaves => Ok(UsedLayout::Leaves),
+        LayoutChoice::Unsaid => kept_layout(session),
+    }
+}
+
+/// The layout whose version the store keeps, where that is leaves, or packed blocks.
+fn kept_layout<S: Alter>(session: &mut Session<S, Blocks>) -> Result<UsedLayout, Refusal>
+    ensures told { HasCleanDisk (state S.Store session.new.connection)
+        → TellsLayout Unsaid (state S.Store session.new.connection) result }
+    ensures failed { IfErr result IsOpeningFailure }
+    ensures looked { OnlyLooked (state S.Store session.old.connection)
+        (state S.Store session.new.connection) result }
+    ensures under { (session.new.profile ≡ session.old.profile)
+        × (session.new.limits ≡ session.old.limits) }
+{
+    match session.keeps_layout::<Leaves>() {
+        Ok(true) => Ok(UsedLayout::Leaves),
+        Ok(false) => Ok(UsedLayout::Blocks),
+        // The version can't be read, as any command tells.
+        Err(Refusal::Damaged) => Ok(UsedLayout::Blocks),
+        Err(Refusal::Store) => Err(Refusal::Store),
+        Err(_) => Err(Refusal::Memory),
     }
 }
 

@@ -1,13 +1,14 @@
 //! A task from the words to what is told of it: the register is opened, the task is carried out, and the register is closed.
 
-ghost use Rattle.std.specs.Prelude.{◌≡◌, ◌≢◌, ◌⊎◌, false, true, [], IfErr, IfOk, IfSome, None, Result, Some, string_bytes};
+ghost use Rattle.std.specs.Prelude.{◌≡◌, ◌⊎◌, ◌↔◌, false, true, IfErr, IfOk, IfSome, IsTrue, None, Result, string_bytes};
 ghost use Rattle.sqlite.specs.Held.{state};
 ghost use Rattle.zeb_paths.specs.Walks.{telling};
+ghost use Rattle.zeb_engine.specs.Adopting.{HasOtherTables};
 ghost use Rattle.zeb_engine.specs.declared.replies.Reply.{Reply};
 ghost use Rattle.zeb_program.specs.PrivateServing.{StandsFor};
-ghost use Rattle.zeb_program.specs.PrivateWordRuns.{ExplainsFailure, GivesClosed, GivesFor, IsOwnOr, ServesOnNothing, TakesStore, fault_given};
+ghost use Rattle.zeb_program.specs.PrivateWordRuns.{ExplainsFailure, GivesClosed, GivesFor, IsOwnOr, ServesHeld, ServesOnNothing, TakesIn, TakesStore, fault_given, format_of};
 ghost use Rattle.zeb_program.specs.ProfileFiles.{ReadsProfile};
-ghost use Rattle.zeb_program.specs.Registers.{AtStore, ClosesStore, IsLetGo, nothing_met, places};
+ghost use Rattle.zeb_program.specs.Registers.{AtStore, ClosesStore, IsForeignCause, IsLetGo, nothing_met, places};
 ghost use Rattle.zeb_program.specs.TaskAnswers.{paths_of};
 ghost use Rattle.zeb_program.specs.WordRuns.{Performs, ServesUnder};
 ghost use Rattle.std.specs.Option.{option_map};
@@ -16,27 +17,29 @@ ghost use Rattle.zeb_register.specs.Formats.{packed_blocks, version_of};
 ghost use Rattle.zeb_program.specs.FaultLines.{file_in};
 ghost use Rattle.zeb_program.specs.Explanations.{ExplainsRefusal, ExplainsUnread, TellsFile};
 ghost use Rattle.zeb_program.specs.PrivateFaults.{IsOpeningFault};
-ghost use Rattle.zeb_program.specs.ScriptAnswers.{AreScriptConditions};
+ghost use Rattle.zeb_program.specs.ScriptAnswers.{AreConditionsIn, AreScriptConditions};
 ghost use Rattle.zeb_program.specs.PrivateWarnings as spec;
 ghost use Rattle.zeb_program.specs.Warnings.{MayWarn, WarnsOf};
 ghost use Rattle.std.specs.Result.{IsOkAnd};
-ghost use Rattle.zeb_program.specs.declared.failures.Cause.TheVariants.{File as FileOf};
 ghost use Rattle.zeb_program.specs.declared.faults.Fault.{Fault};
 ghost use Rattle.zeb_program.specs.declared.faults.Fault.TheVariants.{Refused};
 
-use crate::failures::{Cause, Failure, of_path, of_store};
+use crate::failures::{Cause, Failure, of_file, of_path, of_store};
 use crate::faults::Fault;
 use crate::files::{path_of_file, read_profile};
 use crate::memory::session_in_memory;
-use crate::opening::session_over;
+use crate::opening::{OpenRegister, UsedLayout, layout_of, session_over};
 use crate::tasks::{Served, Task, carry_out};
 use crate::warnings::warning;
 use sqlite::{Alter, Connection};
 use std::alloc::{AllocError, Global};
 use zeb_engine::{Command, Refusal, Session, render};
+use zeb_leaves::Leaves;
 use zeb_packed::Blocks;
-use zeb_paths::{Closed, OpenFailed, Paths, StoreCause};
+use zeb_paths::{Asked, Closed, OpenFailed, Paths, StoreCause};
 use zeb_profile::Profile;
+use zeb_register::{Layout, is_bare_schema, is_store_schema};
+use zeb_words::LayoutChoice;
 
 /// What is written for a task that is answered.
 #[derive(Debug, Drop)]
@@ -49,25 +52,26 @@ pub struct Told {
     pub closed: Closed,
 }
 
-/// Carries a task out under the profile in this file, and gives what is written. Where no register stands at the profile's path,
-/// a task that can't begin one is carried out on an empty one in memory, and no file is made.
+/// Carries a task out under the profile in this file, where this layout is asked for, and gives what is written. Where no register
+/// stands at the profile's path, a task that can't begin one is carried out on an empty one in memory, and no file is made.
 pub fn perform<P: Paths>(
     alloc: Global,
     config: String,
+    choice: LayoutChoice,
     task: &Task,
     paths: &mut P,
 ) -> Result<Told, Failure>
     ensures warns { IfOk result (λ told. WarnsOf (P.tells paths.old) task.now
         (option_map string_bytes told.warning)) }
     ensures performs { GivesClosed result (Performs (places P.Store.Store P.tells P.stands P.lists
-        P.explains P.opens P.refuses P.lacks P.has P.lets_go P.leaves paths.old paths.new) config
+        P.explains P.opens P.refuses P.lacks P.has P.lets_go P.leaves paths.old paths.new) choice config
         task.now) (ExplainsFailure
         (telling (P.tells paths.new) (P.stands paths.new) (P.lists paths.new))
         (P.explains paths.new) (paths_of task.now)) }
 {
     let profile = profile_at(alloc, paths, config)?;
     if uses_store(paths, &profile, task.begins()) {
-        return perform_in_register(alloc, profile, task, paths);
+        return perform_in_register(alloc, profile, choice, task, paths);
     }
     perform_on_nothing(alloc, profile, task, paths)
 }
@@ -85,6 +89,7 @@ pub fn uses_store<P: Paths>(paths: &P, profile: &Profile, begins: bool) -> bool
 fn perform_in_register<P: Paths>(
     alloc: Global,
     profile: Profile,
+    choice: LayoutChoice,
     task: &Task,
     paths: &mut P,
 ) -> Result<Told, Failure>
@@ -92,12 +97,55 @@ fn perform_in_register<P: Paths>(
     ensures warns { IfOk result (λ told. WarnsOf (P.tells paths.old) task.now
         (option_map string_bytes told.warning)) }
     ensures serves { GivesClosed result (ServesUnder (places P.Store.Store P.tells P.stands P.lists
-        P.explains P.opens P.refuses P.lacks P.has P.lets_go P.leaves paths.old paths.new) profile
-        task.now) (ExplainsFailure
+        P.explains P.opens P.refuses P.lacks P.has P.lets_go P.leaves paths.old paths.new) choice
+        profile task.now) (ExplainsFailure
         (telling (P.tells paths.new) (P.stands paths.new) (P.lists paths.new))
         (P.explains paths.new) (paths_of task.now)) }
 {
-    let mut session = open_register(alloc, paths, profile)?;
+    let register = open_register(alloc, paths, choice, profile)?;
+    serve_task(alloc, register, task, paths)
+}
+
+/// Carries a task out on a register that is open, and closes it.
+fn serve_task<P: Paths>(
+    alloc: Global,
+    register: OpenRegister<P::Store>,
+    task: &Task,
+    paths: &P,
+) -> Result<Told, Failure>
+    ensures warns { IfOk result (λ told. WarnsOf (P.tells paths.now) task.now
+        (option_map string_bytes told.warning)) }
+    ensures serves { GivesClosed result (ServesHeld P.Store.Store (P.leaves paths.now)
+        (P.tells paths.now) (telling (P.tells paths.now) (P.stands paths.now) (P.lists paths.now))
+        (format_of register.1) (conditions (version_of (format_of register.1)) register.0.profile
+        register.0.limits) task.now register.0.connection) (ExplainsFailure
+        (telling (P.tells paths.now) (P.stands paths.now) (P.lists paths.now))
+        (P.explains paths.now) (paths_of task.now)) }
+{
+    let (session, layout) = register;
+    match layout {
+        UsedLayout::Blocks => serve_task_in(alloc, session, task, paths),
+        UsedLayout::Leaves => serve_task_in(alloc, session.to_layout::<Leaves>(), task, paths),
+    }
+}
+
+/// The same in a session, whatever its layout.
+fn serve_task_in<L: Layout, P: Paths>(
+    alloc: Global,
+    session: Session<P::Store, L>,
+    task: &Task,
+    paths: &P,
+) -> Result<Told, Failure>
+    ensures warns { IfOk result (λ told. WarnsOf (P.tells paths.now) task.now
+        (option_map string_bytes told.warning)) }
+    ensures serves { GivesClosed result (ServesHeld P.Store.Store (P.leaves paths.now)
+        (P.tells paths.now) (telling (P.tells paths.now) (P.stands paths.now) (P.lists paths.now))
+        L.format (conditions (version_of L.format) session.profile session.limits) task.now
+        session.connection) (ExplainsFailure
+        (telling (P.tells paths.now) (P.stands paths.now) (P.lists paths.now))
+        (P.explains paths.now) (paths_of task.now)) }
+{
+    let mut session = session;
     let served = carry_out(alloc, &mut session, paths, task);
     let closed = close_register(paths, session);
     told_of(alloc, paths, task, served, closed)
@@ -174,7 +222,7 @@ fn explained<P: Paths>(
 {
     match fault {
         Fault::Refused(refusal) => refused(alloc, paths, task, refusal, closed.cause),
-        other => Ok(of_path(paths, other)),
+        other => Ok(of_path(paths, other, Asked::Step)),
     }
 }
 
@@ -188,12 +236,12 @@ fn refused<P: Paths>(
 ) -> Result<Failure, AllocError>
     ensures fault { IfOk result (λ failure. failure.fault ≡ Refused refusal) }
     ensures explains { IfOk result (λ failure. ExplainsRefusal
-        (telling (P.tells paths.now) (P.stands paths.now) (P.lists paths.now)) (paths_of task.now)
-        met refusal failure.cause) }
+        (telling (P.tells paths.now) (P.stands paths.now) (P.lists paths.now))
+        (P.explains paths.now) (paths_of task.now) met refusal failure.cause) }
 {
     match file_of(&refusal) {
         Some(number) => Ok(Failure {
-            cause: file_cause(alloc, paths, task, number)?,
+            cause: file_cause(alloc, paths, task, &refusal, number)?,
             fault: Fault::Refused(refusal),
         }),
         None => Ok(of_store(refusal, met)),
@@ -212,26 +260,20 @@ fn file_of(refusal: &Refusal) -> Option<u64>
     }
 }
 
-/// The path of a task's file of this number, where it is found again.
+/// The path of a task's file of this number, which a refusal is about, where it is found again.
 fn file_cause<P: Paths>(
     alloc: Global,
     paths: &P,
     task: &Task,
+    refusal: &Refusal,
     number: u64,
 ) -> Result<Option<Cause>, AllocError>
     ensures { IfOk result (TellsFile
-        (telling (P.tells paths.now) (P.stands paths.now) (P.lists paths.now)) (paths_of task.now)
-        number) }
+        (telling (P.tells paths.now) (P.stands paths.now) (P.lists paths.now))
+        (P.explains paths.now) (paths_of task.now) refusal.now number) }
 {
     let found = path_of_file(alloc, paths, task.named(), number)?;
-    Ok(named_file(number, found))
-}
-
-/// The path of a file of this number, as a cause.
-fn named_file(number: u64, found: Option<String>) -> Option<Cause>
-    ensures { result ≡ option_map (λ path. FileOf number path) found }
-{
-    found.map(|path| Cause::File { number, path })
+    Ok(of_file(paths, refusal, number, found))
 }
 
 /// Reads a profile's file.
@@ -242,12 +284,37 @@ pub fn profile_at<P: Paths>(alloc: Global, paths: &P, file: String) -> Result<Pr
 {
     match read_profile(alloc, paths, file) {
         Ok(profile) => Ok(profile),
-        Err(fault) => Err(of_path(paths, fault)),
+        Err(fault) => Err(of_path(paths, fault, Asked::Text)),
     }
 }
 
-/// Opens the register at the profile's path.
+/// Opens the register at the profile's path, and tells in which layout it is used where this one is asked for. Where that can't be
+/// told, the register is closed.
 pub fn open_register<P: Paths>(
+    alloc: Global,
+    paths: &mut P,
+    choice: LayoutChoice,
+    profile: Profile,
+) -> Result<OpenRegister<P::Store>, Failure>
+    ensures failed { IfErr result (λ failure. IsOpeningFault (places P.Store.Store P.tells P.stands
+        P.lists P.explains P.opens P.refuses P.lacks P.has P.lets_go P.leaves paths.old paths.new)
+        profile failure.fault failure.cause) }
+    ensures under { IfOk result (λ register. AreConditionsIn (format_of register.1) profile
+        (conditions (version_of (format_of register.1)) register.0.profile register.0.limits)) }
+    ensures opened { IfOk result (λ register. TakesIn (places P.Store.Store P.tells P.stands
+        P.lists P.explains P.opens P.refuses P.lacks P.has P.lets_go P.leaves paths.old paths.new)
+        choice (format_of register.1) profile register.0.connection) }
+    ensures told { P.tells paths.new ≡ P.tells paths.old }
+{
+    let mut session = take_register(alloc, paths, profile)?;
+    match layout_of(choice, &mut session) {
+        Ok(layout) => Ok((session, layout)),
+        Err(refusal) => Err(of_store(refusal, close_register(paths, session).cause)),
+    }
+}
+
+/// Opens the store at the profile's path, and takes it over.
+fn take_register<P: Paths>(
     alloc: Global,
     paths: &mut P,
     profile: Profile,
@@ -284,21 +351,26 @@ fn let_go<P: Paths>(paths: &P, back: Option<Connection<P::Store>>)
 
 /// Why there would be no register over what was opened: it wasn't, or it has other tables.
 fn opening_cause<S: Alter>(opened: &Result<Connection<S>, OpenFailed>) -> Option<StoreCause>
-    ensures bare { IfOk opened.now (λ connection. (state S.Store connection).now.schema.tables ≡ []
-        → result ≡ None) }
-    ensures other { IfOk opened.now (λ connection. (state S.Store connection).now.schema.tables ≢ []
-        → result ≡ Some StoreCause.Foreign) }
+    ensures other { IfOk opened.now (λ connection. IsForeignCause (state S.Store connection) result) }
     ensures failed { IfErr opened.now (λ failed. result ≡ failed.cause) }
 {
     match opened {
-        Ok(connection) if connection.schema().tables.is_empty() => None,
-        Ok(_) => Some(StoreCause::Foreign),
+        Ok(connection) if has_other_tables(connection) => Some(StoreCause::Foreign),
+        Ok(_) => None,
         Err(failed) => failed.cause,
     }
 }
 
+/// Whether a store has tables, views or triggers, and not just a register's six tables.
+fn has_other_tables<S: Alter>(connection: &Connection<S>) -> bool
+    ensures { IsTrue result ↔ HasOtherTables (state S.Store connection.now) }
+{
+    let schema = connection.schema();
+    !is_bare_schema(schema) && !is_store_schema(schema)
+}
+
 /// Ends a session, and closes its register: what was committed is put into the one file.
-pub fn close_register<P: Paths>(paths: &P, session: Session<P::Store, Blocks>) -> Closed
+pub fn close_register<L: Layout, P: Paths>(paths: &P, session: Session<P::Store, L>) -> Closed
     ensures { ClosesStore P.Store.Store (P.leaves paths.now) session.connection result }
 {
     let connection = session.release();

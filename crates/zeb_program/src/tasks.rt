@@ -1,6 +1,6 @@
 //! The tasks that words name, each carried out on the register that the profile names.
 
-ghost use Rattle.std.specs.Prelude.{◌≡◌, false, true, ℕ, [], List, Result, map, string_bytes, IfErr, IfOk, OnErr};
+ghost use Rattle.std.specs.Prelude.{◌≡◌, ⊤, false, true, ℕ, [], List, Result, map, string_bytes, IfErr, IfOk, OnErr};
 ghost use Rattle.sqlite.specs.Held.{state};
 ghost use Rattle.sqlite.specs.State.{HasCleanDisk};
 ghost use Rattle.zeb_change.specs.Conditions.{conditions};
@@ -10,6 +10,7 @@ ghost use Rattle.zeb_register.specs.Formats.{version_of};
 ghost use Rattle.zeb_engine.specs.declared.replies.Reply.{Reply};
 ghost use Rattle.zeb_paths.specs.Walks.{telling};
 ghost use Rattle.zeb_program.specs.PrivateFaults.{IsUnread};
+ghost use Rattle.zeb_program.specs.Errands.{choice_of};
 ghost use Rattle.zeb_program.specs.FaultAnswers.{GivesAnswer, Reaches};
 ghost use Rattle.zeb_program.specs.OverTables.{AnalysesOver, PathsLeave, PathsOver, ServesOver};
 ghost use Rattle.zeb_program.specs.PrivateServing.{CarriesOut, StandsFor};
@@ -29,7 +30,7 @@ use std::alloc::Global;
 use zeb_engine::{AnalysedLines, Command, DbName, Kind, Reply, Session};
 use zeb_paths::Paths;
 use zeb_register::Layout;
-use zeb_words::Act;
+use zeb_words::{Act, LayoutChoice};
 
 /// What words ask of a register.
 #[derive(Debug, Drop)]
@@ -85,14 +86,14 @@ impl Errand {
         ensures { IsErrandOf database act result }
     {
         match act {
-            Act::Init => to_ask(Command::Init),
+            Act::Init(_) => to_ask(Command::Init),
             Act::Create(name) => to_ask(Command::Create(name)),
             Act::Drop(name) => to_ask(Command::Drop(name)),
             Act::Stat => to_ask(Command::Stat(database)),
             Act::Dump => to_ask(Command::Dump(database)),
             Act::Check => to_ask(Command::Check),
             Act::Reindex => to_ask(Command::Reindex),
-            Act::Upgrade => to_ask(Command::Upgrade),
+            Act::Upgrade(_) => to_ask(Command::Upgrade),
             Act::Find {
                 query,
                 first,
@@ -123,6 +124,16 @@ impl Errand {
             Act::Batch => Errand::Batch,
             Act::Shell => Errand::Shell,
         }
+    }
+}
+
+/// The layout that an act asks for.
+pub fn layout_asked(act: &Act) -> LayoutChoice
+    ensures { result ≡ choice_of act.now }
+{
+    match act {
+        Act::Init(choice) | Act::Upgrade(choice) => *choice,
+        _ => LayoutChoice::Unsaid,
     }
 }
 
@@ -249,7 +260,7 @@ pub fn change_by_paths<S: Alter, L: Layout, P: Paths>(
         (state S.Store session.old.connection) (state S.Store session.new.connection) result }
     ensures unread { IfErr result (λ fault. IsUnread fault → session.new ≡ session.old) }
     ensures reaches { Reaches (telling (P.tells paths.now) (P.stands paths.now)
-        (P.lists paths.now)) (map string_bytes named.now) result }
+        (P.lists paths.now)) ⊥ (map string_bytes named.now) result }
 {
     let mut readers = readers_of(alloc, paths, named)?;
     match session.update_from(database, kind, &mut readers) {
@@ -270,7 +281,7 @@ fn analyse_paths<S: Alter, L: Layout, P: Paths>(
         × AnalysesOver (P.tells paths.now) session.now.profile session.now.limits.records
         (map string_bytes named.now) answer }
     ensures reaches { Reaches (telling (P.tells paths.now) (P.stands paths.now)
-        (P.lists paths.now)) (map string_bytes named.now) result }
+        (P.lists paths.now)) ⊤ (map string_bytes named.now) result }
     // Where the bytes of a file at each path are told.
     ensures unmarked { (files : List (List ℕ)) → AreTold (P.tells paths.now)
         (map string_bytes named.now) files

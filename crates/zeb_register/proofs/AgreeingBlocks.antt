@@ -1,5 +1,5 @@
 -- What is expected of whole tables, with packed blocks.
-use Rattle.zeb_register.proofs.Cited.{Row, State, Trees, Int, Blob, Has, ◌≡◌, ◌≢◌, ◌↔◌, ◌∙◌, ℕ, ℤ, pos, List, [], ◌∷◌, ◌++◌, drop, refl, sym, ap, subst, inl, Posting, BlockSpells, Key, Blocks, Dict, ListedDatabase, Expected, ExpectedDatabase, AreDatabases, posted, AreExpected, IsOrdered, packed_blocks, HasKey, HoldsBlocks, part_in, BelongsTo, HoldsThere, IsBlockRest, IsDictRest, IsThere, ListsAgree, key_shown, list_under, with_key, IsInRecord, HasRow, IsStore, blocks_tree, dict_tree, postings_tree}
+use Rattle.zeb_register.proofs.Cited.{Row, State, Trees, Int, Blob, Has, ◌≡◌, ◌≢◌, ◌↔◌, ◌∙◌, ℕ, ℤ, pos, List, [], ◌∷◌, ◌++◌, drop, refl, sym, ap, subst, inl, Posting, BlockSpells, Key, Blocks, Dict, ListedDatabase, Expected, ExpectedDatabase, AreDatabases, posted, AreExpected, IsOrdered, packed_blocks, HasKey, HoldsBlocks, part_in, BelongsTo, TableHolds, IsBlockRest, IsDictRest, IsThere, ListsAgree, key_shown, list_under, with_key, IsInRecord, HasRow, IsStore, blocks_tree, dict_tree, postings_tree}
 use Rattle.zeb_register.proofs.CountLemmas.{count_so}
 use Rattle.zeb_register.proofs.ExpectedStatements.{owner_row}
 use Rattle.zeb_register.proofs.AgreeingTables.{content, content_at, content_there, content_up, id_is, posted_as, put_together, there_is, there_of}
@@ -21,7 +21,7 @@ module _ (s : State) (store : IsStore s) (expected : Expected) (ordered : IsOrde
   trees = s.now.trees
 
   abbrev pub BlocksAgree : Type 0
-  BlocksAgree = HoldsThere Blocks databases trees × (HoldsThere Dict databases trees × BelongsTo postings_tree [] trees)
+  BlocksAgree = TableHolds Blocks databases trees × (TableHolds Dict databases trees × BelongsTo postings_tree [] trees)
 
   module _ (are : AreExpected packed_blocks trees expected) where
     list_at : (id : ℤ) (d : ExpectedDatabase) (key : Key) → IsThere trees databases id d → are.content id key ≡ list_under key d.postings.items

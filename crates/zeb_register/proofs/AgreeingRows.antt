@@ -1,5 +1,5 @@
 -- What is expected of whole tables, with a row for each posting.
-use Rattle.zeb_register.proofs.Cited.{Row, column, State, Trees, Int, has_mapped, mapped_has, Has, ◌≡◌, ◌∙◌, ℕ, ℤ, List, [], ◌∷◌, ◌++◌, map, drop, refl, sym, ap, subst, inl, Table, Key, Postings, ListedDatabase, Expected, ExpectedDatabase, AreDatabases, AreExpected, IsOrdered, plain_rows, HoldsRows, key_row, posting_row, BelongsTo, HoldsThere, IsThere, LacksPacked, ListsAgree, key_shown, posting_shown, with_key, HasRow, IsStore, blocks_tree, dict_tree, postings_tree, store_schema}
+use Rattle.zeb_register.proofs.Cited.{Row, column, State, Trees, Int, has_mapped, mapped_has, Has, ◌≡◌, ◌∙◌, ℕ, ℤ, List, [], ◌∷◌, ◌++◌, map, drop, refl, sym, ap, subst, inl, Table, Key, Postings, ListedDatabase, Expected, ExpectedDatabase, AreDatabases, AreExpected, IsOrdered, plain_rows, HoldsRows, key_row, posting_row, BelongsTo, TableHolds, IsThere, LacksPacked, ListsAgree, key_shown, posting_shown, with_key, HasRow, IsStore, blocks_tree, dict_tree, postings_tree, store_schema}
 use Rattle.zeb_register.proofs.ExpectedStatements.{owner_row}
 use Rattle.zeb_register.proofs.AgreeingTables.{as_expected, content, content_up, id_is, one_of, posted_as, put_together, there_is, there_of}
 use Rattle.zeb_register.proofs.PostingStatements.{blocks, blocks_static, dict, dict_static, postings, postings_static}
@@ -41,7 +41,7 @@ module _ (s : State) (store : IsStore s) (expected : Expected) (ordered : IsOrde
   trees = s.now.trees
 
   abbrev pub RowsAgree : Type 0
-  RowsAgree = HoldsThere Postings databases trees × LacksPacked trees
+  RowsAgree = TableHolds Postings databases trees × LacksPacked trees
 
   pub rows_agree : AreExpected plain_rows trees expected → RowsAgree
   rows_agree are = (

@@ -130,10 +130,11 @@ pub use Rattle.zeb_register.specs.PrivateCatalog.{listed_row}
 pub use Rattle.zeb_register.specs.PrivateClauses.{Ran, IsReasonedError}
 pub use Rattle.zeb_register.specs.PrivateKeyColumns.{register_columns}
 pub use Rattle.zeb_register.specs.PrivatePackedRows.{AreSpelled, IsInBlock, HoldsBlockRows}
-pub use Rattle.zeb_register.specs.PrivateRowExpected.{BelongsTo, HoldsThere, IsBlockRest, IsDictRest, IsThere, ListsAgree, key_shown, list_under, with_key, LacksPacked, posting_shown, AsExpected, BelongsThere, EachAsExpected, EachThere, HasNames, HoldsExpected, IsPair, expected_name, listed_name, tree_of, KeepsExpectedTexts, HoldsUnder, text_rows, TakeAll, Owns, IsListedId, AreBlocks, IsBlockBefore, IsInOrder, AreInOrder, AreBeside, HoldsKeysAlone}
+pub use Rattle.zeb_register.specs.Agreeing.{Owns, HoldsUnder, HasNames, IsThere, BelongsThere, EachThere, HoldsThere, KeepsExpectedTexts, ListsAgree, listed_name, expected_name, AreBeside, AreEnds, IsLeastFrom, IsListedId, RecordsAgree, HasRecords, LacksPostingsAndDict}
+pub use Rattle.zeb_register.specs.PrivateRowExpected.{BelongsTo, IsBlockRest, IsDictRest, key_shown, list_under, with_key, LacksPacked, posting_shown, AsExpected, EachAsExpected, HoldsExpected, IsPair, tree_of, text_rows, TakeAll, AreBlocks, IsBlockBefore, IsInOrder, AreInOrder, HoldsKeysAlone, TableHolds}
 pub use Rattle.zeb_register.specs.PrivateRowKeys.{BeginsOther, IsFrontOf, IsRunBefore, IsRunFrom, dict_rest}
 pub use Rattle.zeb_register.specs.PrivateRowPlaces.{first_two, first_three, DropsRegisters, IsTwoNumbers, place_row, KeepsBesidePostings, GainsPlaces, Puts, posting_columns, IsPlaceIn}
-pub use Rattle.zeb_register.specs.PrivateRowReads.{rests_text, ShowsFirst, greatest_text, least_text, next_text, AreEnds, Fits, size_of, ReadsRests}
+pub use Rattle.zeb_register.specs.PrivateRowReads.{rests_text, ShowsFirst, greatest_text, least_text, next_text, Fits, size_of, ReadsRests}
 pub use Rattle.zeb_register.specs.PrivateRowStatements.{Lists, ListsInside, IsMade, IsRestAtLeast, IsDatabaseShown, IsListedRow, AddsDatabase, SetsLast, IsDatabaseRow, IsValueRow, IsElderRow, IsIdentRow, Gains, place_key, whole_posting_row, IsPlaceOf, IsRecordShown, ShowsCount, Empties}
 pub use Rattle.zeb_register.specs.PrivateRowTerms.{IsInRecord, ReadsRows, ReadsInside, IsCountedIn, term_with, IsShown, HasTerm, ShowsOccurrence, IsOccurrenceRow, ShowsTerm, IsTermRow, ShowsNearest, FindsNearest, HidesText, SomeIsNoOccurrence}
 pub use Rattle.zeb_register.specs.PrivateStoreTables.{HasEmpty, create_text, schema_after, schema_before, clear_text, tree_at, wipe_text}

@@ -1,5 +1,5 @@
 -- The databases that are there beside the expected ones, by names and last numbers.
-use Rattle.zeb_register.proofs.Cited.{State, Trees, has_got, has_mapped, mapped_has, Has, ◌≡◌, ◌↔◌, ◌∙◌, ℕ, ℤ, pos, List, map, Some, string_bytes, refl, sym, ap, ap₂, subst, Ordering, nat_cmp, IsUtf8, IsUtf8-string_bytes, IsTotalOrder, on_total, slice_cmp, nat_list_cmp_total, ListedDatabase, ExpectedDatabase, AreDatabases, AreReadableDatabases, listed_order, name_order, AsExpected, BelongsThere, BelongsTo, EachAsExpected, EachThere, HasNames, HoldsExpected, HoldsThere, IsPair, IsThere, expected_name, listed_name, tree_of, HasDatabase, IsStore}
+use Rattle.zeb_register.proofs.Cited.{State, Trees, has_got, has_mapped, mapped_has, Has, ◌≡◌, ◌↔◌, ◌∙◌, ℕ, ℤ, pos, List, map, Some, string_bytes, refl, sym, ap, ap₂, subst, Ordering, nat_cmp, IsUtf8, IsUtf8-string_bytes, IsTotalOrder, on_total, slice_cmp, nat_list_cmp_total, ListedDatabase, ExpectedDatabase, AreDatabases, AreReadableDatabases, listed_order, name_order, AsExpected, BelongsThere, BelongsTo, EachAsExpected, EachThere, HasNames, HoldsExpected, TableHolds, IsPair, IsThere, expected_name, listed_name, tree_of, HasDatabase, IsStore}
 use Rattle.std.specs.List.Sorted.{IsStrictlySortedBy}
 use Rattle.zeb_register.specs.declared.agreeing.Table.{Table}
 use Rattle.zeb_register.proofs.ListsInStep.{got_alike, got_had}
@@ -69,24 +69,24 @@ module _ (s : State) (store : IsStore s) (databases : List ExpectedDatabase) whe
         subst (λ (k : ℕ). HasDatabase s.now.trees l.id.0 (string_bytes d.name) (pos k)) (second_of same)
         (subst (λ (n : List ℕ). HasDatabase s.now.trees l.id.0 n (pos l.last)) (first_of same) (listed_there s.now.trees databases listed are l here))
 
-    there_pair : (one : ListedDatabase) (d : ExpectedDatabase) → IsPair listed databases one d → There one.id.0 d
+    pub there_pair : (one : ListedDatabase) (d : ExpectedDatabase) → IsPair listed databases one d → There one.id.0 d
     there_pair one d it =
         let x = got_alike listed_name expected_name listed databases named it.0 d it.2 in
         let same : x.0 ≡ one = let e : Some x.0 ≡ Some one = sym x.1 ∙ it.1 in cc in
         (has_got databases it.0 d it.2, moved one d (has_got listed it.0 one it.1) (ap listed_name (sym same) ∙ x.2))
 
-    pair_there : (id : ℤ) (d : ExpectedDatabase) → There id d → (one : ListedDatabase) × IsPair listed databases one d × (id ≡ one.id.0)
+    pub pair_there : (id : ℤ) (d : ExpectedDatabase) → There id d → (one : ListedDatabase) × IsPair listed databases one d × (id ≡ one.id.0)
     pair_there id d there =
         let k = got_had databases d there.0 in
         let x = got_alike listed_name expected_name listed databases named k.0 d k.1 in
         (x.0, (k.0, x.1, k.1), one_name s id x.0.id.0 (string_bytes d.name) (pos d.last) (pos d.last) store there.1 (moved x.0 d (has_got listed k.0 x.0 x.1) x.2))
 
-    pub each_there : (table : Table) → EachAsExpected table listed databases s.now.trees → EachThere table databases s.now.trees
+    pub each_there : (table : Table) → EachAsExpected table listed databases s.now.trees → EachThere (AsExpected table) databases s.now.trees
     each_there table each id d there =
         let it = pair_there id d there in
         subst (λ (i : ℤ). AsExpected table i d s.now.trees) (sym it.2) (each it.0 d it.1)
 
-    pub each_pair : (table : Table) → EachThere table databases s.now.trees → EachAsExpected table listed databases s.now.trees
+    pub each_pair : (table : Table) → EachThere (AsExpected table) databases s.now.trees → EachAsExpected table listed databases s.now.trees
     each_pair table each one d it = each one.id.0 d (there_pair one d it)
 
     pub belongs_there : (tree : ℕ) → BelongsTo tree listed s.now.trees → BelongsThere tree databases s.now.trees
@@ -103,7 +103,7 @@ module _ (s : State) (store : IsStore s) (databases : List ExpectedDatabase) whe
         (it.0, has_got listed it.1.0 it.0 it.1.1, it.2)
 
     -- a table holds what is expected by the list of databases exactly where it does by their names
-    pub expected_there : (table : Table) → HoldsExpected table listed databases s.now.trees ↔ HoldsThere table databases s.now.trees
+    pub expected_there : (table : Table) → HoldsExpected table listed databases s.now.trees ↔ TableHolds table databases s.now.trees
     expected_there table = (
       λ h. (each_there table h.0, belongs_there (tree_of table) h.1),
       λ h. (each_pair table h.0, belongs_listed (tree_of table) h.1),

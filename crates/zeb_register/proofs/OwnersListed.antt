@@ -1,5 +1,5 @@
 -- The ids with which rows of a table begin, one after the other, beside the databases that are listed.
-use Rattle.zeb_register.proofs.Cited.{Database, Row, State, IsUnchanged, Trees, Int, ◌≡◌, ◌∙◌, ◌≤◌, ◌+◌, ◌≤ℤ◌, ◌<ℤ◌, ◌+ℤ◌, ℕ, ℤ, pos, List, [], ◌∷◌, length, Option, Some, None, refl, sym, ap, subst, subst₂, inl, inr, Ordering, Less, Equal, Greater, arith, int_cmp, int_ranked, ints, ListedDatabase, Ends, BelongsTo, IsListedId, Owns, AreEnds, ShowsFirst, IsStore}
+use Rattle.zeb_register.proofs.Cited.{Database, Row, State, IsUnchanged, Trees, Int, ◌≡◌, ◌∙◌, ◌≤◌, ◌+◌, ◌≤ℤ◌, ◌<ℤ◌, ◌+ℤ◌, ℕ, ℤ, pos, List, [], ◌∷◌, length, Option, Some, None, refl, sym, ap, subst, subst₂, inl, inr, Ordering, Less, Equal, Greater, arith, int_cmp, int_ranked, ints, ListedDatabase, Ends, IsListedId, Owns, AreEnds, ShowsFirst, IsStore, IsLeastFrom}
 use Rattle.zeb_register.proofs.Calls.{store_same}
 use Rattle.zeb_register.proofs.OwnerStatements.{cmp_below}
 
@@ -19,6 +19,11 @@ first_told Up P (row ∷ rows) found shows told = subst (IsFirst Up P) (sym (tol
 -- what a list of rows tells is told of the slice that was looked at
 pub first_seen : (Up : ℤ → ℤ → Type 0) (P : ℤ → Type 0) (rows seen : List Row) (found : Option ℤ) → ShowsFirst Up P rows → seen ≡ rows → TellsId seen found → IsFirst Up P found
 first_seen Up P rows seen found shows same told = first_told Up P seen found (subst (ShowsFirst Up P) (sym same) shows) told
+
+-- the first of those that are P and not below a start
+pub least_from : (P : ℤ → Type 0) (start : ℤ) (found : Option ℤ) → IsFirst (λ a b. a ≤ℤ b) (λ id. P id × (start ≤ℤ id)) found → IsLeastFrom P start found
+least_from P start None none = λ id is from. none id (is, from)
+least_from P start (Some id) is = (is.0.0, is.0.1, λ other there from. is.1 other (there, from))
 
 -- ---- how many of the databases have an id below a bound
 
@@ -79,65 +84,62 @@ below_few (d ∷ listed) bound = omega (arith, few (int_cmp d.id.0 bound), below
 
 -- ---- from one id to the next
 
--- the id occurs, those below it are listed, none is above the last, and so many turns were taken at most
-pub record IsReached (tree : ℕ) (trees : Trees) (listed : List ListedDatabase) (last id : ℤ) (turn : ℕ) : Type 0 where
+-- the id occurs, those below it are P, and none is above the last
+pub record IsReached (tree : ℕ) (trees : Trees) (P : ℤ → Type 0) (last id : ℤ) : Type 0 where
   pub owns : Owns tree trees id
-  pub lower : (other : ℤ) → Owns tree trees other → other <ℤ id → IsListedId listed other
+  pub lower : (other : ℤ) → Owns tree trees other → other <ℤ id → P other
   pub upper : (other : ℤ) → Owns tree trees other → other ≤ℤ last
-  pub turns : turn ≤ below listed id
 
-module _ (tree : ℕ) (trees : Trees) (listed : List ListedDatabase) where
-  pub first_reached : (ends : Ends) → AreEnds tree trees (Some ends) → IsReached tree trees listed ends.last ends.first 0
+module _ (tree : ℕ) (trees : Trees) (P : ℤ → Type 0) where
+  abbrev AllOwners : Type 0
+  AllOwners = (other : ℤ) → Owns tree trees other → P other
+
+  pub first_reached : (ends : Ends) → AreEnds tree trees (Some ends) → IsReached tree trees P ends.last ends.first
   first_reached ends are = record {
     owns = are.0;
     lower = λ other there low. absurd (let e = (are.1 other there).0 in omega (arith, ints, e, low));
     upper = λ other there. (are.1 other there).1;
-    turns = omega arith;
   }
 
-  module _ (last id : ℤ) (turn : ℕ) (it : IsReached tree trees listed last id turn) where
-    -- an id up to this one is listed, where this one is
-    up_to_id : IsListedId listed id → (other : ℤ) → Owns tree trees other → other ≤ℤ id → IsListedId listed other
+  module _ (last id : ℤ) (it : IsReached tree trees P last id) where
+    -- each id up to this one is P, where this one is
+    up_to_id : P id → (other : ℤ) → Owns tree trees other → other ≤ℤ id → P other
     up_to_id here other there up = from (int_cmp other id) refl
       where
-        from : (o : Ordering) → o ≡ int_cmp other id → IsListedId listed other
+        from : (o : Ordering) → o ≡ int_cmp other id → P other
         from Less is = it.lower other there (int_ranked other id Less is)
-        from Equal is = let same : other ≡ id = int_ranked other id Equal is in subst (IsListedId listed) (sym same) here
+        from Equal is = let same : other ≡ id = int_ranked other id Equal is in subst P (sym same) here
         from Greater is = let high : id <ℤ other = int_ranked other id Greater is in absurd (omega (arith, ints, high, up))
 
-    pub none_missing : ¬ IsListedId listed id → ¬ BelongsTo tree listed trees
-    none_missing missing belongs = missing (belongs id it.owns)
-
-    pub all_reached : IsListedId listed id → last ≤ℤ id → BelongsTo tree listed trees
+    pub all_reached : P id → last ≤ℤ id → AllOwners
     all_reached here over other there = up_to_id here other there (let e = it.upper other there in omega (arith, ints, e, over))
 
-    pub none_next : IsListedId listed id → ((other : ℤ) → ¬ (Owns tree trees other × ((id +ℤ pos 1) ≤ℤ other))) → BelongsTo tree listed trees
+    pub none_next : P id → IsLeastFrom (Owns tree trees) (id +ℤ pos 1) None → AllOwners
     none_next here none other there = from (int_cmp other id) refl
       where
-        from : (o : Ordering) → o ≡ int_cmp other id → IsListedId listed other
+        from : (o : Ordering) → o ≡ int_cmp other id → P other
         from Less is = let low : other <ℤ id = int_ranked other id Less is in up_to_id here other there (omega (arith, ints, low))
         from Equal is = let same : other ≡ id = int_ranked other id Equal is in up_to_id here other there (omega (arith, ints, same))
-        from Greater is = let high : id <ℤ other = int_ranked other id Greater is in absurd (none other (there, omega (arith, ints, high)))
+        from Greater is = let high : id <ℤ other = int_ranked other id Greater is in absurd (none other there (omega (arith, ints, high)))
 
-    pub next_reached : IsListedId listed id → (next : ℤ) → IsFirst (λ a b. a ≤ℤ b) (λ other. Owns tree trees other × ((id +ℤ pos 1) ≤ℤ other)) (Some next) → IsReached tree trees listed last next (turn + 1)
-    next_reached here next first = record {
-      owns = first.0.0;
-      lower = λ other there low. from other there low (int_cmp other id) refl;
-      upper = it.upper;
-      turns = omega (arith, it.turns, below_more listed id next here (let e = first.0.1 in omega (arith, ints, e)));
-    }
+    pub next_reached : P id → (next : ℤ) → IsLeastFrom (Owns tree trees) (id +ℤ pos 1) (Some next) → IsReached tree trees P last next
+    next_reached here next first = record { owns = first.0; lower = λ other there low. from other there low (int_cmp other id) refl; upper = it.upper }
       where
-        from : (other : ℤ) → Owns tree trees other → other <ℤ next → (o : Ordering) → o ≡ int_cmp other id → IsListedId listed other
+        from : (other : ℤ) → Owns tree trees other → other <ℤ next → (o : Ordering) → o ≡ int_cmp other id → P other
         from other there low Less is = let less : other <ℤ id = int_ranked other id Less is in up_to_id here other there (omega (arith, ints, less))
         from other there low Equal is = let same : other ≡ id = int_ranked other id Equal is in up_to_id here other there (omega (arith, ints, same))
         from other there low Greater is =
             let high : id <ℤ other = int_ranked other id Greater is in
-            absurd (let e : next ≤ℤ other = first.1 other (there, omega (arith, ints, high)) in omega (arith, ints, e, low))
+            absurd (let e : next ≤ℤ other = first.2 other there (omega (arith, ints, high)) in omega (arith, ints, e, low))
+
+-- a turn more, where the id is listed
+pub turn_more : (listed : List ListedDatabase) (P : ℤ → Type 0) (id next : ℤ) (turn : ℕ) → turn ≤ below listed id → IsListedId listed id → IsLeastFrom P (id +ℤ pos 1) (Some next) → turn + 1 ≤ below listed next
+turn_more listed P id next turn turns here first = omega (arith, turns, below_more listed id next here (let e = first.1 in omega (arith, ints, e)))
 
 -- what rows show of tables that are the same, from a start that is the next number
 pub found_next : (tree : ℕ) (id : ℤ) {start : ℤ} (s0 s1 : State) (rows seen : List Row) (found : Option ℤ) → IsUnchanged s0 s1 → IsStore s0
     → (IsStore s1 → ShowsFirst (λ a b. a ≤ℤ b) (λ other. Owns tree s1.now.trees other × (start ≤ℤ other)) rows) → seen ≡ rows → TellsId seen found → start ≡ id +ℤ pos 1
-    → IsFirst (λ a b. a ≤ℤ b) (λ other. Owns tree s0.now.trees other × ((id +ℤ pos 1) ≤ℤ other)) found
-found_next tree id s0 s1 rows seen found same store shows seen_is told is =
+    → IsLeastFrom (Owns tree s0.now.trees) (id +ℤ pos 1) found
+found_next tree id {start} s0 s1 rows seen found same store shows seen_is told is =
     let at = same.0.now_is in
-    subst₂ (λ (d : Database) b. IsFirst (λ a b. a ≤ℤ b) (λ other. Owns tree d.trees other × (b ≤ℤ other)) found) at is (first_seen (λ a b. a ≤ℤ b) _ rows seen found (shows (store_same s0 s1 at store)) seen_is told)
+    subst₂ (λ (d : Database) b. IsLeastFrom (Owns tree d.trees) b found) at is (least_from (Owns tree s1.now.trees) start found (first_seen (λ a b. a ≤ℤ b) _ rows seen found (shows (store_same s0 s1 at store)) seen_is told))

@@ -31,6 +31,7 @@ pub mod Units
 pub mod Terms
 pub mod Sound
 pub mod Expected
+pub mod Agreeing
 pub mod PrivateRowExpected
 pub mod PrivateRowKeys
 pub mod PrivateRowReads

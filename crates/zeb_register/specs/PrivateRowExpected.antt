@@ -18,15 +18,13 @@ use Rattle.zeb_register.specs.declared.catalog.ListedDatabase.{ListedDatabase}
 use Rattle.zeb_register.specs.declared.expected.KeyPosting.{KeyPosting}
 use Rattle.zeb_register.specs.declared.expected.ExpectedDatabase.{ExpectedDatabase}
 use Rattle.zeb_register.specs.declared.expected.Expected.{Expected}
-use Rattle.zeb_register.specs.Catalog.{AreDatabases}
-use Rattle.zeb_register.specs.Expected.{IsTextOf, key_posting_order, number_order}
-use Rattle.zeb_register.specs.Kept.{record_shown}
+use Rattle.zeb_register.specs.Agreeing.{HasRecords, HoldsThere, HoldsUnder, IsListedId, Owns}
+use Rattle.zeb_register.specs.Expected.{key_posting_order, number_order}
 use Rattle.zeb_register.specs.Occurring.{IsCount}
 use Rattle.zeb_register.specs.PackedBlocks.{part_in}
 use Rattle.zeb_register.specs.PlainRows.{posting_row}
 use Rattle.zeb_register.specs.PrivateRowTerms.{IsInRecord}
-use Rattle.zeb_register.specs.Sql.{HasRow}
-use Rattle.zeb_register.specs.Store.{HasDatabase, IsRest, blocks_tree, dict_tree, entry, meta_tree, postings_tree, records_tree}
+use Rattle.zeb_register.specs.Store.{IsRest, blocks_tree, dict_tree, entry, postings_tree, records_tree}
 
 -- ---- what rows show
 
@@ -34,12 +32,6 @@ use Rattle.zeb_register.specs.Store.{HasDatabase, IsRest, blocks_tree, dict_tree
 abbrev pub text_rows : Expected → List Row
 text_rows expected =
     entry (codes "identifier") (string_bytes expected.identifier) ∷ entry (codes "profile") (string_bytes expected.profile) ∷ entry (codes "version") (string_bytes expected.version) ∷ []
-
-abbrev pub listed_name : ListedDatabase → List ℕ × ℕ
-listed_name database = (string_bytes database.name, database.last)
-
-abbrev pub expected_name : ExpectedDatabase → List ℕ × ℕ
-expected_name database = (string_bytes database.name, database.last)
 
 -- the columns of a key beside its database
 abbrev pub key_shown : Key → Row
@@ -53,21 +45,9 @@ next_three row = column row 3 ∷ column row 4 ∷ column row 5 ∷ []
 
 -- ---- one table, database by database
 
--- some row of the table begins with the id
-abbrev pub Owns : ℕ → Trees → ℤ → Type 0
-Owns tree trees id = (rest : Row) × HasRow trees tree (Int id ∷ rest)
-
--- one of the databases has the id
-abbrev pub IsListedId : List ListedDatabase → ℤ → Type 0
-IsListedId listed id = (database : ListedDatabase) × Has listed database × (id ≡ database.id.0)
-
 -- each row of the table begins with the id of one of the databases
 abbrev pub BelongsTo : ℕ → List ListedDatabase → Trees → Type 0
 BelongsTo tree listed trees = (id : ℤ) → Owns tree trees id → IsListedId listed id
-
--- the rows of the table that begin with the id go on like these
-abbrev pub HoldsUnder : ℕ → ℤ → List Row → Trees → Type 0
-HoldsUnder tree id rests trees = (row : Row) → IsRest tree (Int id ∷ []) trees row ↔ Has rests row
 
 -- the two stand at one place of the lists
 abbrev pub IsPair : List ListedDatabase → List ExpectedDatabase → ListedDatabase → ExpectedDatabase → Type 0
@@ -100,7 +80,7 @@ IsDictRest postings row =
 
 -- the rows of the table that begin with the id are those that are expected of the database
 abbrev pub AsExpected : Table → ℤ → ExpectedDatabase → Trees → Type 0
-AsExpected Records id database trees = HoldsUnder records_tree id (map record_shown database.records.items) trees
+AsExpected Records id database trees = HasRecords id database trees
 AsExpected Postings id database trees = HoldsUnder postings_tree id (map posting_shown database.postings.items) trees
 AsExpected Blocks id database trees =
     ((p : KeyPosting) → Has database.postings.items p → IsNumbered p.posting)
@@ -123,41 +103,9 @@ IsInOrder database = IsStrictlySortedBy number_order database.records.items × I
 abbrev pub AreInOrder : List ExpectedDatabase → Type 0
 AreInOrder databases = (database : ExpectedDatabase) → Has databases database → IsInOrder database
 
--- ---- the lists
-
-abbrev pub KeepsExpectedTexts : Trees → Expected → Type 0
-KeepsExpectedTexts trees expected = (name value : List ℕ) → HasRow trees meta_tree (entry name value) ↔ IsTextOf expected name value
-
--- the databases that are there have the expected names and last numbers
-abbrev pub HasNames : Trees → List ExpectedDatabase → Type 0
-HasNames trees databases =
-    (name : List ℕ) (last : ℤ) → ((id : ℤ) × HasDatabase trees id name last)
-    ↔ ((database : ExpectedDatabase) × Has databases database × (name ≡ string_bytes database.name) × (last ≡ pos database.last))
-
--- the database is expected, and it is there under the id
-abbrev pub IsThere : Trees → List ExpectedDatabase → ℤ → ExpectedDatabase → Type 0
-IsThere trees databases id database = Has databases database × HasDatabase trees id (string_bytes database.name) (pos database.last)
-
--- each row of the table begins with the id of an expected database
-abbrev pub BelongsThere : ℕ → List ExpectedDatabase → Trees → Type 0
-BelongsThere tree databases trees = (id : ℤ) → Owns tree trees id → (database : ExpectedDatabase) × IsThere trees databases id database
-
-abbrev pub EachThere : Table → List ExpectedDatabase → Trees → Type 0
-EachThere table databases trees = (id : ℤ) (database : ExpectedDatabase) → IsThere trees databases id database → AsExpected table id database trees
-
 -- the table holds just what is expected of the databases that are there
-abbrev pub HoldsThere : Table → List ExpectedDatabase → Trees → Type 0
-HoldsThere table databases trees = EachThere table databases trees × BelongsThere (tree_of table) databases trees
-
--- texts, databases and records are as expected
-pub record ListsAgree (trees : Trees) (expected : Expected) : Type 0 where
-  pub texts : KeepsExpectedTexts trees expected
-  pub names : HasNames trees expected.databases.items
-  pub records : HoldsThere Records expected.databases.items trees
-
--- these databases are there, and they have the expected names and last numbers, in the same order
-abbrev pub AreBeside : List ListedDatabase → List ExpectedDatabase → Trees → Type 0
-AreBeside listed databases trees = AreDatabases trees listed × (map listed_name listed ≡ map expected_name databases)
+abbrev pub TableHolds : Table → List ExpectedDatabase → Trees → Type 0
+TableHolds table = HoldsThere (tree_of table) (AsExpected table)
 
 -- no packed table has a row
 abbrev pub LacksPacked : Trees → Type 0

@@ -1,18 +1,16 @@
 -- What only the contracts of private functions speak of; no public clause reaches it.
 -- The rows of one table, read one at a time, beside what is expected.
-use Rattle.std.specs.Prelude.{◌≡◌, ◌↔◌, ℕ, ℤ, Bool, IsTrue, List, [], ◌∷◌, length, map, drop, ◌≤ℤ◌, Option, Some, None}
+use Rattle.std.specs.Prelude.{◌≡◌, ◌↔◌, ℕ, ℤ, Bool, IsTrue, List, [], ◌∷◌, length, map, drop}
 use Rattle.sqlite.specs.declared.types.Value.TheVariants.{Int}
 use Rattle.sqlite.specs.Order.{Row}
 use Rattle.sqlite.specs.State.{State, IsUnchanged}
-use Rattle.sqlite.specs.Tree.{Trees}
 use Rattle.zeb_register.specs.declared.read_beside.TheConstants.{RESTS_RECORDS, RESTS_POSTINGS, RESTS_BLOCKS, RESTS_DICT}
 use Rattle.zeb_register.specs.declared.statements.owners.TheConstants.{LEAST_RECORDS, LEAST_POSTINGS, LEAST_BLOCKS, LEAST_DICT, GREATEST_RECORDS, GREATEST_POSTINGS, GREATEST_BLOCKS, GREATEST_DICT, NEXT_RECORDS, NEXT_POSTINGS, NEXT_BLOCKS, NEXT_DICT}
 use Rattle.zeb_register.specs.declared.agreeing.Table.{Table}
 use Rattle.zeb_register.specs.declared.agreeing.Table.TheVariants.{Records, Postings, Blocks, Dict}
-use Rattle.zeb_register.specs.declared.belonging.Ends.{Ends}
 use Rattle.zeb_register.specs.declared.expected.ExpectedDatabase.{ExpectedDatabase}
 use Rattle.zeb_register.specs.Kept.{record_shown}
-use Rattle.zeb_register.specs.PrivateRowExpected.{AreBlocks, IsInOrder, Owns, TakeAll, posting_shown, tree_of}
+use Rattle.zeb_register.specs.PrivateRowExpected.{AreBlocks, IsInOrder, TakeAll, posting_shown, tree_of}
 use Rattle.zeb_register.specs.PrivateRowKeys.{IsRunBefore}
 use Rattle.zeb_register.specs.Sql.{IsListOf}
 use Rattle.zeb_register.specs.Store.{IsRest, IsStore}
@@ -47,11 +45,6 @@ next_text Dict = NEXT_DICT.now
 abbrev pub ShowsFirst : (ℤ → ℤ → Type 0) → (ℤ → Type 0) → List Row → Type 0
 ShowsFirst Up P [] = (id : ℤ) → ¬ P id
 ShowsFirst Up P (row ∷ rows) = (id : ℤ) × (row ≡ Int id ∷ []) × P id × ((other : ℤ) → P other → Up id other)
-
--- the least id with which a row of the table begins, and one that none is above; none where the table has no row
-abbrev pub AreEnds : ℕ → Trees → Option Ends → Type 0
-AreEnds tree trees None = (id : ℤ) → ¬ Owns tree trees id
-AreEnds tree trees (Some ends) = Owns tree trees ends.first × ((id : ℤ) → Owns tree trees id → (ends.first ≤ℤ id) × (id ≤ℤ ends.last))
 
 -- how long the list is that a table's rows are compared with
 abbrev pub size_of : Table → ExpectedDatabase → ℕ

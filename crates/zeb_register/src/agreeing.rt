@@ -4,11 +4,11 @@ ghost use Rattle.std.specs.Prelude.{◌≡◌, ◌≢◌, ◌↔◌, length, Mat
 ghost use Rattle.sqlite.specs.Held.{state};
 ghost use Rattle.sqlite.specs.State.{IsUnchanged};
 ghost use Rattle.std.specs.List.Sorted.{IsStrictlySortedBy};
+ghost use Rattle.zeb_register.specs.Agreeing.{AreBeside, HasNames, KeepsExpectedTexts, LacksPostingsAndDict, ListsAgree, RecordsAgree};
 ghost use Rattle.zeb_register.specs.Calls.{Reading};
 ghost use Rattle.zeb_register.specs.Clauses.{IsReasoned, OnStore, Tells, TellsWhether};
 ghost use Rattle.zeb_register.specs.Expected.{IsOrdered, name_order};
-ghost use Rattle.zeb_register.specs.PrivateRowExpected.{AreBeside, AreInOrder, AsExpected, EachAsExpected, HasNames};
-ghost use Rattle.zeb_register.specs.PrivateRowExpected.{KeepsExpectedTexts, HoldsExpected, HoldsThere, IsInOrder, LacksPacked, ListsAgree};
+ghost use Rattle.zeb_register.specs.PrivateRowExpected.{AreInOrder, AsExpected, EachAsExpected, HoldsExpected, IsInOrder, LacksPacked};
 
 use crate::belonging::belongs;
 use crate::catalog::databases_in;
@@ -30,8 +30,8 @@ pub(crate) enum Table {
     Dict,
 }
 
-/// The databases that are there, where texts, databases and records are just the expected ones.
-pub(crate) fn lists_beside<S: Alter>(
+/// The databases that are there, in the order of the expected ones, where texts, databases and records are just these. It changes nothing.
+pub fn lists_beside<S: Alter>(
     alloc: Global,
     conn: &mut Connection<S>,
     expected: &Expected,
@@ -66,9 +66,9 @@ fn records_beside<S: Alter>(
         (λ trees. IsStrictlySortedBy name_order expected.now
         → AreInOrder expected.now → IfOk result (λ found.
         MatchOption found (¬ (HasNames trees expected.now
-        × HoldsThere Table.Records expected.now trees))
+        × RecordsAgree expected.now trees))
         (λ listed. AreBeside listed.items expected.now trees
-        × HoldsThere Table.Records expected.now trees))) }
+        × RecordsAgree expected.now trees))) }
     ensures long { IfOk result (λ found. IfSome found
         (λ listed. length listed.items ≡ length expected.now)) }
     ensures honest { result ≢ Err RegFault.Damaged }
@@ -112,6 +112,21 @@ fn lacks_packed<S: Alter>(conn: &mut Connection<S>) -> Result<bool, RegFault>
     ensures refused { IsReasoned (state S.Store conn.old) (state S.Store conn.new) result }
 {
     if !belongs(conn, Table::Blocks, &[])? {
+        return Ok(false);
+    }
+    belongs(conn, Table::Dict, &[])
+}
+
+/// Whether `postings` and `dict` have no row, as where registers are kept in leaves. It changes nothing.
+pub fn postings_and_dict_lack_rows<S: Alter>(conn: &mut Connection<S>) -> Result<bool, RegFault>
+    ensures call { Reading (state S.Store conn.old) (state S.Store conn.new) result
+        (λ _. IsUnchanged) }
+    ensures value { Tells (state S.Store conn.old) (state S.Store conn.new) result
+        (λ trees agree. IsTrue agree ↔ LacksPostingsAndDict trees) }
+    ensures honest { result ≢ Err RegFault.Damaged }
+    ensures refused { IsReasoned (state S.Store conn.old) (state S.Store conn.new) result }
+{
+    if !belongs(conn, Table::Postings, &[])? {
         return Ok(false);
     }
     belongs(conn, Table::Dict, &[])

@@ -6,10 +6,11 @@ ghost use Rattle.sqlite.specs.Held.{state};
 ghost use Rattle.sqlite.specs.Order.{Row as Columns};
 ghost use Rattle.sqlite.specs.State.{IsUnchanged};
 ghost use Rattle.sqlite.specs.declared.types.Value.TheVariants.{Int};
+ghost use Rattle.zeb_register.specs.Agreeing.{AreEnds, IsLeastFrom, IsListedId, Owns};
 ghost use Rattle.zeb_register.specs.Calls.{Reading};
 ghost use Rattle.zeb_register.specs.Clauses.{IsReasoned, Tells};
-ghost use Rattle.zeb_register.specs.PrivateRowExpected.{BelongsTo, IsListedId, tree_of};
-ghost use Rattle.zeb_register.specs.PrivateRowReads.{AreEnds};
+ghost use Rattle.zeb_register.specs.PrivateRowExpected.{BelongsTo, tree_of};
+ghost use Rattle.zeb_register.specs.Store.{blocks_tree};
 
 use crate::agreeing::Table;
 use crate::statements::owners::{greatest_rows, least_rows, next_rows};
@@ -19,9 +20,9 @@ use sqlite::{Alter, Connection, Row};
 
 /// The least and the greatest id with which a row of a table begins.
 #[derive(Clone, Copy, Debug)]
-pub(crate) struct Ends {
-    pub(crate) first: i64,
-    pub(crate) last: i64,
+pub struct Ends {
+    pub first: i64,
+    pub last: i64,
 }
 
 /// Whether each row of a table belongs to one of these databases.
@@ -78,6 +79,34 @@ fn ends_of<S: Alter>(conn: &mut Connection<S>, table: Table) -> Result<Option<En
     Ok(Some(Ends { first, last }))
 }
 
+/// The least and the greatest id of a database with which a row of `blocks` begins, or none where it has no row. It changes nothing.
+pub fn ends_in_blocks<S: Alter>(conn: &mut Connection<S>) -> Result<Option<Ends>, RegFault>
+    ensures call { Reading (state S.Store conn.old) (state S.Store conn.new) result
+        (λ _. IsUnchanged) }
+    ensures value { Tells (state S.Store conn.old) (state S.Store conn.new) result
+        (AreEnds blocks_tree) }
+    ensures honest { result ≢ Err RegFault.Damaged }
+    ensures refused { IsReasoned (state S.Store conn.old) (state S.Store conn.new) result }
+{
+    ends_of(conn, Table::Blocks)
+}
+
+/// The least id of a database from a start on with which a row of `blocks` begins, if one does. It changes nothing.
+pub fn next_in_blocks<S: Alter>(
+    conn: &mut Connection<S>,
+    start: i64,
+) -> Result<Option<i64>, RegFault>
+    ensures call { Reading (state S.Store conn.old) (state S.Store conn.new) result
+        (λ _. IsUnchanged) }
+    ensures value { Tells (state S.Store conn.old) (state S.Store conn.new) result
+        (λ trees. IsLeastFrom (Owns blocks_tree trees) start) }
+    ensures honest { result ≢ Err RegFault.Damaged }
+    ensures refused { IsReasoned (state S.Store conn.old) (state S.Store conn.new) result }
+{
+    let rows = next_rows(conn, Table::Blocks, start)?;
+    Ok(id_of(&rows))
+}
+
 /// The id that the first row shows.
 fn id_of(rows: &[Row]) -> Option<i64>
     ensures none { rows.now ≡ [] → result ≡ None }
@@ -91,7 +120,7 @@ fn id_of(rows: &[Row]) -> Option<i64>
 }
 
 /// Whether one of these databases has the id.
-fn is_listed(listed: &[ListedDatabase], id: i64) -> bool
+pub fn is_listed(listed: &[ListedDatabase], id: i64) -> bool
     ensures same { result ≡ true → IsListedId listed.now id }
     ensures other { result ≡ false → ¬ IsListedId listed.now id }
 {

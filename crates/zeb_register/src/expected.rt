@@ -1,9 +1,10 @@
 //! What the tables of a store have to hold, written down by a caller, so that whole tables can be looked at beside it.
 
 ghost use Rattle.std.specs.Prelude.{◌≡◌, ◌≢◌, true, false, map};
+ghost use Rattle.zeb_register.specs.Agreeing.{expected_name, listed_name};
 ghost use Rattle.zeb_register.specs.Kept.{record_shown};
 ghost use Rattle.zeb_register.specs.PlainRows.{posting_row};
-ghost use Rattle.zeb_register.specs.PrivateRowExpected.{expected_name, key_shown, listed_name, next_three, posting_shown, text_rows};
+ghost use Rattle.zeb_register.specs.PrivateRowExpected.{key_shown, next_three, posting_shown, text_rows};
 ghost use Rattle.zeb_register.specs.PrivateRowPlaces.{first_three};
 ghost use Rattle.zeb_register.specs.Store.{entry};
 

@@ -1,6 +1,8 @@
 //! What those who write a `Layout` over the tables need, beside the public calls: values on their way into a row and out of it, and what
 //! more than one crate needs of the tables.
 
+pub use crate::agreeing::{lists_beside, postings_and_dict_lack_rows};
+pub use crate::belonging::{Ends, ends_in_blocks, is_listed, next_in_blocks};
 pub use crate::checked_changes::check_changes;
 pub use crate::dropping::database_drop_whole;
 pub use crate::packed_agreeing::blocks_agree;

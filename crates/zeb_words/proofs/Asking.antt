@@ -1,16 +1,17 @@
 -- What the words behind `find` and `scan` ask.
-use Rattle.zeb_words.proofs.Cited.{◌≡◌, ◌∙◌, ◌⊎◌, ◌<◌, ◌^◌, inl, inr, ℕ, Bool, refl, sym, ap, subst, List, [], ◌∷◌, Some, None, codes, true, false, map, cond, arith, ⊤, if◌then◌else◌, unwrap_or, slice_get, option_map, is_some, pos, bytes_eq, bytes_eq-Decides, Row, Text, rows_after, has_row, one_of, used, with_values, without, check_fault, use_fault, values_fault, Kinds, or_else, is_given, accepts, read_as, Accepts-accepts, accepts-Accepts, ValueParser, AsWritten, WithoutMinus, CommandLine, Argument, HasOnly, IsNumberOr, Part, arguments, values_of, Named, Asks, NumberOption, IsNumberRead, text_or}
+use Rattle.zeb_words.proofs.Cited.{◌≡◌, ◌∙◌, ◌⊎◌, ◌<◌, ◌^◌, inl, inr, ℕ, Bool, refl, sym, ap, subst, List, [], ◌∷◌, Some, None, codes, true, false, map, cond, arith, ⊤, if◌then◌else◌, unwrap_or, slice_get, option_map, is_some, pos, bytes_eq, bytes_eq-Decides, Row, Text, rows_after, has_row, one_of, used, with_values, without, check_fault, use_fault, values_fault, Kinds, or_else, is_given, accepts, read_as, Accepts-accepts, accepts-Accepts, ValueParser, AsWritten, WithoutMinus, CommandLine, Argument, Flag, HasOnly, IsNumberOr, Part, arguments, values_of, Named, Asks, NumberOption, IsNumberRead, text_or}
 use Rattle.clap.specs.declared.builder.value_parser.ValueParser.TheVariants as parser
 use Rattle.clap.specs.declared.error.kind.ErrorKind.TheVariants as kind
 use Rattle.zeb_words.specs.Names as names
 use Rattle.zeb_words.proofs.Items.{AllItems, AllRead, most_once, AtMostOne, Item, Once, first_is, given_is, once_most, one_is, row, values}
 use Rattle.zeb_words.proofs.Uses.{Each, clean, no_clash, rows_are}
-use Rattle.zeb_words.proofs.Leaf.{Bare, Changing, Finding, Fits, IsOption, Leaf, Naming, Scanning, count, first, number, part_rule, part_values, place, plain_leaf, HasSlot, filled_by, rules, uses}
-use Rattle.zeb_words.proofs.LeafRead.{Own, own_fault, taken}
+use Rattle.zeb_words.proofs.Leaf.{Bare, Changing, Finding, Fits, Founding, IsFlag, IsOption, Leaf, Naming, Scanning, count, first, number, part_rule, part_values, place, plain_leaf, HasSlot, filled_by, leaves, rules, uses}
+use Rattle.zeb_words.proofs.LeafRead.{Own, finished, own_fault, taken}
 use Rattle.zeb_words.proofs.Numbers.{passed_says, says_passes, says_read}
 
 abbrev pub IsAsking : Leaf → Type 0
 IsAsking Bare = ⊥
+IsAsking Founding = ⊥
 IsAsking Naming = ⊥
 IsAsking Changing = ⊥
 IsAsking Finding = ⊤
@@ -18,10 +19,12 @@ IsAsking Scanning = ⊤
 
 abbrev pub item_of : Part → Item
 item_of (Named name value) = record { id = name; value = value; how = WithoutMinus }
+item_of (Flag name) = record { id = codes "query"; value = []; how = AsWritten }
 item_of (Argument word) = record { id = codes "query"; value = word; how = AsWritten }
 
 abbrev pub Well : Leaf → Part → Type 0
 Well l (Named name value) = IsOption l name
+Well l (Flag name) = ⊥
 Well l (Argument word) = IsAsking l
 
 abbrev pub Sound : Leaf → Part → Type 0
@@ -35,6 +38,7 @@ good l (Named name value) rows well fresh sound = by l name well fresh sound
         → use_fault false (part_rule l (Named name value)) (value ∷ []) rows ≡ []
     by l name first fresh sound = rw fresh sound
     by l name _ fresh sound = rw fresh sound
+good l (Flag name) rows well fresh sound = absurd well
 good Finding (Argument word) rows well fresh sound = rw fresh refl
 good Scanning (Argument word) rows well fresh sound = rw fresh refl
 good _ (Argument word) rows well fresh sound = absurd well
@@ -49,6 +53,7 @@ only l (Named name value) rows well fault = by l name (has_row name rows) well r
     by l name false first e fault = (e, rw e at fault)
     by l name true _ e fault = let bad : kind.ArgumentConflict ∷ [] ≡ [] = rw e at fault in cc
     by l name false _ e fault = (e, rw e at fault)
+only l (Flag name) rows well fault = absurd well
 only l (Argument word) rows well fault = by l (has_row (codes "query") rows) well refl fault
   where
     by : (l : Leaf) (is : Bool) → IsAsking l → has_row (codes "query") rows ≡ is
@@ -67,13 +72,25 @@ using l (Named name value) rows well = by l name well
         ≡ with_values name WithoutMinus CommandLine (value ∷ []) (without name rows)
     by l name first = refl
     by l name _ = refl
+using l (Flag name) rows well = absurd well
 using Finding (Argument word) rows well = refl
 using Scanning (Argument word) rows well = refl
 using _ (Argument word) rows well = absurd well
 
+-- no command that asks has a flag
+no_flag : (l : Leaf) (name : Text) → IsAsking l → IsFlag l name → ⊥
+no_flag l name asking leaves = asking
+
+-- nothing is read of a command that asks but what its words say
+finished_asking : (l : Leaf) → IsAsking l → (rows : List Row) → finished l rows ≡ rows
+finished_asking Finding asking rows = refl
+finished_asking Scanning asking rows = refl
+finished_asking _ asking rows = absurd asking
+
 pub each_well : (l : Leaf) → IsAsking l → (parts : List Part) (full : Bool) → Fits l full parts → Each (Well l) parts
 each_well l asking [] full fits = tt
 each_well l asking (Named name value ∷ parts) full fits = (fits.0, each_well l asking parts full fits.1)
+each_well l asking (Flag name ∷ parts) full fits = absurd (no_flag l name asking fits.0)
 each_well l asking (Argument word ∷ parts) full fits = (asking, each_well l asking parts _ fits.1)
 
 -- ---- values by name
@@ -81,6 +98,7 @@ each_well l asking (Argument word ∷ parts) full fits = (asking, each_well l as
 option_values : (name : Text) → bytes_eq (codes "query") name ≡ false → (parts : List Part) → values name (map item_of parts) ≡ values_of name parts
 option_values name other [] = refl
 option_values name other (Named n value ∷ parts) = ap (λ l. cond (bytes_eq n name) (value ∷ l) l) (option_values name other parts)
+option_values name other (Flag n ∷ parts) = rw other (option_values name other parts)
 option_values name other (Argument word ∷ parts) = rw other (option_values name other parts)
 
 no_query : (l : Leaf) (name : Text) → IsOption l name → bytes_eq name (codes "query") ≡ false
@@ -90,11 +108,13 @@ no_query l name _ = refl
 query_values : (l : Leaf) (parts : List Part) → Each (Well l) parts → values (codes "query") (map item_of parts) ≡ arguments parts
 query_values l [] well = refl
 query_values l (Named name value ∷ parts) well = let other = no_query l name well.0 in rw other (query_values l parts well.1)
+query_values l (Flag n ∷ parts) well = absurd well.0
 query_values l (Argument word ∷ parts) well = ap (λ l. word ∷ l) (query_values l parts well.1)
 
 all_written : (l : Leaf) (name : Text) → bytes_eq (codes "query") name ≡ false → (parts : List Part) → AllRead name WithoutMinus (map item_of parts)
 all_written l name other [] = tt
 all_written l name other (Named n value ∷ parts) = (λ e. refl, all_written l name other parts)
+all_written l name other (Flag n ∷ parts) = (λ e. let bad : false ≡ true = sym other ∙ e in cc, all_written l name other parts)
 all_written l name other (Argument word ∷ parts) = (λ e. let bad : false ≡ true = sym other ∙ e in cc, all_written l name other parts)
 
 -- ---- sound values
@@ -133,6 +153,7 @@ sound_values l o ranged (Named name value ∷ parts) sound = by (bytes_eq name o
         let is : name ≡ o.name = (bytes_eq-Decides name o.name).0 e in
         rw e (sound_value l o value ranged (subst (λ n. Sound l (Named n value)) is sound.0), more)
     by false e more = rw e more
+sound_values l o ranged (Flag name ∷ parts) sound = sound_values l o ranged parts sound.1
 sound_values l o ranged (Argument word ∷ parts) sound = sound_values l o ranged parts sound.1
 
 is_number : (o : NumberOption) (vs : List Text) (n : ℕ) → o.most < 2 ^ 32 → AtMostOne vs → AllTexts (λ t. accepts false (range_of o) t ≡ true) vs
@@ -203,6 +224,7 @@ scan_options = record {
 has_only : (l : Leaf) (a b : NumberOption) → Options l a b → (parts : List Part) → Each (Well l) parts → HasOnly a.name b.name parts
 has_only l a b o [] well = tt
 has_only l a b o (Named name value ∷ parts) well = (o.two name well.0, has_only l a b o parts well.1)
+has_only l a b o (Flag name ∷ parts) well = absurd well.0
 has_only l a b o (Argument word ∷ parts) well = has_only l a b o parts well.1
 
 one_argument : (vs : List Text) → AtMostOne vs → is_some (slice_get vs 0) ≡ true → vs ≡ unwrap_or (slice_get vs 0) [] ∷ []
@@ -212,23 +234,24 @@ one_argument (v ∷ w ∷ more) one some = absurd one
 
 -- what is read of the words is what they ask
 pub asked : (l : Leaf) (a b : NumberOption) → Options l a b → (words : List Text) (own : Own l words) (query : Text) (m n : ℕ)
-    → query ≡ text_or (codes "query") [] (uses l own.parts []) → IsNumberRead (one_of a.name (uses l own.parts [])) a.default m
-    → IsNumberRead (one_of b.name (uses l own.parts [])) b.default n → Asks words query a m b n
+    → query ≡ text_or (codes "query") [] (finished l (uses l own.parts [])) → IsNumberRead (one_of a.name (finished l (uses l own.parts []))) a.default m
+    → IsNumberRead (one_of b.name (finished l (uses l own.parts []))) b.default n → Asks words query a m b n
 asked l a b o words own query m n is a_read b_read =
+    let plain = finished_asking l o.asking (uses l own.parts []) in
     let well = each_well l o.asking own.parts false own.fits in
     let items = map item_of own.parts in
     let clear = clean (part_rule l) part_values item_of (Well l) (Sound l) (good l) (only l) (using l) own.parts [] well own.clashes in
     let rows : uses l own.parts [] ≡ map row items = rows_are (part_rule l) part_values item_of (Well l) (Sound l) (good l) (only l) (using l) own.parts [] well clear.0 in
     let queries = query_values l own.parts well in
     let given : is_some (slice_get (arguments own.parts) 0) ≡ true =
-    ap (λ vs. is_some (slice_get vs 0)) (sym queries) ∙ sym (given_is (codes "query") items) ∙ ap (is_given (codes "query")) (sym rows) ∙ o.missing (uses l own.parts []) own.checked in
+    ap (λ vs. is_some (slice_get vs 0)) (sym queries) ∙ sym (given_is (codes "query") items) ∙ ap (is_given (codes "query")) (sym rows) ∙ o.missing (uses l own.parts []) (subst (λ rows. check_fault (plain_leaf l) rows false ≡ []) plain own.checked) in
     let most : AtMostOne (arguments own.parts) = subst AtMostOne queries (once_most items [] (codes "query") clear.0).1 in
     let text : query ≡ unwrap_or (slice_get (arguments own.parts) 0) [] =
-    is ∙ ap (text_or (codes "query") []) rows ∙ ap (λ t. unwrap_or t []) (first_is (codes "query") items ∙ ap (λ vs. slice_get vs 0) queries) in
+    is ∙ ap (text_or (codes "query") []) (plain ∙ rows) ∙ ap (λ t. unwrap_or t []) (first_is (codes "query") items ∙ ap (λ vs. slice_get vs 0) queries) in
     let a_vs = option_values a.name o.a_other own.parts in
     let b_vs = option_values b.name o.b_other own.parts in
-    let a_one = ap (one_of a.name) rows ∙ one_is a.name WithoutMinus items (all_written l a.name o.a_other own.parts) ∙ ap (λ vs. option_map (read_as WithoutMinus) (slice_get vs 0)) a_vs in
-    let b_one = ap (one_of b.name) rows ∙ one_is b.name WithoutMinus items (all_written l b.name o.b_other own.parts) ∙ ap (λ vs. option_map (read_as WithoutMinus) (slice_get vs 0)) b_vs in
+    let a_one = ap (one_of a.name) (plain ∙ rows) ∙ one_is a.name WithoutMinus items (all_written l a.name o.a_other own.parts) ∙ ap (λ vs. option_map (read_as WithoutMinus) (slice_get vs 0)) a_vs in
+    let b_one = ap (one_of b.name) (plain ∙ rows) ∙ one_is b.name WithoutMinus items (all_written l b.name o.b_other own.parts) ∙ ap (λ vs. option_map (read_as WithoutMinus) (slice_get vs 0)) b_vs in
     record {
       parts = own.parts;
       says = own.says;
@@ -288,6 +311,7 @@ each_sound : (l : Leaf) (a b : NumberOption) → Options l a b → (parts : List
     → AllTexts (λ t. accepts false (range_of a) t ≡ true) (values_of a.name parts) → AllTexts (λ t. accepts false (range_of b) t ≡ true) (values_of b.name parts)
     → Each (Sound l) parts
 each_sound l a b o [] only_these a_all b_all = tt
+each_sound l a b o (Flag name ∷ parts) only_these a_all b_all = absurd only_these
 each_sound l a b o (Argument word ∷ parts) only_these a_all b_all = (argument_sound l word o.asking, each_sound l a b o parts only_these a_all b_all)
 each_sound l a b o (Named name value ∷ parts) only_these a_all b_all =
     (by only_these.0 a_all b_all, each_sound l a b o parts only_these.1 (rest_passes _ a.name name value parts a_all) (rest_passes _ b.name name value parts b_all))
@@ -322,6 +346,7 @@ parts_fit l a b o (Named name value ∷ parts) full only_these room = (by only_t
     by : (name ≡ a.name) ⊎ (name ≡ b.name) → IsOption l name
     by (inl e) = subst (IsOption l) (sym e) (ranged_option l a o.a_ranged)
     by (inr e) = subst (IsOption l) (sym e) (ranged_option l b o.b_ranged)
+parts_fit l a b o (Flag name ∷ parts) full only_these room = absurd only_these
 parts_fit l a b o (Argument word ∷ parts) true only_these room = let bad : word ∷ arguments parts ≡ [] = room in cc
 parts_fit l a b o (Argument word ∷ parts) false only_these room =
     let slot = asking_slot l o.asking in
@@ -337,6 +362,7 @@ all_known a b (Named name value ∷ parts) only_these = (by only_these.0, all_kn
     by : (name ≡ a.name) ⊎ (name ≡ b.name) → Known a b name
     by (inl e) = inl e
     by (inr e) = inr (inl e)
+all_known a b (Flag name ∷ parts) only_these = absurd only_these
 all_known a b (Argument word ∷ parts) only_these = (inr (inr refl), all_known a b parts only_these)
 
 -- what the words ask is taken and read
@@ -364,8 +390,9 @@ asks_taken l a b o words query m n asks =
     let rows : uses l parts [] ≡ map row items = rows_are (part_rule l) part_values item_of (Well l) (Sound l) (good l) (only l) (using l) parts [] well once in
     let given : is_given (codes "query") (uses l parts []) ≡ true =
     ap (is_given (codes "query")) rows ∙ given_is (codes "query") items ∙ ap (λ vs. is_some (slice_get vs 0)) (queries ∙ asks.one) in
-    let t = taken l words parts asks.says fits clear (o.present (uses l parts []) given) in
-    let all = t.1 ∙ rows in
+    let plain = finished_asking l o.asking (uses l parts []) in
+    let t = taken l words parts asks.says fits clear (subst (λ rows. check_fault (plain_leaf l) rows false ≡ []) (sym plain) (o.present (uses l parts []) given)) in
+    let all = t.1 ∙ plain ∙ rows in
     let a_one = ap (one_of a.name) all ∙ one_is a.name WithoutMinus items (all_written l a.name o.a_other parts) ∙ ap (λ vs. option_map (read_as WithoutMinus) (slice_get vs 0)) a_vs in
     let b_one = ap (one_of b.name) all ∙ one_is b.name WithoutMinus items (all_written l b.name o.b_other parts) ∙ ap (λ vs. option_map (read_as WithoutMinus) (slice_get vs 0)) b_vs in
     record {

@@ -1,6 +1,7 @@
 -- Words that spell settings, and words that say options and arguments, by the grammar; and words that ask for help or the version.
-use Rattle.zeb_words.proofs.Cited.{◌≡◌, refl, [], ◌∷◌, codes, true, eqb-false, Argument, Config, Database, Given, IsPlain, Says, Shows, Spells, apart, argument, by_equals, files, joined, none, nothing, option_by_equals, shown, shows_and, values_of, Named, named, program_app, fault_of, DisplayHelp, DisplayVersion, UnknownArgument, ended}
+use Rattle.zeb_words.proofs.Cited.{◌≡◌, refl, [], ◌∷◌, codes, true, eqb-false, Argument, Config, Database, Given, IsPlain, Says, Shows, Spells, apart, argument, by_equals, files, joined, none, nothing, option_by_equals, shown, shows_and, values_of, Named, named, Flag, alone, program_app, fault_of, DisplayHelp, DisplayVersion, UnknownArgument, ended}
 use Rattle.clap.proofs.OnLiterals.{clap_on_literals}
+use Rattle.clap.specs.declared.error.kind.ErrorKind.TheVariants.{ArgumentConflict, TooManyValues}
 
 -- `-c x.cfg`, `-c=x.cfg`, `-cx.cfg`, and an empty value
 file_apart : Spells (codes "-c" ∷ codes "x.cfg" ∷ []) (Given Config (codes "x.cfg") ∷ [])
@@ -52,6 +53,12 @@ second_end = ended (codes "--" ∷ [])
 end_alone : Says (codes "--" ∷ []) []
 end_alone = ended []
 
+flag_stands : Says (codes "--leaves" ∷ []) (Flag (codes "leaves") ∷ [])
+flag_stands = alone (codes "leaves") [] [] nothing
+
+flag_then_end : Says (codes "--leaves" ∷ codes "--" ∷ []) (Flag (codes "leaves") ∷ [])
+flag_then_end = alone (codes "leaves") _ _ (ended [])
+
 value_hyphen : Says (codes "--first" ∷ codes "-" ∷ []) (Named (codes "first") (codes "-") ∷ [])
 value_hyphen = named (codes "first") (codes "-") [] [] tt nothing
 
@@ -89,3 +96,21 @@ version_by_letter = refl
 help_behind : fault_of program_app (codes "find" ∷ codes "--help" ∷ []) ≡ DisplayHelp ∷ []
 unfolding clap_on_literals
 help_behind = refl
+
+-- ---- a flag stands once, without a value, and with its commands alone
+
+leaves_taken : fault_of program_app (codes "init" ∷ codes "--leaves" ∷ []) ≡ []
+unfolding clap_on_literals
+leaves_taken = refl
+
+leaves_twice : fault_of program_app (codes "init" ∷ codes "--leaves" ∷ codes "--leaves" ∷ []) ≡ ArgumentConflict ∷ []
+unfolding clap_on_literals
+leaves_twice = refl
+
+leaves_by_value : fault_of program_app (codes "upgrade" ∷ codes "--leaves=true" ∷ []) ≡ TooManyValues ∷ []
+unfolding clap_on_literals
+leaves_by_value = refl
+
+leaves_elsewhere : fault_of program_app (codes "reindex" ∷ codes "--leaves" ∷ []) ≡ UnknownArgument ∷ []
+unfolding clap_on_literals
+leaves_elsewhere = refl

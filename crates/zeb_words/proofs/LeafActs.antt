@@ -1,22 +1,45 @@
 -- What the words behind a command say of it.
-use Rattle.zeb_words.proofs.Cited.{◌≡◌, ◌≢◌, ◌∙◌, Bool, refl, sym, ap, subst, List, [], ◌∷◌, ◌++◌, Some, None, codes, true, false, map, unwrap_or, append_assoc, append-nil, Row, Text, all_of, rows_after, check_fault, AsWritten, CommandLine, Argument, Part, Says, arguments, Named, text_or}
+use Rattle.zeb_words.proofs.Cited.{◌≡◌, ◌≢◌, ◌∙◌, Bool, refl, sym, ap, subst, List, [], ◌∷◌, ◌++◌, Some, None, codes, true, false, map, unwrap_or, append_assoc, append-nil, Row, Text, all_of, rows_after, check_fault, AsWritten, CommandLine, Argument, Flag, Part, Says, arguments, Named, text_or, IsChoiceRead, IsFlagText, LayoutChoice, Leaves, Option, Unsaid, None, choice_parts, inl, inr, one_of}
 use Rattle.clap.specs.declared.error.kind.ErrorKind.TheVariants as kind
-use Rattle.zeb_words.proofs.Leaf.{Bare, Changing, Fits, Naming, clash, plain_leaf, rules, uses}
-use Rattle.zeb_words.proofs.LeafRead.{Own, own_fault, taken}
+use Rattle.zeb_words.proofs.Leaf.{Bare, Changing, Fits, Founding, Naming, clash, leaves, plain_leaf, rules, uses}
+use Rattle.zeb_words.proofs.LeafRead.{Own, finished, own_fault, taken}
+use Rattle.zeb_words.proofs.ReadingLemmas.{same_flag}
 
 -- ---- commands without options
 
 pub no_parts : (parts : List Part) (full : Bool) → Fits Bare full parts → parts ≡ []
 no_parts [] full fits = refl
 no_parts (Named name value ∷ parts) full fits = elim fits.0 [ ]
+no_parts (Flag name ∷ parts) full fits = elim fits.0 [ ]
 no_parts (Argument word ∷ parts) full fits = absurd fits.0
 
 pub bare_said : (words : List Text) → Own Bare words → Says words []
 bare_said words o = subst (Says words) (no_parts o.parts false o.fits) o.says
 
+-- ---- commands with a flag
+
+pub choice_said : (words : List Text) (choice : LayoutChoice) (o : Own Founding words)
+    → IsChoiceRead (one_of (codes "leaves") (finished Founding (uses Founding o.parts []))) choice → Says words (choice_parts choice)
+choice_said words choice o read = by o.parts o.says o.fits o.clashes choice read
+  where
+    by : (parts : List Part) → Says words parts → Fits Founding false parts → clash Founding parts [] ≡ [] → (choice : LayoutChoice)
+        → IsChoiceRead (one_of (codes "leaves") (finished Founding (uses Founding parts []))) choice → Says words (choice_parts choice)
+    by [] says fits clashes Unsaid read = says
+    by [] says fits clashes Leaves read = let bad : true ≡ false = read.no refl in cc
+    by (Flag name ∷ []) says (leaves, fits) clashes Leaves read = says
+    by (Flag name ∷ []) says (leaves, fits) clashes Unsaid read = let bad : false ≡ true = read.yes refl in cc
+    by (Flag name ∷ Flag other ∷ parts) says (leaves, (leaves, fits)) clashes choice read = let bad = clashes in cc
+    by (Flag name ∷ Named other value ∷ parts) says fits clashes choice read = elim fits.1.0 [ ]
+    by (Flag name ∷ Argument word ∷ parts) says fits clashes choice read = absurd fits.1.0
+    by (Named name value ∷ parts) says fits clashes choice read = elim fits.0 [ ]
+    by (Argument word ∷ parts) says fits clashes choice read = absurd fits.0
+
+-- ---- commands with arguments
+
 none_behind : (parts : List Part) → Fits Naming true parts → parts ≡ []
 none_behind [] fits = refl
 none_behind (Named name value ∷ parts) fits = elim fits.0 [ ]
+none_behind (Flag name ∷ parts) fits = elim fits.0 [ ]
 none_behind (Argument word ∷ parts) fits = let bad : true ≡ false = fits.0 in cc
 
 pub name_said : (words : List Text) (text : Text) (o : Own Naming words) → text ≡ text_or (codes "name") [] (uses Naming o.parts [])
@@ -27,6 +50,7 @@ name_said words text o is = by o.parts o.says o.fits o.checked is
         → text ≡ text_or (codes "name") [] (uses Naming parts []) → Says words (Argument text ∷ [])
     by [] says fits checked is = let bad : kind.MissingRequiredArgument ∷ [] ≡ [] = checked in cc
     by (Named name value ∷ parts) says fits checked is = elim fits.0 [ ]
+    by (Flag name ∷ parts) says fits checked is = elim fits.0 [ ]
     by (Argument word ∷ parts) says fits checked is =
         let none = none_behind parts fits.1 in
         let same : text ≡ word = is ∙ ap (λ ps. text_or (codes "name") [] (uses Naming (Argument word ∷ ps) [])) none in
@@ -41,6 +65,7 @@ paths_used : (parts : List Part) (seen : List Text) → Fits Changing false part
 unfolding path_row
 paths_used [] seen fits = (ap (λ l. path_row l ∷ []) (sym (append-nil seen)), refl)
 paths_used (Named name value ∷ parts) seen fits = elim fits.0 [ ]
+paths_used (Flag name ∷ parts) seen fits = elim fits.0 [ ]
 paths_used (Argument word ∷ parts) seen fits =
     let rest = paths_used parts (seen ++ word ∷ []) fits.1 in
     (rest.0 ∙ ap (λ l. path_row l ∷ []) (append_assoc seen (word ∷ []) (arguments parts)), ap (λ l. Argument word ∷ l) rest.1)
@@ -54,6 +79,7 @@ paths_said words paths o is = by o.parts o.says o.fits o.checked is
         → paths ≡ unwrap_or (all_of (codes "path") (uses Changing parts [])) [] → Says words (map Argument paths) × (paths ≢ [])
     by [] says fits checked is = let bad : kind.MissingRequiredArgument ∷ [] ≡ [] = checked in cc
     by (Named name value ∷ parts) says fits checked is = elim fits.0 [ ]
+    by (Flag name ∷ parts) says fits checked is = elim fits.0 [ ]
     by (Argument word ∷ parts) says fits checked is =
         let rest = paths_used parts (word ∷ []) fits.1 in
         let same : paths ≡ word ∷ arguments parts = is ∙ ap (λ rows. unwrap_or (all_of (codes "path") rows) []) rest.0 in
@@ -63,6 +89,36 @@ paths_said words paths o is = by o.parts o.says o.fits o.checked is
 
 pub bare_taken : (words : List Text) → Says words [] → own_fault Bare words ≡ []
 bare_taken words says = (taken Bare words [] says tt refl refl).0
+
+pub choice_taken : (words : List Text) (choice : LayoutChoice) → Says words (choice_parts choice)
+    → (own_fault Founding words ≡ []) × IsChoiceRead (one_of (codes "leaves") (rows_after (rules Founding) [] words)) choice
+choice_taken words Leaves says =
+    let t = taken Founding words (choice_parts Leaves) says (leaves, tt) refl refl in (
+      t.0,
+      subst (λ rows. IsChoiceRead (one_of (codes "leaves") rows) Leaves) (sym t.1)
+          (record { absent = λ e. let bad : Some (codes "true") ≡ None = e in cc; yes = λ e. refl; no = λ e. let bad : Some (codes "true") ≡ Some (codes "false") = e in cc }),
+    )
+choice_taken words Unsaid says =
+    let t = taken Founding words (choice_parts Unsaid) says tt refl refl in (
+      t.0,
+      subst (λ rows. IsChoiceRead (one_of (codes "leaves") rows) Unsaid) (sym t.1)
+          (record { absent = λ e. refl; yes = λ e. let bad : Some (codes "false") ≡ Some (codes "true") = e in cc; no = λ e. refl }),
+    )
+
+-- one choice is read at most
+pub choice_only : (words : List Text) (choice other : LayoutChoice) → Says words (choice_parts choice)
+    → IsChoiceRead (one_of (codes "leaves") (rows_after (rules Founding) [] words)) other → other ≡ choice
+choice_only words choice other says read = by choice other (choice_taken words choice says).1 (flag_text choice says) read
+  where
+    flag_text : (choice : LayoutChoice) → Says words (choice_parts choice) → IsFlagText (one_of (codes "leaves") (rows_after (rules Founding) [] words))
+    flag_text Leaves says = subst (λ rows. IsFlagText (one_of (codes "leaves") rows)) (sym (taken Founding words (choice_parts Leaves) says (leaves, tt) refl refl).1) (inl refl)
+    flag_text Unsaid says = subst (λ rows. IsFlagText (one_of (codes "leaves") rows)) (sym (taken Founding words (choice_parts Unsaid) says tt refl refl).1) (inr refl)
+
+    by : {read : Option Text} → (choice other : LayoutChoice) → IsChoiceRead read choice → IsFlagText read → IsChoiceRead read other → other ≡ choice
+    by Leaves Leaves one flag two = refl
+    by Unsaid Unsaid one flag two = refl
+    by {read = read} Leaves Unsaid one flag two = let bad : true ≡ false = same_flag read true false flag one two in cc
+    by {read = read} Unsaid Leaves one flag two = let bad : false ≡ true = same_flag read false true flag one two in cc
 
 pub name_taken : (words : List Text) (text : Text) → Says words (Argument text ∷ [])
     → (own_fault Naming words ≡ []) × (text ≡ text_or (codes "name") [] (rows_after (rules Naming) [] words))

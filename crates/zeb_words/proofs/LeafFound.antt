@@ -1,5 +1,5 @@
 -- Words behind a command that the walk takes say options and arguments.
-use Rattle.zeb_words.proofs.Cited.{◌≡◌, ◌∙◌, ◌==◌, ◌⊎◌, inl, inr, ◌≤◌, ◌≢◌, ℕ, Bool, refl, sym, ap, subst, List, [], ◌∷◌, ◌++◌, Option, Some, None, codes, true, false, arith, length, map, drop, eqb-true, suc, zero, IsUtf8, bytes_eq, bytes_eq-Decides, name_and_value, Row, Held, Walk, Text, arg_by_index, arg_by_long, arg_by_short, wait_option, turn_fault, settle_fault, short_fault, long_fault, Kinds, Lacks, name_and_value-at, name_and_value-without, eqb-false, IsPlain, Part, Argument, Says, nothing, argument, option_by_equals, Named, named, flags_fault, ended}
+use Rattle.zeb_words.proofs.Cited.{◌≡◌, ◌∙◌, ◌==◌, ◌⊎◌, inl, inr, ◌≤◌, ◌≢◌, ℕ, Bool, refl, sym, ap, subst, List, [], ◌∷◌, ◌++◌, Option, Some, None, codes, true, false, arith, length, map, drop, eqb-true, suc, zero, IsUtf8, bytes_eq, bytes_eq-Decides, name_and_value, Row, Held, Walk, Text, arg_by_index, arg_by_long, arg_by_short, wait_option, turn_fault, settle_fault, short_fault, long_fault, Kinds, Lacks, name_and_value-at, name_and_value-without, eqb-false, IsPlain, Part, Argument, Says, nothing, argument, option_by_equals, Named, named, flags_fault, ended, Flag, alone}
 use Rattle.std.specs.Char.{encode_utf8}
 use Rattle.clap.specs.Walk.{walked}
 use Rattle.clap.specs.Faults.{walk_fault}
@@ -8,7 +8,7 @@ use Rattle.zeb_words.proofs.Leads.{Leads, at_end, goes, none_of_both}
 use Rattle.zeb_words.proofs.Plain.{IsNoFlag, no_flag, are_letters}
 use Rattle.zeb_words.proofs.Flags.{Kind, dashes, first_of_letters, flat, kind_of_word, lettered, letters_fault, letters_text, long, unsettled, unsettled_long}
 use Rattle.zeb_words.proofs.TopFound.{AreTexts}
-use Rattle.zeb_words.proofs.Leaf.{Fits, HasSlot, IsOption, Leaf, Bare, Finding, Scanning, Pending, among, behind, calm, count, equals_leads, filled_by, first, held, number, option_leads, place, plain_leaf, position_of, rows_with, rules, standing, value_leads}
+use Rattle.zeb_words.proofs.Leaf.{Fits, HasSlot, IsFlag, IsOption, Leaf, Bare, Finding, Founding, Scanning, Pending, among, behind, calm, count, equals_leads, filled_by, first, flag_leads, held, leaves, number, option_leads, place, plain_leaf, position_of, rows_with, rules, standing, value_leads}
 use Rattle.zeb_words.proofs.LeafSaid.{dashes_leads}
 
 -- the walk takes the words
@@ -49,6 +49,8 @@ stray l full vacant w false rows p word (inl not) fault = cc
 slot_or_none : (l : Leaf) (full : Bool) → HasSlot l full ⊎ IsRefused l full
 slot_or_none Bare false = inr (stray Bare false refl)
 slot_or_none Bare true = inr (stray Bare true refl)
+slot_or_none Founding false = inr (stray Founding false refl)
+slot_or_none Founding true = inr (stray Founding true refl)
 slot_or_none _ false = inl refl
 slot_or_none l true = inr (stray l true refl)
 
@@ -74,6 +76,12 @@ found_behind l (word ∷ words) w full rows p passes = by (slot_or_none l full) 
 abbrev IsNoName : Leaf → Text → Type 0
 IsNoName l name = (value : Option Text) (h : Held) → long_fault (rules l) false (arg_by_long (rules l) name) value h ≡ [] → ⊥
 
+-- an option's name, a flag's, or none
+data Known (l : Leaf) (name : Text) : Type 0 where
+  an_option : IsOption l name → Known l name
+  a_flag : IsFlag l name → Known l name
+  no_name : IsNoName l name → Known l name
+
 same_text : (name text : Text) → bytes_eq text name ≡ true → text ≡ name
 same_text name text e = (bytes_eq-Decides text name).0 e
 
@@ -96,33 +104,44 @@ help_long _ None h fault =
     let bad : kind.DisplayHelp ∷ [] ≡ [] = (none_of_both _ (kind.DisplayHelp ∷ []) fault).1 in
     cc
 
-helped : (l : Leaf) (name : Text) → (bytes_eq (codes "help") name ≡ false → arg_by_long (rules l) name ≡ None) → IsOption l name ⊎ IsNoName l name
+helped : (l : Leaf) (name : Text) → (bytes_eq (codes "help") name ≡ false → arg_by_long (rules l) name ≡ None) → Known l name
 helped l name unknown = by (bytes_eq (codes "help") name) refl
   where
-    by : (is : Bool) → bytes_eq (codes "help") name ≡ is → IsOption l name ⊎ IsNoName l name
-    by true e = inr (subst (IsNoName l) (same_text name (codes "help") e) (help_long l))
-    by false e = inr (no_long l name (unknown e))
+    by : (is : Bool) → bytes_eq (codes "help") name ≡ is → Known l name
+    by true e = no_name (subst (IsNoName l) (same_text name (codes "help") e) (help_long l))
+    by false e = no_name (no_long l name (unknown e))
 
-known : (l : Leaf) (name : Text) → IsOption l name ⊎ IsNoName l name
+known : (l : Leaf) (name : Text) → Known l name
+known Founding name = by (bytes_eq (codes "leaves") name) refl
+  where
+    by : (is : Bool) → bytes_eq (codes "leaves") name ≡ is → Known Founding name
+    by true e = a_flag (subst (IsFlag Founding) (same_text name (codes "leaves") e) leaves)
+    by false e = helped Founding name (λ f. rw (e, f) refl)
 known Finding name = by (bytes_eq (codes "first") name) refl
   where
-    second : (is : Bool) → bytes_eq (codes "first") name ≡ false → bytes_eq (codes "count") name ≡ is → IsOption Finding name ⊎ IsNoName Finding name
-    second true d e = inl (subst (IsOption Finding) (same_text name (codes "count") e) count)
+    second : (is : Bool) → bytes_eq (codes "first") name ≡ false → bytes_eq (codes "count") name ≡ is → Known Finding name
+    second true d e = an_option (subst (IsOption Finding) (same_text name (codes "count") e) count)
     second false d e = helped Finding name (λ f. rw (d, e, f) refl)
 
-    by : (is : Bool) → bytes_eq (codes "first") name ≡ is → IsOption Finding name ⊎ IsNoName Finding name
-    by true e = inl (subst (IsOption Finding) (same_text name (codes "first") e) first)
+    by : (is : Bool) → bytes_eq (codes "first") name ≡ is → Known Finding name
+    by true e = an_option (subst (IsOption Finding) (same_text name (codes "first") e) first)
     by false e = second (bytes_eq (codes "count") name) e refl
 known Scanning name = by (bytes_eq (codes "number") name) refl
   where
-    second : (is : Bool) → bytes_eq (codes "number") name ≡ false → bytes_eq (codes "position") name ≡ is → IsOption Scanning name ⊎ IsNoName Scanning name
-    second true d e = inl (subst (IsOption Scanning) (same_text name (codes "position") e) place)
+    second : (is : Bool) → bytes_eq (codes "number") name ≡ false → bytes_eq (codes "position") name ≡ is → Known Scanning name
+    second true d e = an_option (subst (IsOption Scanning) (same_text name (codes "position") e) place)
     second false d e = helped Scanning name (λ f. rw (d, e, f) refl)
 
-    by : (is : Bool) → bytes_eq (codes "number") name ≡ is → IsOption Scanning name ⊎ IsNoName Scanning name
-    by true e = inl (subst (IsOption Scanning) (same_text name (codes "number") e) number)
+    by : (is : Bool) → bytes_eq (codes "number") name ≡ is → Known Scanning name
+    by true e = an_option (subst (IsOption Scanning) (same_text name (codes "number") e) number)
     by false e = second (bytes_eq (codes "position") name) e refl
 known l name = helped l name (λ e. rw e refl)
+
+-- a flag takes no value
+no_value : (l : Leaf) (name value : Text) → IsFlag l name → (h : Held) → long_fault (rules l) false (arg_by_long (rules l) name) (Some value) h ≡ [] → ⊥
+no_value l name value leaves h fault =
+    let bad : kind.TooManyValues ∷ [] ≡ [] = fault in
+    cc
 
 -- letters are refused behind a command
 no_short : (l : Leaf) (x : ℕ) (rest : Text) (h : Held) (next : Held → Kinds) → short_fault (rules l) false (arg_by_short (rules l) x) rest h next ≡ [] → ⊥
@@ -289,21 +308,32 @@ equals_found n finds l name value is words le texts w full rows p passes =
     let d = finds l words le texts false full _ None (passes_on l step passes) in
     record { parts = Named name value ∷ d.parts; says = option_by_equals name value words d.parts d.says; fits = (is, d.fits) }
 
+flag_found : (n : ℕ) → Finds n → (l : Leaf) (name : Text) → IsFlag l name → (words : List Text) → length words ≤ n → AreTexts words
+    → (w full : Bool) (rows : List Row) (p : Pending) → Passes l (standing rows p (calm w) full false) ((codes "--" ++ name) ∷ words)
+    → Found l full ((codes "--" ++ name) ∷ words)
+flag_found n finds l name is words le texts w full rows p passes =
+    let step = flag_leads l name is w full rows p words in
+    let d = finds l words le texts false full _ None (passes_on l step passes) in
+    record { parts = Flag name ∷ d.parts; says = alone name words d.parts d.says; fits = (is, d.fits) }
+
 long_found : (n : ℕ) → Finds n → (l : Leaf) (flag : Text) → Cut flag → (words : List Text) → length words ≤ n → AreTexts words
     → (w full : Bool) (rows : List Row) (p : Pending)
     → long_fault (rules l) false (arg_by_long (rules l) (name_and_value flag).0) (name_and_value flag).1 (held rows p) ≡ []
     → Passes l (standing rows p (calm w) full false) ((codes "--" ++ flag) ∷ words) → Found l full ((codes "--" ++ flag) ∷ words)
 long_found n finds l flag (whole text lacks) words le texts w full rows p fault passes = by (known l text)
   where
-    by : IsOption l text ⊎ IsNoName l text → Found l full ((codes "--" ++ text) ∷ words)
-    by (inl is) = option_found n finds l text is words le texts w full rows p passes
-    by (inr refused) = absurd (refused None (held rows p)
+    by : Known l text → Found l full ((codes "--" ++ text) ∷ words)
+    by (an_option is) = option_found n finds l text is words le texts w full rows p passes
+    by (a_flag is) = flag_found n finds l text is words le texts w full rows p passes
+    by (no_name refused) = absurd (refused None (held rows p)
         (subst (λ (s : Text × Option Text). long_fault (rules l) false (arg_by_long (rules l) s.0) s.1 (held rows p) ≡ []) (name_and_value-without text lacks) fault))
 long_found n finds l flag (cut name value lacks) words le texts w full rows p fault passes = by (known l name)
   where
-    by : IsOption l name ⊎ IsNoName l name → Found l full ((codes "--" ++ (name ++ 61 ∷ value)) ∷ words)
-    by (inl is) = equals_found n finds l name value is words le texts w full rows p passes
-    by (inr refused) = absurd (refused (Some value) (held rows p)
+    by : Known l name → Found l full ((codes "--" ++ (name ++ 61 ∷ value)) ∷ words)
+    by (an_option is) = equals_found n finds l name value is words le texts w full rows p passes
+    by (a_flag is) = absurd (no_value l name value is (held rows p)
+        (subst (λ (s : Text × Option Text). long_fault (rules l) false (arg_by_long (rules l) s.0) s.1 (held rows p) ≡ []) (name_and_value-at name value lacks) fault))
+    by (no_name refused) = absurd (refused (Some value) (held rows p)
         (subst (λ (s : Text × Option Text). long_fault (rules l) false (arg_by_long (rules l) s.0) s.1 (held rows p) ≡ []) (name_and_value-at name value lacks) fault))
 
 next_found : (n : ℕ) → Finds n → (l : Leaf) (word : Text) (words : List Text) → length words ≤ n → IsUtf8 word → AreTexts words → (w full : Bool) (rows : List Row) (p : Pending)

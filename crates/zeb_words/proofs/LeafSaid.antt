@@ -1,9 +1,9 @@
 -- What the walk comes to where words behind a command say options and arguments.
-use Rattle.zeb_words.proofs.Cited.{◌≡◌, ◌∙◌, Bool, refl, sym, ap, ap₂, List, [], ◌∷◌, ◌++◌, Some, None, codes, true, false, map, Row, Walk, Text, settled_rows, used, settle_fault, use_fault, Kinds, or_else, Part, Argument, Says, nothing, argument, option_by_equals, Named, named, ended}
+use Rattle.zeb_words.proofs.Cited.{◌≡◌, ◌∙◌, Bool, refl, sym, ap, ap₂, List, [], ◌∷◌, ◌++◌, Some, None, codes, true, false, map, Row, Walk, Text, settled_rows, used, settle_fault, use_fault, Kinds, or_else, Part, Argument, Says, nothing, argument, option_by_equals, Named, named, ended, Flag, alone}
 use Rattle.clap.specs.Walk.{walked}
 use Rattle.zeb_words.proofs.Leads.{Leads, else_none, else_joined, goes, goes_on, stays}
 use Rattle.zeb_words.proofs.Plain.{no_flag}
-use Rattle.zeb_words.proofs.Leaf.{Fits, Leaf, Pending, among, behind, calm, clash, equals_leads, filled_by, option_pends, option_rows, option_leads, part_rule, part_value, pending_fault, plain_leaf, rows_with, rules, slot_pends, slot_rows, standing, uses, value_leads}
+use Rattle.zeb_words.proofs.Leaf.{Fits, Leaf, Pending, among, behind, calm, clash, equals_leads, filled_by, flag_leads, option_pends, option_rows, option_leads, part_rule, part_values, pending_fault, plain_leaf, rows_with, rules, slot_pends, slot_rows, standing, uses, value_leads}
 
 pub record Said (l : Leaf) (start : Walk) (words : List Text) (parts : List Part) : Type 0 where
   pub after : Walk
@@ -16,9 +16,9 @@ pub record Said (l : Leaf) (start : Walk) (words : List Text) (parts : List Part
 before : (l : Leaf) (start next : Walk) (words more : List Text) (parts : List Part) (f : Kinds) (part : Part)
     → Leads (plain_leaf l) [] start words next more f
     → settled_rows (rules l) next.held.pending next.held.rows
-    ≡ used (part_rule l part) (part_value part ∷ []) (settled_rows (rules l) start.held.pending start.held.rows)
+    ≡ used (part_rule l part) (part_values part) (settled_rows (rules l) start.held.pending start.held.rows)
     → or_else f (settle_fault (rules l) false next.held)
-    ≡ or_else (settle_fault (rules l) false start.held) (use_fault false (part_rule l part) (part_value part ∷ []) (settled_rows (rules l) start.held.pending start.held.rows))
+    ≡ or_else (settle_fault (rules l) false start.held) (use_fault false (part_rule l part) (part_values part) (settled_rows (rules l) start.held.pending start.held.rows))
     → Said l next more parts → Said l start words (part ∷ parts)
 before l start next words more parts f part leads are fault d = record {
   after = d.after;
@@ -89,5 +89,10 @@ said l words parts (named name value more others flat d) full fits w rows p =
 said l words parts (option_by_equals name value more others d) full fits w rows p =
     before l (standing rows p (calm w) full false) _ ((codes "--" ++ (name ++ 61 ∷ value)) ∷ more) more others _ (Named name value)
     (equals_leads l name fits.0 w full value rows p more)
+    refl (else_none _)
+    (said l more others d full fits.1 false _ None)
+said l words parts (alone name more others d) full fits w rows p =
+    before l (standing rows p (calm w) full false) _ ((codes "--" ++ name) ∷ more) more others _ (Flag name)
+    (flag_leads l name fits.0 w full rows p more)
     refl (else_none _)
     (said l more others d full fits.1 false _ None)

@@ -1,5 +1,5 @@
 -- What is read of a match.
-use Rattle.zeb_words.proofs.Cited.{◌≡◌, ℕ, ◌<◌, ◌^◌, List, [], inl, inr, Option, Some, None, Result, Ok, Err, sym, subst, ap, ◌∙◌, Bool, codes, unwrap_or, Bor, IsNumeral, ParsesUnsigned, digits_value, without_leading_plus, ReadsOne, fault_of, Row, one_of, matches_of, subcommand_of, HasKind, kind_of, Error, DisplayHelp, DisplayVersion, OutOfMemory, Usage, BadUsage, Refused, Help, Memory, AreBad, IsActRead, IsFlagRead, IsFlagText, IsNumberRead, IsRefusedAs, program_app, IsBadAct, IsOwn, IsUsageOf, option_map}
+use Rattle.zeb_words.proofs.Cited.{◌≡◌, ℕ, ◌<◌, ◌^◌, List, [], inl, inr, Option, Some, None, Result, Ok, Err, sym, subst, ap, ◌∙◌, Bool, true, false, codes, unwrap_or, Bor, IsNumeral, ParsesUnsigned, digits_value, without_leading_plus, ReadsOne, fault_of, Row, one_of, matches_of, subcommand_of, HasKind, kind_of, Error, DisplayHelp, DisplayVersion, OutOfMemory, Usage, BadUsage, Refused, Help, Memory, AreBad, IsActRead, IsFlagRead, IsFlagText, IsNumberRead, IsRefusedAs, program_app, IsBadAct, IsOwn, IsUsageOf, option_map}
 
 pub text_read : (r : Option (Bor (List ℕ))) (other : Bor (List ℕ)) (t : Option (List ℕ)) → option_map (λ s. s.now) r ≡ t
     → (unwrap_or r other).now ≡ unwrap_or t other.now
@@ -26,6 +26,11 @@ pair_read f g (Some x) y z e h =
     let first : f x ≡ y = cc in
     let second : g x ≡ z = cc in
     (λ i. Some (first i, second i))
+
+-- a flag that is told by what is given for it is read so
+pub flag_read : (given read : Option (List ℕ)) (flag : Bool) → given ≡ read → (given ≡ None → flag ≡ false) → (given ≡ Some (codes "true") → flag ≡ true)
+    → (given ≡ Some (codes "false") → flag ≡ false) → IsFlagRead read flag
+flag_read given read flag same unset set clear = record { absent = λ e. unset (same ∙ e); yes = λ e. set (same ∙ e); no = λ e. clear (same ∙ e) }
 
 pub own_refused : (words : List (List ℕ)) (usage : Usage) → fault_of program_app words ≡ []
     → IsOwn (AreBad (matches_of program_app words) (subcommand_of program_app words)) usage → IsRefusedAs words usage

@@ -1,5 +1,5 @@
 -- Words that name a command are taken by the parser, and read as it.
-use Rattle.zeb_words.proofs.Cited.{ℕ, Option, ◌≡◌, ◌∙◌, ◌⊎◌, inl, inr, Bool, refl, sym, ap, ap₂, subst, List, [], ◌∷◌, Some, None, codes, true, false, map, cond, arith, ◌≤◌, string_bytes, unwrap_or, slice_get, bytes_eq, bytes_eq-Decides, Row, Text, has_row, one_of, rows_after, with_default, App, built, entered, matches_of, subcommand_of, check_fault, default_fault, entered_fault, fault_of, or_else, name_bytes, Config, Database, Given, IsOneOr, Setting, Shows, databases, files, shown, NamesAct, NamesNone, NamesWords, AreBad, IsActRead, IsFlagRead, IsFlagText, IsNumberRead, IsPast, IsReadFrom, IsRefusedAs, path_texts, program_app, text_or, Words, Usage, BadUsage, Memory, IsAmong, Act, Init, Create, Drop, Update, Delete, Adelete, Stat, Dump, Check, Reindex, Upgrade, Find, Scan, Batch, Shell, is_some}
+use Rattle.zeb_words.proofs.Cited.{ℕ, Option, ◌≡◌, ◌∙◌, ◌⊎◌, inl, inr, Bool, refl, sym, ap, ap₂, subst, List, [], ◌∷◌, Some, None, codes, true, false, map, cond, arith, ◌≤◌, string_bytes, unwrap_or, slice_get, bytes_eq, bytes_eq-Decides, Row, Text, has_row, one_of, rows_after, with_default, App, built, entered, matches_of, subcommand_of, check_fault, default_fault, entered_fault, fault_of, or_else, name_bytes, Config, Database, Given, IsOneOr, Setting, Shows, databases, files, shown, NamesAct, NamesNone, NamesWords, AreBad, IsActRead, IsChoiceRead, LayoutChoice, Unsaid, IsFlagRead, IsFlagText, IsNumberRead, IsPast, IsReadFrom, IsRefusedAs, path_texts, program_app, text_or, Words, Usage, BadUsage, Memory, IsAmong, Act, Init, Create, Drop, Update, Delete, Adelete, Stat, Dump, Check, Reindex, Upgrade, Find, Scan, Batch, Shell, is_some}
 use Rattle.clap.specs.Faults.{defaults_fault}
 use Rattle.zeb_words.specs.Names as names
 use Rattle.zeb_words.proofs.ReadingLemmas.{pair_parts}
@@ -9,9 +9,9 @@ use Rattle.zeb_words.proofs.Uses.{no_clash, rows_are}
 use Rattle.zeb_words.proofs.Top.{rule_by, shape, used_rule}
 use Rattle.zeb_words.proofs.Top.{values as raw_values}
 use Rattle.zeb_words.proofs.TopRead.{Any, IsCommandOf, Walks, enters, good, is_adelete, is_batch, is_check, is_create, is_delete, is_drop, is_dump, is_find, is_init, is_reindex, is_scan, is_shell, is_stat, is_update, is_upgrade, item_of, only, rows_at_end, using, walks}
-use Rattle.zeb_words.proofs.Leaf.{Bare, Changing, Finding, Leaf, Naming, Scanning, rules}
+use Rattle.zeb_words.proofs.Leaf.{Bare, Changing, Finding, Founding, Leaf, Naming, Scanning, rules}
 use Rattle.zeb_words.proofs.LeafRead.{default_none, own_fault}
-use Rattle.zeb_words.proofs.LeafActs.{bare_taken, name_taken, paths_taken}
+use Rattle.zeb_words.proofs.LeafActs.{bare_taken, choice_only, choice_taken, name_taken, paths_taken}
 use Rattle.zeb_words.proofs.Asking.{asks_taken, find_options, scan_options}
 use Rattle.zeb_words.proofs.Defaults.{all_true, database_read, database_values, file_read, file_values, flag_read, shown_values, with_defaults}
 use Rattle.zeb_words.proofs.Naming.{each_any}
@@ -28,7 +28,9 @@ at : (name known : Text) (l : Leaf) → name ≡ known → IsCommandOf known l �
 at name known l e is = subst (λ n. IsCommandOf n l) (sym e) is
 
 act_taken : (name : Text) (words : List Text) (shows : Bool) (act : Act) → NamesAct name words shows act → TakenAct name words shows act
-act_taken name words shows Init h = record { l = Bare; is = at name _ Bare h.0 is_init; fault = bare_taken words h.2; read = (h.0, h.1) }
+act_taken name words shows (Init choice) h =
+    let t = choice_taken words choice h.2 in
+    record { l = Founding; is = at name _ Founding h.0 is_init; fault = t.0; read = (h.0, h.1, t.1) }
 act_taken name words shows (Create d) h =
     let t = name_taken words (name_bytes d) h.2 in
     record { l = Naming; is = at name _ Naming h.0 is_create; fault = t.0; read = (h.0, h.1, t.1) }
@@ -48,7 +50,9 @@ act_taken name words shows Stat h = record { l = Bare; is = at name _ Bare h.0 i
 act_taken name words shows Dump h = record { l = Bare; is = at name _ Bare h.0 is_dump; fault = bare_taken words h.2; read = (h.0, h.1) }
 act_taken name words shows Check h = record { l = Bare; is = at name _ Bare h.0 is_check; fault = bare_taken words h.2; read = (h.0, h.1) }
 act_taken name words shows Reindex h = record { l = Bare; is = at name _ Bare h.0 is_reindex; fault = bare_taken words h.2; read = (h.0, h.1) }
-act_taken name words shows Upgrade h = record { l = Bare; is = at name _ Bare h.0 is_upgrade; fault = bare_taken words h.2; read = (h.0, h.1) }
+act_taken name words shows (Upgrade choice) h =
+    let t = choice_taken words choice h.2 in
+    record { l = Founding; is = at name _ Founding h.0 is_upgrade; fault = t.0; read = (h.0, h.1, t.1) }
 act_taken name words shows (Find query m n) h =
     let t = asks_taken Finding names.first names.count find_options words (string_bytes query) m n h.2 in
     record { l = Finding; is = at name _ Finding h.0 is_find; fault = t.fault; read = (h.0, h.1, t.text, t.a_read, t.b_read) }
@@ -80,47 +84,66 @@ never_past name words shows (Scan query m n) h e past =
     absurd (omega arith)
 never_past name words shows _ h e past = absurd (unlike name _ (codes "scan") h.0 refl e)
 
--- the numbers that matches of this command say, where it has any
-pub record Numbered (name : Text) (rows : List Row) (m n : ℕ) : Type 0 where
+-- the numbers and the layout that matches of this command say, where it has any
+pub record Numbered (name : Text) (rows : List Row) (m n : ℕ) (choice : LayoutChoice) : Type 0 where
   pub find_first : name ≡ codes "find" → (x : ℕ) → IsNumberRead (one_of (codes "first") rows) 1 x → x ≡ m
   pub find_count : name ≡ codes "find" → (x : ℕ) → IsNumberRead (one_of (codes "count") rows) 20 x → x ≡ n
   pub scan_number : name ≡ codes "scan" → (x : ℕ) → IsNumberRead (one_of (codes "number") rows) 20 x → x ≡ m
   pub scan_position : name ≡ codes "scan" → (x : ℕ) → IsNumberRead (one_of (codes "position") rows) 1 x → x ≡ n
+  pub choices : (name ≡ codes "init") ⊎ (name ≡ codes "upgrade") → (x : LayoutChoice) → IsChoiceRead (one_of (codes "leaves") rows) x → x ≡ choice
 
-no_numbers : (name known : Text) (rows : List Row) → name ≡ known → bytes_eq known (codes "find") ≡ false → bytes_eq known (codes "scan") ≡ false → Numbered name rows 0 0
-no_numbers name known rows e find scan = record {
+-- a command that says no numbers, but maybe a layout
+no_numbers : (name known : Text) (rows : List Row) (choice : LayoutChoice) → name ≡ known → bytes_eq known (codes "find") ≡ false → bytes_eq known (codes "scan") ≡ false
+    → ((name ≡ codes "init") ⊎ (name ≡ codes "upgrade") → (x : LayoutChoice) → IsChoiceRead (one_of (codes "leaves") rows) x → x ≡ choice) → Numbered name rows 0 0 choice
+no_numbers name known rows choice e find scan choices = record {
   find_first = λ is x read. absurd (differ known (codes "find") find (sym e ∙ is));
   find_count = λ is x read. absurd (differ known (codes "find") find (sym e ∙ is));
   scan_number = λ is x read. absurd (differ known (codes "scan") scan (sym e ∙ is));
   scan_position = λ is x read. absurd (differ known (codes "scan") scan (sym e ∙ is));
+  choices = choices;
 }
 
+no_choice : (name known : Text) (rows : List Row) → name ≡ known → bytes_eq known (codes "init") ≡ false → bytes_eq known (codes "upgrade") ≡ false
+    → (name ≡ codes "init") ⊎ (name ≡ codes "upgrade") → (x : LayoutChoice) → IsChoiceRead (one_of (codes "leaves") rows) x → x ≡ Unsaid
+no_choice name known rows e init upgrade (inl is) x read = absurd (differ known (codes "init") init (sym e ∙ is))
+no_choice name known rows e init upgrade (inr is) x read = absurd (differ known (codes "upgrade") upgrade (sym e ∙ is))
+
+says_nothing : (name known : Text) (rows : List Row) → name ≡ known → bytes_eq known (codes "find") ≡ false → bytes_eq known (codes "scan") ≡ false
+    → bytes_eq known (codes "init") ≡ false → bytes_eq known (codes "upgrade") ≡ false → Numbered name rows 0 0 Unsaid
+says_nothing name known rows e find scan init upgrade = no_numbers name known rows Unsaid e find scan (no_choice name known rows e init upgrade)
+
 act_numbers : (name : Text) (words : List Text) (shows : Bool) (act : Act) (h : NamesAct name words shows act)
-    → (m : ℕ) × (n : ℕ) × Numbered name (rows_after (rules (act_taken name words shows act h).l) [] words) m n
+    → (m : ℕ) × (n : ℕ) × (choice : LayoutChoice) × Numbered name (rows_after (rules (act_taken name words shows act h).l) [] words) m n choice
 unfolding act_taken
+act_numbers name words shows (Init choice) h = (0, 0, choice, no_numbers name _ _ choice h.0 refl refl (λ _ x read. choice_only words choice x h.2 read))
+act_numbers name words shows (Upgrade choice) h = (0, 0, choice, no_numbers name _ _ choice h.0 refl refl (λ _ x read. choice_only words choice x h.2 read))
 act_numbers name words shows (Find query m n) h =
     let t = asks_taken Finding names.first names.count find_options words (string_bytes query) m n h.2 in (
       m,
       n,
+      Unsaid,
       record {
         find_first = λ is x read. t.a_only x read;
         find_count = λ is x read. t.b_only x read;
         scan_number = λ is x read. absurd (differ (codes "find") (codes "scan") refl (sym h.0 ∙ is));
         scan_position = λ is x read. absurd (differ (codes "find") (codes "scan") refl (sym h.0 ∙ is));
+        choices = no_choice name _ (rows_after (rules Finding) [] words) h.0 refl refl;
       },
     )
 act_numbers name words shows (Scan query m n) h =
     let t = asks_taken Scanning names.number names.position scan_options words (string_bytes query) m n h.2 in (
       m,
       n,
+      Unsaid,
       record {
         find_first = λ is x read. absurd (differ (codes "scan") (codes "find") refl (sym h.0 ∙ is));
         find_count = λ is x read. absurd (differ (codes "scan") (codes "find") refl (sym h.0 ∙ is));
         scan_number = λ is x read. t.a_only x read;
         scan_position = λ is x read. t.b_only x read;
+        choices = no_choice name _ (rows_after (rules Scanning) [] words) h.0 refl refl;
       },
     )
-act_numbers name words shows _ h = (0, 0, no_numbers name _ _ h.0 refl refl)
+act_numbers name words shows _ h = (0, 0, Unsaid, says_nothing name _ _ h.0 refl refl refl refl)
 
 -- ---- settings
 
@@ -208,7 +231,8 @@ pub record TakenWords (words : List Text) (named : Words) : Type 0 where
   pub flag : IsFlagText (one_of (codes "shows") (matches_of program_app words))
   pub m : ℕ
   pub n : ℕ
-  pub numbered : (name : Text) (given : List Row) → ◌≡◌ {A = Option (Text × List Row)} (subcommand_of program_app words) (Some (name, given)) → Numbered name given m n
+  pub choice : LayoutChoice
+  pub numbered : (name : Text) (given : List Row) → ◌≡◌ {A = Option (Text × List Row)} (subcommand_of program_app words) (Some (name, given)) → Numbered name given m n choice
 
 pub names_taken : (words : List Text) (named : Words) → NamesWords words named → TakenWords words named
 unfolding flag_of
@@ -250,9 +274,11 @@ names_taken words named n =
       flag = subst IsFlagText (sym flag_is) (flag_text (shown n.settings));
       m = numbers.0;
       n = numbers.1;
+      choice = numbers.2;
       numbered = λ name given is.
           let same = pair_parts n.command name (rows_after (rules t.l) [] n.behind) given (sym sub ∙ is) in
-          subst (λ g. Numbered name g numbers.0 numbers.1) same.1 (subst (λ c. Numbered c (rows_after (rules t.l) [] n.behind) numbers.0 numbers.1) same.0 numbers.2);
+          subst (λ g. Numbered name g numbers.0 numbers.1 numbers.2) same.1
+          (subst (λ c. Numbered c (rows_after (rules t.l) [] n.behind) numbers.0 numbers.1 numbers.2) same.0 numbers.3);
     }
 
 -- so words that are refused name none

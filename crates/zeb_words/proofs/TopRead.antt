@@ -3,7 +3,7 @@ use Rattle.zeb_words.proofs.Cited.{◌⊎◌, inl, inr, ◌≡◌, ◌∙◌, Bo
 use Rattle.clap.specs.declared.error.kind.ErrorKind.TheVariants as kind
 use Rattle.clap.specs.Walk.{walked}
 use Rattle.clap.proofs.OnLiterals.{clap_on_literals}
-use Rattle.zeb_words.proofs.Leaf.{Bare, Changing, Finding, Leaf, Naming, Scanning, rules}
+use Rattle.zeb_words.proofs.Leaf.{Bare, Changing, Finding, Founding, Leaf, Naming, Scanning, rules}
 use Rattle.zeb_words.proofs.LeafRead.{own_fault}
 use Rattle.zeb_words.proofs.TopFound.{IsCommand}
 use Rattle.zeb_words.proofs.Items.{Item}
@@ -61,7 +61,7 @@ named_in name (s ∷ all) none met = by (bytes_eq s.0 name) refl met (named_in n
 
 -- the commands, with what stands behind each
 pub data IsCommandOf : Text → Leaf → Type 0 where
-  is_init : IsCommandOf (codes "init") Bare
+  is_init : IsCommandOf (codes "init") Founding
   is_create : IsCommandOf (codes "create") Naming
   is_drop : IsCommandOf (codes "drop") Naming
   is_update : IsCommandOf (codes "update") Changing
@@ -71,7 +71,7 @@ pub data IsCommandOf : Text → Leaf → Type 0 where
   is_dump : IsCommandOf (codes "dump") Bare
   is_check : IsCommandOf (codes "check") Bare
   is_reindex : IsCommandOf (codes "reindex") Bare
-  is_upgrade : IsCommandOf (codes "upgrade") Bare
+  is_upgrade : IsCommandOf (codes "upgrade") Founding
   is_find : IsCommandOf (codes "find") Finding
   is_scan : IsCommandOf (codes "scan") Scanning
   is_batch : IsCommandOf (codes "batch") Bare

@@ -70,13 +70,14 @@ IsOneOr default (y ∷ z ∷ more) x = ⊥
 
 -- ---- options and arguments
 
--- an option with its value, or an argument
+-- an option with its value, a flag, or an argument
 pub data Part : Type 0 where
   Option : Text → Text → Part
+  Flag : Text → Part
   Argument : Text → Part
 
--- The words behind a command say these options and arguments. An option is `--name VALUE` or `--name=VALUE`; behind the word
--- `--` each word is an argument.
+-- The words behind a command say these options, flags and arguments. An option is `--name VALUE` or `--name=VALUE`, a flag `--name`;
+-- behind the word `--` each word is an argument.
 pub data Says : List Text → List Part → Type 0 where
   nothing : Says [] []
   ended : (arguments : List Text) → Says (codes "--" ∷ arguments) (map Argument arguments)
@@ -86,22 +87,27 @@ pub data Says : List Text → List Part → Type 0 where
       → Says ((codes "--" ++ name) ∷ value ∷ words) (Option name value ∷ parts)
   option_by_equals : (name value : Text) (words : List Text) (parts : List Part) → Says words parts
       → Says ((codes "--" ++ (name ++ 61 ∷ value)) ∷ words) (Option name value ∷ parts)
+  flag : (name : Text) (words : List Text) (parts : List Part) → Says words parts
+      → Says ((codes "--" ++ name) ∷ words) (Flag name ∷ parts)
 
 -- the values of the option of this name, and the arguments
 abbrev pub values_of : Text → List Part → List Text
 values_of name [] = []
 values_of name (Option n value ∷ parts) = if bytes_eq n name then value ∷ values_of name parts else values_of name parts
+values_of name (Flag n ∷ parts) = values_of name parts
 values_of name (Argument word ∷ parts) = values_of name parts
 
 abbrev pub arguments : List Part → List Text
 arguments [] = []
 arguments (Option n value ∷ parts) = arguments parts
+arguments (Flag n ∷ parts) = arguments parts
 arguments (Argument word ∷ parts) = word ∷ arguments parts
 
--- no options but those of these two names
+-- no flags, and no options but those of these two names
 abbrev pub HasOnly : Text → Text → List Part → Type 0
 HasOnly a b [] = ⊤
 HasOnly a b (Option n value ∷ parts) = ((n ≡ a) ⊎ (n ≡ b)) × HasOnly a b parts
+HasOnly a b (Flag n ∷ parts) = ⊥
 HasOnly a b (Argument word ∷ parts) = HasOnly a b parts
 
 -- the text says a whole number of this range in decimal digits, behind a sign where there is one

@@ -2,7 +2,9 @@
 use Rattle.std.specs.Prelude.{ℕ, ◌≡◌, ◌≢◌, ◌≤◌, Bool, false, List, [], ◌∷◌, ◌++◌, map, codes, string_bytes, ⊤}
 use Rattle.zeb_image.specs.NameOf.{name_bytes}
 use Rattle.zeb_words.specs.Parses.{path_texts}
-use Rattle.zeb_words.specs.Grammar.{Argument, HasOnly, IsNumberOr, IsOneOr, Part, Says, Setting, Spells, Text, arguments, databases, files, shown, values_of}
+use Rattle.zeb_words.specs.Grammar.{Argument, Flag, HasOnly, IsNumberOr, IsOneOr, Part, Says, Setting, Spells, Text, arguments, databases, files, shown, values_of}
+use Rattle.zeb_words.specs.declared.words.LayoutChoice.{LayoutChoice}
+use Rattle.zeb_words.specs.declared.words.LayoutChoice.TheVariants.{Leaves, Unsaid}
 use Rattle.zeb_words.specs.declared.words.Words.{Words}
 use Rattle.zeb_words.specs.declared.words.Usage.{Usage}
 use Rattle.zeb_words.specs.declared.words.Usage.TheVariants.{BadUsage, Refused, Help, Memory}
@@ -41,13 +43,18 @@ pub record Asks (words : List Text) (query : Text) (a : NumberOption) (m : ℕ) 
   pub a_number : Numbers a parts m
   pub b_number : Numbers b parts n
 
--- the words say arguments, and no options
+-- the words say arguments, and no options and no flags
 abbrev pub SaysAll : List Text → List Text → Type 0
 SaysAll words arguments = Says words (map Argument arguments)
 
+-- what asks for a layout
+abbrev pub choice_parts : LayoutChoice → List Part
+choice_parts Leaves = Flag (codes "leaves") ∷ []
+choice_parts Unsaid = []
+
 -- A command's word, the words behind it and whether `-s` stands before it name this act.
 abbrev pub NamesAct : Text → List Text → Bool → Act → Type 0
-NamesAct command words shows Init = (command ≡ codes "init") × (shows ≡ false) × SaysAll words []
+NamesAct command words shows (Init choice) = (command ≡ codes "init") × (shows ≡ false) × Says words (choice_parts choice)
 NamesAct command words shows (Create name) = (command ≡ codes "create") × (shows ≡ false) × SaysAll words (name_bytes name ∷ [])
 NamesAct command words shows (Drop name) = (command ≡ codes "drop") × (shows ≡ false) × SaysAll words (name_bytes name ∷ [])
 NamesAct command words shows (Update paths only) =
@@ -60,7 +67,7 @@ NamesAct command words shows Stat = (command ≡ codes "stat") × (shows ≡ fal
 NamesAct command words shows Dump = (command ≡ codes "dump") × (shows ≡ false) × SaysAll words []
 NamesAct command words shows Check = (command ≡ codes "check") × (shows ≡ false) × SaysAll words []
 NamesAct command words shows Reindex = (command ≡ codes "reindex") × (shows ≡ false) × SaysAll words []
-NamesAct command words shows Upgrade = (command ≡ codes "upgrade") × (shows ≡ false) × SaysAll words []
+NamesAct command words shows (Upgrade choice) = (command ≡ codes "upgrade") × (shows ≡ false) × Says words (choice_parts choice)
 NamesAct command words shows (Find query m n) = (command ≡ codes "find") × (shows ≡ false) × Asks words (string_bytes query) first m count n
 NamesAct command words shows (Scan query m n) =
     (command ≡ codes "scan") × (shows ≡ false) × Asks words (string_bytes query) number m position n × (n ≤ m)
@@ -90,7 +97,7 @@ NamesNone words Memory = ⊤
 
 -- an act by its texts and numbers alone
 pub data Meaning : Type 0 where
-  ToInit : Meaning
+  ToInit : LayoutChoice → Meaning
   ToCreate : Text → Meaning
   ToDrop : Text → Meaning
   ToUpdate : List Text → Bool → Meaning
@@ -100,14 +107,14 @@ pub data Meaning : Type 0 where
   ToDump : Meaning
   ToCheck : Meaning
   ToReindex : Meaning
-  ToUpgrade : Meaning
+  ToUpgrade : LayoutChoice → Meaning
   ToFind : Text → ℕ → ℕ → Meaning
   ToScan : Text → ℕ → ℕ → Meaning
   ToBatch : Meaning
   ToShell : Meaning
 
 abbrev pub meaning : Act → Meaning
-meaning Init = ToInit
+meaning (Init choice) = ToInit choice
 meaning (Create name) = ToCreate (name_bytes name)
 meaning (Drop name) = ToDrop (name_bytes name)
 meaning (Update paths only) = ToUpdate (path_texts paths.items) only
@@ -117,7 +124,7 @@ meaning Stat = ToStat
 meaning Dump = ToDump
 meaning Check = ToCheck
 meaning Reindex = ToReindex
-meaning Upgrade = ToUpgrade
+meaning (Upgrade choice) = ToUpgrade choice
 meaning (Find query m n) = ToFind (string_bytes query) m n
 meaning (Scan query m n) = ToScan (string_bytes query) m n
 meaning Batch = ToBatch

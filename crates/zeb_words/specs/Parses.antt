@@ -11,6 +11,8 @@ use Rattle.clap.specs.declared.error.kind.ErrorKind.{ErrorKind}
 use Rattle.clap.specs.declared.error.kind.ErrorKind.TheVariants.{DisplayHelp, DisplayVersion}
 use Rattle.clap.specs.declared.builder.action.ArgAction.TheVariants.{Append, SetTrue, Version}
 use Rattle.clap.specs.declared.builder.value_parser.ValueParser.TheVariants as parser
+use Rattle.zeb_words.specs.declared.words.LayoutChoice.{LayoutChoice}
+use Rattle.zeb_words.specs.declared.words.LayoutChoice.TheVariants.{Leaves, Unsaid}
 use Rattle.zeb_words.specs.declared.words.Words.{Words}
 use Rattle.zeb_words.specs.declared.words.Act.{Act}
 use Rattle.zeb_words.specs.declared.words.Usage.{Usage}
@@ -44,6 +46,9 @@ name_rule = record (new_rule (codes "name")) { value_names = 1; required = true 
 abbrev pub path_rule : Rule
 path_rule = record (new_rule (codes "path")) { value_names = 1; action = Some Append; required = true }
 
+abbrev pub leaves_rule : Rule
+leaves_rule = record (new_rule (codes "leaves")) { long = Some (codes "leaves"); action = Some SetTrue }
+
 abbrev pub top_app : App
 top_app =
     let plain = new_app (codes "zebraidx") in
@@ -57,6 +62,9 @@ top_app =
       };
     } in
     with_rule (with_rule (with_rule (with_rule set config_rule) database_rule) shows_rule) version_rule
+
+abbrev pub founding_app : Text → App
+founding_app name = with_rule (new_app name) leaves_rule
 
 abbrev pub naming_app : Text → App
 naming_app name = with_rule (new_app name) name_rule
@@ -78,13 +86,13 @@ and_sub app sub = with_subcommand app sub.top
 abbrev pub changes_app : App
 changes_app =
     and_sub (and_sub (and_sub (and_sub (and_sub (and_sub top_app
-    (new_app (codes "init"))) (naming_app (codes "create"))) (naming_app (codes "drop")))
+    (founding_app (codes "init"))) (naming_app (codes "create"))) (naming_app (codes "drop")))
     (changing_app (codes "update"))) (changing_app (codes "delete"))) (changing_app (codes "adelete"))
 
 abbrev pub upkeep_app : App
 upkeep_app =
     and_sub (and_sub (and_sub changes_app
-    (new_app (codes "check"))) (new_app (codes "reindex"))) (new_app (codes "upgrade"))
+    (new_app (codes "check"))) (new_app (codes "reindex"))) (founding_app (codes "upgrade"))
 
 abbrev pub program_app : App
 program_app =
@@ -107,6 +115,11 @@ pub record IsFlagRead (read : Option Text) (flag : Bool) : Type 0 where
   pub yes : read ≡ Some (codes "true") → flag ≡ true
   pub no : read ≡ Some (codes "false") → flag ≡ false
 
+-- the flag of a layout as it is read
+abbrev pub IsChoiceRead : Option Text → LayoutChoice → Type 0
+IsChoiceRead read Leaves = IsFlagRead read true
+IsChoiceRead read Unsaid = IsFlagRead read false
+
 -- the number that the text says, where it says one that fits, or another where there is no text
 pub record IsNumberRead (read : Option Text) (other n : ℕ) : Type 0 where
   pub absent : read ≡ None → n ≡ other
@@ -115,7 +128,7 @@ pub record IsNumberRead (read : Option Text) (other n : ℕ) : Type 0 where
 
 -- the act is what a command of this name with these matches comes to, where the flag `-s` stands or doesn't
 abbrev pub IsActRead : Text → Bool → List Row → Act → Type 0
-IsActRead name shows rows Init = (name ≡ codes "init") × (shows ≡ false)
+IsActRead name shows rows (Init choice) = (name ≡ codes "init") × (shows ≡ false) × IsChoiceRead (one_of (codes "leaves") rows) choice
 IsActRead name shows rows (Create database) =
     (name ≡ codes "create") × (shows ≡ false) × (name_bytes database ≡ text_or (codes "name") [] rows)
 IsActRead name shows rows (Drop database) =
@@ -130,7 +143,7 @@ IsActRead name shows rows Stat = (name ≡ codes "stat") × (shows ≡ false)
 IsActRead name shows rows Dump = (name ≡ codes "dump") × (shows ≡ false)
 IsActRead name shows rows Check = (name ≡ codes "check") × (shows ≡ false)
 IsActRead name shows rows Reindex = (name ≡ codes "reindex") × (shows ≡ false)
-IsActRead name shows rows Upgrade = (name ≡ codes "upgrade") × (shows ≡ false)
+IsActRead name shows rows (Upgrade choice) = (name ≡ codes "upgrade") × (shows ≡ false) × IsChoiceRead (one_of (codes "leaves") rows) choice
 IsActRead name shows rows (Find query first count) =
     (name ≡ codes "find") × (shows ≡ false) × (string_bytes query ≡ text_or (codes "query") [] rows)
     × IsNumberRead (one_of (codes "first") rows) 1 first × IsNumberRead (one_of (codes "count") rows) 20 count

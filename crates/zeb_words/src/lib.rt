@@ -7,4 +7,4 @@ mod reading;
 mod words;
 
 pub use laws::words_name_one_command;
-pub use words::{Act, Usage, Words, read_words};
+pub use words::{Act, LayoutChoice, Usage, Words, read_words};

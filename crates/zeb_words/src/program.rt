@@ -4,7 +4,7 @@ ghost use Rattle.std.specs.Prelude.{◌≡◌, IfOk, Some, false};
 ghost use Rattle.clap.specs.Simple.{app_of, new_app, new_rule};
 ghost use Rattle.clap.specs.Walk.{rule_of};
 ghost use Rattle.clap.specs.declared.builder.command.Command.TheViews.{out-Command};
-ghost use Rattle.zeb_words.specs.Parses.{changes_app, changing_app, find_app, naming_app, program_app, query_rule, scan_app, shows_rule, top_app, upkeep_app, version_rule};
+ghost use Rattle.zeb_words.specs.Parses.{changes_app, changing_app, find_app, founding_app, leaves_rule, naming_app, program_app, query_rule, scan_app, shows_rule, top_app, upkeep_app, version_rule};
 
 use clap::builder::ValueParser;
 use clap::{Arg, ArgAction, Command, value_parser};
@@ -46,11 +46,11 @@ fn with_upkeep<'a>(alloc: Global) -> Result<Command<'a>, AllocError>
             "reindex",
             "Make the registers anew under the profile",
         ))?
-        .subcommand(plain(
+        .subcommand(founding(
             alloc,
             "upgrade",
             "Bring an earlier register into today's format",
-        ))
+        )?)
 }
 
 /// The program with its options and the commands that change records.
@@ -58,7 +58,7 @@ fn with_changes<'a>(alloc: Global) -> Result<Command<'a>, AllocError>
     ensures { IfOk result (λ command. app_of command ≡ changes_app) }
 {
     with_options(alloc)?
-        .subcommand(plain(alloc, "init", "Empty the register"))?
+        .subcommand(founding(alloc, "init", "Empty the register")?)?
         .subcommand(naming(alloc, "create", "Make a database")?)?
         .subcommand(naming(alloc, "drop", "Take a database away")?)?
         .subcommand(changing(alloc, "update", "Add or replace records")?)?
@@ -129,6 +129,25 @@ fn plain<'a>(alloc: Global, name: &'a str, about: &'a str) -> Command<'a>
     ensures local { (out-Command result).has_globals ≡ false }
 {
     Command::new(alloc, name).about(about)
+}
+
+/// A command that may ask for a layout.
+fn founding<'a>(alloc: Global, name: &'a str, about: &'a str) -> Result<Command<'a>, AllocError>
+    ensures app { IfOk result (λ command. app_of command ≡ founding_app name.entry.now) }
+    ensures local { IfOk result (λ command. (out-Command command).has_globals ≡ false) }
+{
+    plain(alloc, name, about).arg(leaves(alloc))
+}
+
+/// The flag `--leaves`.
+fn leaves<'a>(alloc: Global) -> Arg<'a>
+    ensures rule { rule_of result ≡ leaves_rule }
+    ensures local { result.global ≡ false }
+{
+    Arg::new(alloc, "leaves")
+        .long("leaves")
+        .action(ArgAction::SetTrue)
+        .help("In leaves: many keys in one row")
 }
 
 /// A command that takes the name of a database.

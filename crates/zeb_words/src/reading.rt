@@ -6,10 +6,10 @@ ghost use Rattle.clap.specs.Simple.{subcommand_rows_of};
 ghost use Rattle.clap.specs.Matches.{found_of};
 ghost use Rattle.zeb_image.specs.NameOf.{name_bytes};
 ghost use Rattle.zeb_image.specs.Names.{IsDatabaseName};
-ghost use Rattle.zeb_words.specs.Parses.{AreBad, IsPast, IsActRead, IsNumberRead, IsReadFrom, path_texts, text_or};
+ghost use Rattle.zeb_words.specs.Parses.{AreBad, IsChoiceRead, IsPast, IsActRead, IsNumberRead, IsReadFrom, path_texts, text_or};
 ghost use Rattle.zeb_words.specs.PrivateParses.{IsBadAct, IsOwn};
 
-use crate::words::{Act, Usage, Words};
+use crate::words::{Act, LayoutChoice, Usage, Words};
 use clap::ArgMatches;
 use std::alloc::{AllocError, Global};
 use zeb_image::DbName;
@@ -50,7 +50,7 @@ fn act_of(alloc: Global, name: &str, shows: bool, given: &ArgMatches<'_>) -> Res
         return Err(Usage::BadUsage);
     }
     match name {
-        "init" => Ok(Act::Init),
+        "init" => Ok(Act::Init(choice_of(given))),
         "create" => Ok(Act::Create(named(given)?)),
         "drop" => Ok(Act::Drop(named(given)?)),
         "update" => Ok(Act::Update {
@@ -63,13 +63,23 @@ fn act_of(alloc: Global, name: &str, shows: bool, given: &ArgMatches<'_>) -> Res
         "dump" => Ok(Act::Dump),
         "check" => Ok(Act::Check),
         "reindex" => Ok(Act::Reindex),
-        "upgrade" => Ok(Act::Upgrade),
+        "upgrade" => Ok(Act::Upgrade(choice_of(given))),
         "find" => found(alloc, given),
         "scan" => scanned(alloc, given),
         "batch" => Ok(Act::Batch),
         "shell" => Ok(Act::Shell),
         _ => Err(Usage::BadUsage),
     }
+}
+
+/// The layout that `init` and `upgrade` ask for.
+fn choice_of(given: &ArgMatches<'_>) -> LayoutChoice
+    ensures { IsChoiceRead (one_of (codes "leaves") (rows_of (found_of given.now))) result }
+{
+    if given.get_flag("leaves") {
+        return LayoutChoice::Leaves;
+    }
+    LayoutChoice::Unsaid
 }
 
 /// The text that is given for an option or an argument, or another where none is.

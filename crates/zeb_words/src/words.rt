@@ -23,11 +23,20 @@ pub struct Words {
     pub act: Act,
 }
 
+/// Which layout is asked for, in which a register is to be.
+#[derive(Clone, Copy, Debug, PartialEq, Eq)]
+pub enum LayoutChoice {
+    /// Leaves: `--leaves` stands with the command.
+    Leaves,
+    /// None.
+    Unsaid,
+}
+
 /// What a command line's command is, with its arguments as read.
 #[derive(Debug, Drop)]
 pub enum Act {
     /// Empties the register.
-    Init,
+    Init(LayoutChoice),
     /// Makes an empty database of this name.
     Create(DbName),
     /// Takes away the database of this name.
@@ -51,7 +60,7 @@ pub enum Act {
     /// Makes the registers anew from the kept records, under the profile.
     Reindex,
     /// Turns a register of an earlier format into one of today's.
-    Upgrade,
+    Upgrade(LayoutChoice),
     /// The records that a query finds, from the `first`-th on (1 to 999,999,999), at most `count` (0 to
     /// 1,000,000) of them.
     Find {

@@ -30,7 +30,7 @@ do key_change 2:w <or> 1 - 3.1
 do key_change 2:w <the> 1 - 3.2
 do key_change 2:w <whale> 1 - 3.3";
 
-/// Their postings as rows; in packed tables one row of `dict` and one block for each key.
+/// Their postings as rows; in packed tables one row of `dict` and one block for each key; in leaves one leaf for each register.
 pub static POSTED: &str = "\
 plain postings -> \
 Default|0|0|cafe|2|2|1;Default|0|0|dick|1|2|2;\
@@ -44,12 +44,20 @@ Default|2|0|the|1|3|2;\
 Default|2|0|whale|1|3|3;
 packed postings ->
 packed SELECT count(*) FROM dict WHERE records = 1 -> 16;
-packed SELECT count(*) FROM blocks WHERE block = 0 -> 16;";
+packed SELECT count(*) FROM blocks WHERE block = 0 -> 16;
+leaves postings ->
+leaves SELECT count(*) FROM dict -> 0;
+leaves SELECT name, idx, reg, term, block, data FROM blocks JOIN databases ON id = db ORDER BY name, idx, reg -> \
+Default|0|0||0|00046361666500010302020100046469636b00010301020200046d6f627900010301020100026f72000103010301000374686500010301030200057768616c65000103010303;\
+Default|0|1||0|00046361666500010302020100096d6f6279206469636b000103010201;\
+Default|1|2||0|0012303030303030303030303030303031383531000103010401;\
+Default|2|0||0|00056331383531000103010401010361666500010302020100046469636b00010301020200046d6f627900010301020100026f72000103010301000374686500010301030200057768616c65000103010303;";
 
 /// What is read where the two records are.
 pub static ANSWERS: &str = "\
 plain meta_of version -> 1
 packed meta_of version -> 2
+leaves meta_of version -> 3
 meta_of profile -> identifier 001;att 4 Title;att 31 Date;att 1016 Any;\
 melm 245$a Title:w,Title:p;melm 245 Title:w;melm 260$c Date:n;all Any:w;
 meta_of identifier -> 001
@@ -105,6 +113,7 @@ Default|1|a1|109;Default|2|b2|64;
 with made posted
 plain counts -> 3|1|2|16|0|0;
 packed counts -> 3|1|2|0|16|16;
+leaves counts -> 3|1|2|0|4|0;
 with answers
 
 # A name keeps its database.

@@ -1,19 +1,18 @@
 use Rattle.std.proofs.Common.{◌≡◌, ◌⊎◌, ◌∙◌, ◌++◌, ◌∷◌, [], Err, Ok, Some, ap, map, refl, rules, string_bytes, subst, sym}
-use Rattle.std.specs.Prelude.{IfErr}
-use Rattle.zeb_paths.specs.Walks.{GivesUnder, WalksOn, dues_left, paths_left, telling}
-use Rattle.zeb_paths.proofs.WalkLemmas.{walks_ended, walks_told, walks_under, walks_untold}
+use Rattle.std.specs.Prelude.{⊤, IfErr}
+use Rattle.zeb_paths.specs.Walks.{WalksOn, dues_left, paths_left, telling}
+use Rattle.zeb_paths.proofs.WalkLemmas.{walks_ended, walks_told, walks_untold}
 use Rattle.zeb_program.specs.Inputs.{AreShort}
 use Rattle.zeb_program.specs.PrivateFaults.{IsUnread, IsUnreadAt, fault_of}
 use Rattle.zeb_program.specs.declared.faults.Fault.TheVariants.{Memory}
 use Rattle.zeb_program.proofs.AnalysisLemmas.{all_read, begins, goes_on}
-use Rattle.zeb_program.proofs.ReaderLemmas.{Ends, GivesNext, content_fault, content_unread, met_fault, met_refused, under_faults, under_files, under_start, unread_faults, walk_more, walk_start}
+use Rattle.zeb_program.proofs.ReaderLemmas.{Ends, GivesNext, content_fault, content_unread, met_fault, met_file, met_refused, stopped_faults, unread_faults, walk_more, walk_start}
 use Rattle.zeb_program.proofs.analyses.analyse_files.Goals as goal
 
 pub loop-file-init : goal.loop-file-init
 loop-file-init g c =
     record {
       paths = ap (λ p. p.now) c.in_ok-walk.ensures.paths;
-      under = under_start (map string_bytes c.args.named.now) _ c.in_ok-walk.ensures.left;
       read = begins (g.P.Paths.tells c.args.paths.now) c.args.session.now.profile c.args.session.now.limits.records (map string_bytes c.args.named.now)
           c.begin_analysis-lines.result c.new-unmarked.result.items _ c.begin_analysis-lines.ensures c.new-unmarked.ensures.items c.in_ok-walk.ensures.left;
       so_far = ([], walk_start (telling (g.P.Paths.tells c.args.paths.now) (g.P.Paths.stands c.args.paths.now) (g.P.Paths.lists c.args.paths.now)) c.args.named.now _ c.in_ok-walk.ensures.levels);
@@ -32,7 +31,6 @@ loop-file-preserved g c =
     let next : GivesNext tells left later (Ok c.in_ok-path.field-0) = walks_told at steps after (Ok c.in_ok-path.field-0) on in
     record {
       paths = ap (λ p. p.now) c.in_ok-path.ensures.paths ∙ c.loop-file.invariant.paths;
-      under = (walks_under at steps after (Ok c.in_ok-path.field-0) on (map string_bytes c.args.named.now) c.loop-file.invariant.under).1;
       read =
           goes_on tells c.args.session.now.profile c.args.session.now.limits.records (map string_bytes c.args.named.now) c.loop-file.file c.loop-file.lines c.loop-file.unmarked.items left later
           c.loop-file.invariant.read c.in-Some.path c.in_ok-bytes.bytes c.deref-in-loop-file.result.now c.deref.result.now c.with_file-lines.result c.note_unmarked.new.unmarked.items
@@ -59,8 +57,8 @@ returns-in_err-path-clause-reason g c files told =
     absurd (met_fault (λ content. Some content.items) (g.P.Paths.tells c.args.paths.now) files c.loop-file.invariant.read.contents left later why
     (c.loop-file.invariant.read.met files told) (walks_told at steps after (Err c.in_err-path.field-0.0) on) (walks_ended at steps after (Err c.in_err-path.field-0.0) on))
 
-pub returns-in_err-path-clause-under : goal.returns-in_err-path-clause-under
-returns-in_err-path-clause-under g c =
+pub returns-in_err-path-clause-met : goal.returns-in_err-path-clause-met
+returns-in_err-path-clause-met g c =
     let at = telling (g.P.Paths.tells c.args.paths.now) (g.P.Paths.stands c.args.paths.now) (g.P.Paths.lists c.args.paths.now) in
     let steps = c.loop-file.walk.steps.items in
     let after = c.next_file.new.self.steps.items in
@@ -68,7 +66,8 @@ returns-in_err-path-clause-under g c =
     subst (λ p. WalksOn (telling (g.P.Paths.tells p) (g.P.Paths.stands p) (g.P.Paths.lists p)) (dues_left steps) (Err c.in_err-path.field-0.0) (dues_left after)) c.loop-file.invariant.paths c.in_err-path.ensures.walks in
     let why = c.in_err-path.field-0.0 in
     let from : IfErr c.from_residual-in_err-path.result (λ given. IsUnread given × (given ≡ fault_of why)) = search rules in
-    under_faults (map string_bytes c.args.named.now) why c.from_residual-in_err-path.result from (walks_under at steps after (Err c.in_err-path.field-0.0) on (map string_bytes c.args.named.now) c.loop-file.invariant.under).0
+    let far = c.loop-file.invariant.so_far in
+    stopped_faults at ⊤ (map string_bytes c.args.named.now) far.0 (dues_left steps) (dues_left after) why c.from_residual-in_err-path.result from far.1 on
 
 pub returns-in_err-path-clause-unread : goal.returns-in_err-path-clause-unread
 returns-in_err-path-clause-unread g c =
@@ -81,8 +80,8 @@ returns-in_err-path-clause-unread g c =
     let from : IfErr c.from_residual-in_err-path.result (λ given. IsUnread given × (given ≡ fault_of why)) = search rules in
     unread_faults (g.P.Paths.tells c.args.paths.now) why c.from_residual-in_err-path.result from (walks_untold at (dues_left steps) (Err c.in_err-path.field-0.0) (dues_left after) on)
 
-pub returns-in_err-bytes-clause-under : goal.returns-in_err-bytes-clause-under
-returns-in_err-bytes-clause-under g c =
+pub returns-in_err-bytes-clause-met : goal.returns-in_err-bytes-clause-met
+returns-in_err-bytes-clause-met g c =
     let at = telling (g.P.Paths.tells c.args.paths.now) (g.P.Paths.stands c.args.paths.now) (g.P.Paths.lists c.args.paths.now) in
     let steps = c.loop-file.walk.steps.items in
     let after = c.next_file.new.self.steps.items in
@@ -90,8 +89,9 @@ returns-in_err-bytes-clause-under g c =
     subst (λ p. WalksOn (telling (g.P.Paths.tells p) (g.P.Paths.stands p) (g.P.Paths.lists p)) (dues_left steps) (Ok c.in_ok-path.field-0) (dues_left after)) c.loop-file.invariant.paths c.in_ok-path.ensures.walks in
     let why = c.in_err-bytes.field-0.0 in
     let is : c.from_residual-in_err-bytes.result ≡ Err why = search rules in
-    under_files (map string_bytes c.args.named.now) c.in-Some.path c.from_residual-in_err-bytes.result why is (content_fault c.in-Some.path _ why c.in_err-bytes.ensures).0
-    (subst (λ found. GivesUnder (map string_bytes c.args.named.now) (Ok found)) c.in-Some.is (walks_under at steps after (Ok c.in_ok-path.field-0) on (map string_bytes c.args.named.now) c.loop-file.invariant.under).0)
+    let far = c.loop-file.invariant.so_far in
+    met_file at ⊤ (map string_bytes c.args.named.now) far.0 (dues_left steps) (dues_left after) c.in-Some.path c.from_residual-in_err-bytes.result why tt is (content_fault c.in-Some.path _ why c.in_err-bytes.ensures).0
+    far.1 (subst (λ found. WalksOn at (dues_left steps) (Ok found) (dues_left after)) c.in-Some.is on)
 
 pub returns-in_err-bytes-clause-unread : goal.returns-in_err-bytes-clause-unread
 returns-in_err-bytes-clause-unread g c =

@@ -1,5 +1,5 @@
 use Rattle.std.proofs.Common.{◌≡◌, ℕ, List, map, string_bytes}
-use Rattle.zeb_paths.specs.Walks.{AreUnder, dues_left, paths_left, telling}
+use Rattle.zeb_paths.specs.Walks.{dues_left, paths_left, telling}
 use Rattle.zeb_program.specs.WalkedFiles.{WalksFrom}
 use Rattle.zeb_program.proofs.AnalysisLemmas.{IsRead}
 use Rattle.zeb_program.proofs.analyses.analyse_files.Given as goal
@@ -9,7 +9,6 @@ abbrev pub invariant-loop-file : goal.invariant-loop-file
 invariant-loop-file g l =
     record {
       paths : l.walk.paths.now ≡ l.paths;
-      under : AreUnder (map string_bytes l.named) (paths_left l.walk.steps.items);
       read : IsRead (g.P.Paths.tells l.paths) l.session.profile l.session.limits.records (map string_bytes l.named) l.file l.lines l.unmarked.items (paths_left l.walk.steps.items);
       so_far : (files : List (List ℕ)) × WalksFrom (telling (g.P.Paths.tells l.paths) (g.P.Paths.stands l.paths) (g.P.Paths.lists l.paths)) (map string_bytes l.named) files (dues_left l.walk.steps.items);
     }

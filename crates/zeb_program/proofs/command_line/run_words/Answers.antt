@@ -14,8 +14,8 @@ returns-in-Task-clause-bounded g c = λ other. ([], omega (arith), Consumes-nil 
 
 pub returns-in-Task-clause-answer : goal.returns-in-Task-clause-answer
 returns-in-Task-clause-answer g c =
-    task_words (places g.P.Store.Store g.P.Paths.tells g.P.Paths.stands g.P.Paths.lists g.P.Paths.explains g.P.Paths.opens g.P.Paths.refuses g.P.Paths.lacks g.P.Paths.has g.P.Paths.lets_go g.P.Paths.leaves c.args.paths.now c.run_task.new.paths) (map string_bytes c.args.words.now) _ _ _ _ _ _ _ c.in-Ok.words c.in-Task.task _ _ c.run_task.result
-    c.in-Ok.ensures.named c.in-Task.ensures c.run_task.ensures.apart
+    task_words (places g.P.Store.Store g.P.Paths.tells g.P.Paths.stands g.P.Paths.lists g.P.Paths.explains g.P.Paths.opens g.P.Paths.refuses g.P.Paths.lacks g.P.Paths.has g.P.Paths.lets_go g.P.Paths.leaves c.args.paths.now c.run_task.new.paths) (map string_bytes c.args.words.now) _ _ _ _ _ _ _ c.in-Ok.words c.layout_asked-choice.result c.in-Task.task _ _ c.run_task.result
+    c.in-Ok.ensures.named c.in-Task.ensures c.layout_asked-choice.ensures c.run_task.ensures.apart
 
 pub returns-in-Task-clause-stopped : goal.returns-in-Task-clause-stopped
 returns-in-Task-clause-stopped g c =

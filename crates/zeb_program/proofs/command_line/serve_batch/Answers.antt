@@ -1,6 +1,7 @@
 use Rattle.std.proofs.Common.{◌≡◌, false, true, rules}
 use Rattle.zeb_change.specs.Conditions.{conditions}
-use Rattle.zeb_register.specs.Formats.{packed_blocks, version_of}
+use Rattle.zeb_register.specs.Formats.{version_of}
+use Rattle.zeb_program.specs.PrivateWordRuns.{format_of}
 use Rattle.zeb_program.specs.Registers.{places}
 use Rattle.zeb_program.proofs.StopLemmas.{stop_kept, stop_none, stop_unopened}
 use Rattle.zeb_program.proofs.WordRunLemmas.{begun_or, run_kept, run_none, run_unopened}
@@ -17,9 +18,10 @@ pub returns-in-Ok-clause-answer : goal.returns-in-Ok-clause-answer
 returns-in-Ok-clause-answer g c = λ first.
     let uses : c.uses_store.result ≡ true = search rules in
     let may = begun_or _ _ c.begins.result (c.uses_store.ensures.used uses) c.begins.ensures.some in
-    let session = c.in-Ok.session in
-    run_kept (places g.P.Store.Store g.P.Paths.tells g.P.Paths.stands g.P.Paths.lists g.P.Paths.explains g.P.Paths.opens g.P.Paths.refuses g.P.Paths.lacks g.P.Paths.has g.P.Paths.lets_go g.P.Paths.leaves c.args.paths.now c.open_register.new.paths) c.args.profile c.args.batch.text.now (g.P.Paths.tells c.open_register.new.paths) (conditions (version_of packed_blocks) session.profile session.limits) session.connection c.args.batch.lines_before
-    _ _ _ _ _ _ c.run_in.result first c.open_register.ensures.told may c.in-Ok.ensures.under c.in-Ok.ensures.opened c.run_in.ensures.answer
+    let register = c.in-Ok.register in
+    let format = format_of register.1 in
+    run_kept (places g.P.Store.Store g.P.Paths.tells g.P.Paths.stands g.P.Paths.lists g.P.Paths.explains g.P.Paths.opens g.P.Paths.refuses g.P.Paths.lacks g.P.Paths.has g.P.Paths.lets_go g.P.Paths.leaves c.args.paths.now c.open_register.new.paths) format c.args.profile c.args.batch.text.now (g.P.Paths.tells c.open_register.new.paths) (conditions (version_of format) register.0.profile register.0.limits) register.0.connection c.args.batch.lines_before
+    _ _ _ _ _ _ c.run_on.result first c.open_register.ensures.told may c.in-Ok.ensures.under c.in-Ok.ensures.opened c.run_on.ensures.answer
 
 pub returns-in-Err-clause-answer : goal.returns-in-Err-clause-answer
 returns-in-Err-clause-answer g c = λ first.
@@ -38,9 +40,10 @@ pub returns-in-Ok-clause-stopped : goal.returns-in-Ok-clause-stopped
 returns-in-Ok-clause-stopped g c = λ first.
     let uses : c.uses_store.result ≡ true = search rules in
     let may = begun_or _ _ c.begins.result (c.uses_store.ensures.used uses) c.begins.ensures.some in
-    let session = c.in-Ok.session in
-    stop_kept (places g.P.Store.Store g.P.Paths.tells g.P.Paths.stands g.P.Paths.lists g.P.Paths.explains g.P.Paths.opens g.P.Paths.refuses g.P.Paths.lacks g.P.Paths.has g.P.Paths.lets_go g.P.Paths.leaves c.args.paths.now c.open_register.new.paths) c.args.profile c.args.batch.text.now (g.P.Paths.tells c.open_register.new.paths) (conditions (version_of packed_blocks) session.profile session.limits) session.connection c.args.batch.lines_before
-    _ _ _ _ _ _ c.run_in.result first c.open_register.ensures.told may c.in-Ok.ensures.under c.in-Ok.ensures.opened c.run_in.ensures.stopped
+    let register = c.in-Ok.register in
+    let format = format_of register.1 in
+    stop_kept (places g.P.Store.Store g.P.Paths.tells g.P.Paths.stands g.P.Paths.lists g.P.Paths.explains g.P.Paths.opens g.P.Paths.refuses g.P.Paths.lacks g.P.Paths.has g.P.Paths.lets_go g.P.Paths.leaves c.args.paths.now c.open_register.new.paths) format c.args.profile c.args.batch.text.now (g.P.Paths.tells c.open_register.new.paths) (conditions (version_of format) register.0.profile register.0.limits) register.0.connection c.args.batch.lines_before
+    _ _ _ _ _ _ c.run_on.result first c.open_register.ensures.told may c.in-Ok.ensures.under c.in-Ok.ensures.opened c.run_on.ensures.stopped
 
 pub returns-in-Err-clause-stopped : goal.returns-in-Err-clause-stopped
 returns-in-Err-clause-stopped g c = λ first.

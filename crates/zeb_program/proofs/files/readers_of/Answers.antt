@@ -2,16 +2,15 @@ use Rattle.std.proofs.Common.{Err, Ok, ap, map, rules, string_bytes, subst, ◌�
 use Rattle.std.specs.Prelude.{IfErr}
 use Rattle.zeb_program.specs.PrivateFaults.{IsUnread, fault_of}
 use Rattle.zeb_paths.specs.Walks.{WalksOn, dues_left, paths_left, telling}
-use Rattle.zeb_paths.proofs.WalkLemmas.{walks_ended, walks_told, walks_under, walks_untold}
+use Rattle.zeb_paths.proofs.WalkLemmas.{walks_ended, walks_told, walks_untold}
 use Rattle.zeb_program.specs.PrivateFiles.{sure_bytes}
-use Rattle.zeb_program.proofs.ReaderLemmas.{Ends, GivesNext, met_end, met_fault, met_next, met_start, reads_all, reads_more, reads_start, sure_of, under_start, unfound_faults}
+use Rattle.zeb_program.proofs.ReaderLemmas.{Ends, GivesNext, met_end, met_fault, met_next, met_start, reads_all, reads_more, reads_start, sure_of, unfound_faults}
 use Rattle.zeb_program.proofs.files.readers_of.Goals as goal
 
 pub loop-walk-init : goal.loop-walk-init
 loop-walk-init g c =
     record {
       paths = ap (λ p. p.now) c.in_ok-walk.ensures.paths;
-      under = under_start (map string_bytes c.args.named.now) _ c.in_ok-walk.ensures.left;
       met = λ files told. met_start (sure_bytes g.P.Reader.Source.remaining g.P.Reader.Source.may_fail g.P.Reader.Source.has_failed) (g.P.Paths.tells c.args.paths.now) files c.new-readers.result.items _ (map string_bytes c.args.named.now) c.new-readers.ensures.items c.in_ok-walk.ensures.left told;
       so_far = reads_start g.P.Reader.Source.remaining (telling (g.P.Paths.tells c.args.paths.now) (g.P.Paths.stands c.args.paths.now) (g.P.Paths.lists c.args.paths.now)) c.args.named.now c.new-readers.result.items _ c.new-readers.ensures.items c.in_ok-walk.ensures.levels;
     }
@@ -60,7 +59,6 @@ loop-walk-preserved g c =
     let read : g.P.Reader.Source.remaining c.reader.result ≡ tells (string_bytes c.in-Some.path) = c.reader.ensures.bytes in
     record {
       paths = ap (λ p. p.now) c.in_ok-path.ensures.paths ∙ c.loop-walk.invariant.paths;
-      under = (walks_under at steps after (Ok c.in_ok-path.field-0) on (map string_bytes c.args.named.now) c.loop-walk.invariant.under).1;
       met = λ files told.
           met_next (sure_bytes g.P.Reader.Source.remaining g.P.Reader.Source.may_fail g.P.Reader.Source.has_failed) tells files c.loop-walk.readers.items c.push.new.self.items (paths_left steps) (paths_left after) c.in-Some.path c.reader.result
           (c.loop-walk.invariant.met files told) (subst (λ found. GivesNext tells (paths_left steps) (paths_left after) (Ok found)) c.in-Some.is next)
@@ -81,5 +79,5 @@ returns-in_err-path-clause-unfound g c =
     let named = map string_bytes c.args.named.now in
     let why = c.in_err-path.field-0.0 in
     let from : IfErr c.from_residual-in_err-path.result (λ given. IsUnread given × (given ≡ fault_of why)) = search rules in
-    unfound_faults (g.P.Paths.tells c.args.paths.now) named why c.from_residual-in_err-path.result from
-    (walks_untold at (dues_left steps) (Err c.in_err-path.field-0.0) (dues_left after) on) (walks_under at steps after (Err c.in_err-path.field-0.0) on named c.loop-walk.invariant.under).0
+    let far = c.loop-walk.invariant.so_far in
+    unfound_faults at named far.0 (dues_left steps) (dues_left after) why c.from_residual-in_err-path.result from (walks_untold at (dues_left steps) (Err why) (dues_left after) on) far.1 on

@@ -1,5 +1,5 @@
 use Rattle.std.proofs.Common.{◌≡◌, List, ℕ, map, string_bytes}
-use Rattle.zeb_paths.specs.Walks.{AreUnder, dues_left, paths_left, telling, walk_weight}
+use Rattle.zeb_paths.specs.Walks.{dues_left, paths_left, telling, walk_weight}
 use Rattle.zeb_program.specs.PrivateFiles.{sure_bytes}
 use Rattle.zeb_program.specs.TaskAnswers.{AreTold}
 use Rattle.zeb_program.proofs.ReaderLemmas.{IsMet, ReadsSoFar}
@@ -10,7 +10,6 @@ abbrev pub invariant-loop-walk : goal.invariant-loop-walk
 invariant-loop-walk g l =
     record {
       paths : l.walk.paths.now ≡ l.paths;
-      under : AreUnder (map string_bytes l.named) (paths_left l.walk.steps.items);
       met : (files : List (List ℕ)) → AreTold (g.P.Paths.tells l.paths) (map string_bytes l.named) files
           → IsMet (sure_bytes g.P.Reader.Source.remaining g.P.Reader.Source.may_fail g.P.Reader.Source.has_failed) (g.P.Paths.tells l.paths) files l.readers.items (paths_left l.walk.steps.items);
       so_far : ReadsSoFar g.P.Reader.Source.remaining (telling (g.P.Paths.tells l.paths) (g.P.Paths.stands l.paths) (g.P.Paths.lists l.paths)) (map string_bytes l.named) l.readers.items (dues_left l.walk.steps.items);

@@ -1,6 +1,7 @@
-use Rattle.zeb_program.proofs.Cited.{inr, refl, None, Ok, file_state, over_files, HasCleanDisk, IsEmpty, Store, nothing_yet}
+use Rattle.zeb_program.proofs.Cited.{inr, refl, None, Ok, file_state, over_files, HasCleanDisk, IsEmpty, nothing_yet}
 use Rattle.zeb_image.specs.Image.{Keeps}
 use Rattle.zeb_program.proofs.MemoryLemmas.{always_clean}
+use Rattle.zeb_program.specs.FaultAnswers.{unopened_refusal}
 use Rattle.zeb_program.specs.Registers.{IsTakenOver}
 use Rattle.zeb_program.proofs.ResultValues.{made_of}
 use Rattle.zeb_program.proofs.WordRunLemmas.{fails_anyway}
@@ -11,7 +12,7 @@ pub returns-in-Ok-clause-empty : goal.returns-in-Ok-clause-empty
 returns-in-Ok-clause-empty c =
     made_of c.open_in_memory.result (Ok c.in-Ok.session) (λ connection. IsEmpty (file_state connection))
     (λ connection session. HasCleanDisk (file_state session.connection) → IsTakenOver over_files connection session.connection)
-    (λ session. Keeps (file_state session.connection) nothing_yet) (None, Store)
+    (λ session. Keeps (file_state session.connection) nothing_yet) (λ failed. (None, unopened_refusal failed.cause))
     c.open_in_memory.ensures.empty c.in-Ok.ensures.keeps c.in-Ok.ensures.unopened
     (λ connection session empty taken. (taken (always_clean (λ _. refl) session.connection)).keeps nothing_yet (inr (empty.2, refl)))
 

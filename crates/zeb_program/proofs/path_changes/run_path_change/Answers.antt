@@ -2,9 +2,11 @@ use Rattle.std.proofs.Common.{◌∙◌, [], ◌∷◌, ap, map, string_bytes}
 use Rattle.sqlite.specs.Held.{state}
 use Rattle.sqlite.specs.State.{HasCleanDisk}
 use Rattle.zeb_change.specs.Conditions.{conditions}
+use Rattle.zeb_paths.specs.Walks.{telling}
 use Rattle.zeb_register.specs.Formats.{version_of}
 use Rattle.zeb_program.proofs.OverLemmas.{refused_path, replied_path}
 use Rattle.zeb_program.proofs.PathLemmas.{refused_file, replied_file}
+use Rattle.zeb_program.proofs.ReaderLemmas.{met_under}
 use Rattle.zeb_program.proofs.path_changes.run_path_change.Goals as goal
 
 pub returns-in_ok-render-in-Ok-clause-answer : goal.returns-in_ok-render-in-Ok-clause-answer
@@ -41,5 +43,6 @@ returns-in-Err-clause-over g c =
     let new = state g.S.Store c.change_by_paths.new.session.connection in
     refused_path (g.P.Paths.tells c.args.paths.now) g.L.Layout.format (conditions (version_of g.L.Layout.format) c.args.session.now.profile c.args.session.now.limits) c.args.change.now (state g.S.Store c.args.session.now.connection) new
     (g.W.Write.contents c.args.output.now.writer) (g.W.Write.contents c.tell.new.output.writer) c.tell.new.output.failed (HasCleanDisk new) c.from_ref-named.result.now
-    c.in-Err.fault c.tell.result c.from_ref-named.ensures.value c.in-Err.ensures.reaches c.in-Err.ensures.over c.in-Err.ensures.leaves
+    c.in-Err.fault c.tell.result c.from_ref-named.ensures.value
+    (met_under (telling (g.P.Paths.tells c.args.paths.now) (g.P.Paths.stands c.args.paths.now) (g.P.Paths.lists c.args.paths.now)) ⊥ (map string_bytes c.from_ref-named.result.now) c.in-Err.fault c.in-Err.ensures.reaches) c.in-Err.ensures.over c.in-Err.ensures.leaves
     c.tell.ensures.told

@@ -1,30 +1,42 @@
-use Rattle.std.proofs.Common.{subst, sym}
-use Rattle.std.specs.Prelude.{None}
-use Rattle.std.proofs.Math.Path.{fun_ext}
+use Rattle.std.proofs.Common.{◌≡◌, rules, subst, sym}
+use Rattle.std.specs.Prelude.{Err}
+use Rattle.zeb_change.specs.Conditions.{conditions}
+use Rattle.zeb_register.specs.Formats.{packed_blocks, version_of}
 use Rattle.zeb_program.specs.PrivateFaults.{IsOpeningFault}
-use Rattle.zeb_program.specs.Registers.{places}
-use Rattle.zeb_change.specs.declared.refusals.Refusal.TheVariants.{Store}
-use Rattle.zeb_program.proofs.ResultValues.{ok_is_no_err}
-use Rattle.zeb_program.proofs.WordRunLemmas.{fails_opening, taken_store}
+use Rattle.zeb_program.specs.PrivateWordRuns.{format_of}
+use Rattle.zeb_program.specs.Registers.{places, untold}
+use Rattle.zeb_program.specs.ScriptAnswers.{AreScriptConditions}
+use Rattle.zeb_program.proofs.LayoutLemmas.{conditions_in, looked_at, looked_over}
+use Rattle.zeb_program.proofs.WordRunLemmas.{passed_failure}
 use Rattle.zeb_program.proofs.performing.open_register.Goals as goal
+
+pub returns-in_err-session-clause-failed : goal.returns-in_err-session-clause-failed
+returns-in_err-session-clause-failed g c =
+    let is : c.from_residual.result ≡ Err c.in_err-session.field-0.0 = search rules in
+    let at = places g.P.Store.Store g.P.Paths.tells g.P.Paths.stands g.P.Paths.lists g.P.Paths.explains g.P.Paths.opens g.P.Paths.refuses g.P.Paths.lacks g.P.Paths.has g.P.Paths.lets_go g.P.Paths.leaves c.args.paths.now c.take_register.new.paths in
+    passed_failure (λ failure. IsOpeningFault at c.args.profile failure.fault failure.cause) c.from_residual.result c.in_err-session.field-0.0 is c.in_err-session.ensures.failed
+
+pub returns-in-Ok-clause-under : goal.returns-in-Ok-clause-under
+returns-in-Ok-clause-under g c =
+    let before = c.in_ok-session.session in
+    let same = c.layout_of.ensures.under in
+    conditions_in (format_of c.in-Ok.layout) c.args.profile c.layout_of.new.session.profile c.layout_of.new.session.limits
+    (subst (λ p. AreScriptConditions c.args.profile (conditions (version_of packed_blocks) p c.layout_of.new.session.limits)) (sym same.0)
+    (subst (λ l. AreScriptConditions c.args.profile (conditions (version_of packed_blocks) before.profile l)) (sym same.1) c.in_ok-session.ensures.under))
 
 pub returns-in-Ok-clause-opened : goal.returns-in-Ok-clause-opened
 returns-in-Ok-clause-opened g c =
-    taken_store (places g.P.Store.Store g.P.Paths.tells g.P.Paths.stands g.P.Paths.lists g.P.Paths.explains g.P.Paths.opens g.P.Paths.refuses g.P.Paths.lacks g.P.Paths.has g.P.Paths.lets_go g.P.Paths.leaves c.args.paths.now c.store-opened.new.self) c.args.profile c.store_path.result.now c.store-opened.result c.in-Ok.session.connection _
-    c.store_path.ensures c.store-opened.ensures.given c.in-Ok.ensures.keeps c.in-Ok.ensures.unopened (ok_is_no_err c.in-Ok.session (None, Store) _)
+    let takes = c.in_ok-session.ensures.opened in
+    ((takes.0, takes.1, looked_over g.P.Store.Store takes.0 c.in_ok-session.session.connection c.layout_of.new.session.connection c.layout_of.result takes.2 c.layout_of.ensures.looked), c.in-Ok.ensures.told)
 
 pub returns-in-Err-clause-failed : goal.returns-in-Err-clause-failed
 returns-in-Err-clause-failed g c =
-    let at = places g.P.Store.Store g.P.Paths.tells g.P.Paths.stands g.P.Paths.lists g.P.Paths.explains g.P.Paths.opens g.P.Paths.refuses g.P.Paths.lacks g.P.Paths.has g.P.Paths.lets_go g.P.Paths.leaves c.args.paths.now c.store-opened.new.self in
+    let at = places g.P.Store.Store g.P.Paths.tells g.P.Paths.stands g.P.Paths.lists g.P.Paths.explains g.P.Paths.opens g.P.Paths.refuses g.P.Paths.lacks g.P.Paths.has g.P.Paths.lets_go g.P.Paths.leaves c.args.paths.now c.take_register.new.paths in
+    let takes = c.in_ok-session.ensures.opened in
+    let last = c.layout_of.new.session.connection in
     subst (λ why. IsOpeningFault at c.args.profile why c.of_store.result.cause) (sym c.of_store.ensures.fault) (
-      c.opening_cause-cause.result,
-      fails_opening _ at c.args.profile c.store_path.result.now c.store-opened.result c.in-Err.back c.in-Err.refusal c.opening_cause-cause.result c.store_path.ensures c.store-opened.ensures.given c.store-opened.ensures.refused c.in-Err.ensures.unopened
-          c.opening_cause-cause.ensures.bare c.opening_cause-cause.ensures.other c.opening_cause-cause.ensures.failed c.in-Err.ensures.refused c.let_go.ensures,
+      c.close_register.result.cause,
+      untold c.close_register.result takes.0 c.in_ok-session.session.connection last takes.1 c.in-Err.ensures.failed
+          (looked_at g.P.Store.Store takes.0 c.in_ok-session.session.connection last c.in-Err.refusal takes.2 c.in-Err.ensures.looked) c.close_register.ensures,
       c.of_store.ensures.cause,
     )
-
-pub returns-in-Ok-clause-told : goal.returns-in-Ok-clause-told
-returns-in-Ok-clause-told g c = fun_ext c.store-opened.ensures.told
-
-pub returns-in-Err-clause-told : goal.returns-in-Err-clause-told
-returns-in-Err-clause-told g c = fun_ext c.store-opened.ensures.told

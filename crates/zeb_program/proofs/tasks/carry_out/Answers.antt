@@ -59,7 +59,7 @@ returns-in-Analyse-clause-done g c =
             (λ files known. analysed_files k told _ files known held done.0 done.2);
         over = λ clean.
             analysed_task_over told g.L.Layout.format k c.args.task.now held held done.0 c.in-Analyse.named c.deref-in-Analyse.result.now c.in-Analyse.is c.deref-in-Analyse.ensures.value done.2 refl;
-        reaches = replied_reaches (telling (g.P.Paths.tells c.args.paths.now) (g.P.Paths.stands c.args.paths.now) (g.P.Paths.lists c.args.paths.now)) (paths_of c.args.task.now) c.analyse_paths.result done.0 done.1 (analysis_reaches (telling (g.P.Paths.tells c.args.paths.now) (g.P.Paths.stands c.args.paths.now) (g.P.Paths.lists c.args.paths.now)) c.args.task.now c.in-Analyse.named c.deref-in-Analyse.result.now c.analyse_paths.result c.in-Analyse.is c.deref-in-Analyse.ensures.value c.analyse_paths.ensures.reaches);
+        reaches = replied_reaches (telling (g.P.Paths.tells c.args.paths.now) (g.P.Paths.stands c.args.paths.now) (g.P.Paths.lists c.args.paths.now)) (ReadsWhole c.args.task.now) (paths_of c.args.task.now) c.analyse_paths.result done.0 done.1 (analysis_reaches (telling (g.P.Paths.tells c.args.paths.now) (g.P.Paths.stands c.args.paths.now) (g.P.Paths.lists c.args.paths.now)) c.args.task.now c.in-Analyse.named c.deref-in-Analyse.result.now c.analyse_paths.result c.in-Analyse.is c.deref-in-Analyse.ensures.value c.analyse_paths.ensures.reaches);
       },
     )
 

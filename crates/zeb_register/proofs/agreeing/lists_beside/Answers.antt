@@ -1,4 +1,4 @@
-use Rattle.zeb_register.proofs.Cited.{Database, state, HasCleanDisk, List, Option, Some, None, IfOk, subst, arith, MatchOption, IfOk-weaker, Records, ExpectedDatabase, name_order, AreBeside, AreInOrder, HasNames, KeepsExpectedTexts, HoldsThere, ListsAgree}
+use Rattle.zeb_register.proofs.Cited.{Database, state, HasCleanDisk, List, Option, Some, None, IfOk, subst, arith, MatchOption, IfOk-weaker, ExpectedDatabase, name_order, AreBeside, AreInOrder, HasNames, KeepsExpectedTexts, RecordsAgree, ListsAgree}
 use Rattle.std.specs.List.Sorted.{IsStrictlySortedBy}
 use Rattle.zeb_register.proofs.Calls.{store_same}
 use Rattle.zeb_register.proofs.ExpectedDatabases.{names_there}
@@ -17,9 +17,9 @@ returns-clause-value g c clean store ordered =
     let databases = c.args.expected.now.databases.items in
     let texts : KeepsExpectedTexts s0.now.trees c.args.expected.now = (c.in_ok-texts_agree.ensures.value clean1 store).0 c.if-not-branch.false in
     let given = subst (λ (l : List ExpectedDatabase). IsStrictlySortedBy name_order l → AreInOrder l
-    → IfOk c.records_beside.result (λ found. MatchOption found (¬ (HasNames s1.now.trees l × HoldsThere Records l s1.now.trees)) (λ listed. AreBeside listed.items l s1.now.trees × HoldsThere Records l s1.now.trees)))
+    → IfOk c.records_beside.result (λ found. MatchOption found (¬ (HasNames s1.now.trees l × RecordsAgree l s1.now.trees)) (λ listed. AreBeside listed.items l s1.now.trees × RecordsAgree l s1.now.trees)))
     c.deref.ensures.value (c.records_beside.ensures.value clean (store_same s0 s1 at store)) ordered.names (λ database here. (ordered.records database here, ordered.postings database here)) in
     let value = subst (λ (d : Database).
-    IfOk c.records_beside.result (λ found. MatchOption found (¬ (HasNames d.trees databases × HoldsThere Records databases d.trees)) (λ listed. AreBeside listed.items databases d.trees × HoldsThere Records databases d.trees))) at given in
-    IfOk-weaker c.records_beside.result _ _ (λ found is. found_so (HasNames s0.now.trees databases × HoldsThere Records databases s0.now.trees) (ListsAgree s0.now.trees c.args.expected.now) _ _ (λ lists. (lists.names, lists.records))
+    IfOk c.records_beside.result (λ found. MatchOption found (¬ (HasNames d.trees databases × RecordsAgree databases d.trees)) (λ listed. AreBeside listed.items databases d.trees × RecordsAgree databases d.trees))) at given in
+    IfOk-weaker c.records_beside.result _ _ (λ found is. found_so (HasNames s0.now.trees databases × RecordsAgree databases s0.now.trees) (ListsAgree s0.now.trees c.args.expected.now) _ _ (λ lists. (lists.names, lists.records))
     (λ listed both. (both.0, record { texts = texts; names = names_there s0.now.trees databases listed.items both.0.0 both.0.1; records = both.1 })) found is) value

@@ -1,4 +1,4 @@
-use Rattle.zeb_register.proofs.Cited.{Database, state, State, HasCleanDisk, ◌≡◌, ◌↔◌, ◌∙◌, Bool, IsTrue, List, true, false, length, ap, subst₂, arith, Records, ListedDatabase, ExpectedDatabase, AreBeside, HoldsExpected, HoldsThere, IsStore}
+use Rattle.zeb_register.proofs.Cited.{Database, state, State, HasCleanDisk, ◌≡◌, ◌↔◌, ◌∙◌, Bool, IsTrue, List, true, false, length, ap, subst₂, arith, Records, ListedDatabase, ExpectedDatabase, AreBeside, HoldsExpected, RecordsAgree, IsStore}
 use Rattle.zeb_register.proofs.Calls.{store_same}
 use Rattle.zeb_register.proofs.ExpectedDatabases.{expected_there}
 use Rattle.zeb_register.proofs.agreeing.records_beside.Goals as goal
@@ -8,7 +8,7 @@ table_agrees-requires g c = let long : length c.in-Some.listed.items ≡ length 
 
 -- what is told of the databases that were looked at is told of those that are there
 told_there : (s0 s1 : State) (expected : List ExpectedDatabase) (listed seen : List ListedDatabase) (agree : Bool) → IsStore s0 → AreBeside listed expected s0.now.trees → s1.now ≡ s0.now → seen ≡ listed
-    → (IsTrue agree ↔ HoldsExpected Records seen expected s1.now.trees) → IsTrue agree ↔ HoldsThere Records expected s0.now.trees
+    → (IsTrue agree ↔ HoldsExpected Records seen expected s1.now.trees) → IsTrue agree ↔ RecordsAgree expected s0.now.trees
 told_there s0 s1 expected listed seen agree store beside at same value =
     let there = expected_there s0 store expected listed beside.0 beside.1 Records in
     let value0 = subst₂ (λ (l : List ListedDatabase) (d : Database). IsTrue agree ↔ HoldsExpected Records l expected d.trees) same at value in

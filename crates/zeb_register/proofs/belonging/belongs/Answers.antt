@@ -1,7 +1,7 @@
-use Rattle.zeb_register.proofs.Cited.{state, HasCleanDisk, IsUnchanged, rules, ◌≡◌, true, false, ◌+◌, FitsSigned, w64, to_z, sym, subst, arith, to_z-of_z, ints, err_from_is_err_and, RegFault, Reading, tree_of}
+use Rattle.zeb_register.proofs.Cited.{state, HasCleanDisk, IsUnchanged, rules, ◌≡◌, true, false, ◌+◌, ◌≤◌, FitsSigned, w64, to_z, sym, subst, arith, to_z-of_z, ints, err_from_is_err_and, RegFault, Reading, IsListedId, Owns, tree_of}
 use Rattle.zeb_register.proofs.Calls.{nothing_then, reading_behind}
 use Rattle.zeb_register.proofs.CallsInTurn.{quiet_then}
-use Rattle.zeb_register.proofs.OwnersListed.{IsReached, all_reached, below_few, first_reached, found_next, next_reached, none_missing, none_next}
+use Rattle.zeb_register.proofs.OwnersListed.{IsReached, all_reached, below, below_few, first_reached, found_next, next_reached, none_next, turn_more}
 use Rattle.zeb_register.proofs.Causes.{reasoned_after}
 use Rattle.zeb_register.proofs.belonging.belongs.Goals as goal
 
@@ -19,8 +19,9 @@ ids-init g c = record {
   reached = λ clean store.
       let trees = (state g.S.Store c.args.conn.now).now.trees in
       let fits : FitsSigned w64 c.in-Some.ends.first = search rules in
-      subst (λ i. IsReached (tree_of c.args.table) trees c.args.listed.now c.in-Some.ends.last i 0) (sym (to_z-of_z {w = w64} {z = c.in-Some.ends.first} fits))
-      (first_reached (tree_of c.args.table) trees c.args.listed.now c.in-Some.ends (rw c.in-Some.is at (c.in_ok-ends.ensures.value clean store)));
+      subst (λ i. IsReached (tree_of c.args.table) trees (IsListedId c.args.listed.now) c.in-Some.ends.last i) (sym (to_z-of_z {w = w64} {z = c.in-Some.ends.first} fits))
+      (first_reached (tree_of c.args.table) trees (IsListedId c.args.listed.now) c.in-Some.ends (rw c.in-Some.is at (c.in_ok-ends.ensures.value clean store)));
+  turns = λ clean store. omega arith;
 }
 
 pub returns-then-not-is_listed-clause-call : goal.returns-then-not-is_listed-clause-call
@@ -33,7 +34,7 @@ returns-then-not-is_listed-clause-value g c clean store =
     let id = to_z w64 c.ids.id-bits in
     let at = c.ids.invariant.reached clean store in (
       λ h. absurd (let e : false ≡ true = h in cc),
-      λ belongs. absurd (none_missing (tree_of c.args.table) trees c.args.listed.now c.in-Some.ends.last id c.ids._turn at (c.is_listed.ensures.other c.if-not-is_listed.true) belongs),
+      λ belongs. absurd (c.is_listed.ensures.other c.if-not-is_listed.true (belongs id at.owns)),
     )
 
 pub returns-then-id-ends-clause-call : goal.returns-then-id-ends-clause-call
@@ -45,7 +46,7 @@ returns-then-id-ends-clause-value g c clean store =
     let trees = (state g.S.Store c.args.conn.now).now.trees in
     let id = to_z w64 c.ids.id-bits in
     let at = c.ids.invariant.reached clean store in
-    (λ _. all_reached (tree_of c.args.table) trees c.args.listed.now c.in-Some.ends.last id c.ids._turn at (c.is_listed.ensures.same c.if-not-is_listed.false) (omega (arith, ints, c.if-id-ends.true, c.ids.id-is)), λ _. search rules)
+    (λ _. all_reached (tree_of c.args.table) trees (IsListedId c.args.listed.now) c.in-Some.ends.last id at (c.is_listed.ensures.same c.if-not-is_listed.false) (omega (arith, ints, c.if-id-ends.true, c.ids.id-is)), λ _. search rules)
 
 pub returns-in_err-rows-clause-call : goal.returns-in_err-rows-clause-call
 returns-in_err-rows-clause-call g c =
@@ -79,7 +80,7 @@ returns-in_default-id_of-clause-value g c clean store =
     let clean1 : HasCleanDisk (state g.S.Store c.ids.conn) = omega (arith, c.next_rows.ensures.call.crash.clean) in
     let fits : FitsSigned w64 c.in-Some.ends.last = search rules in
     let first = found_next (tree_of c.args.table) (to_z w64 c.ids.id-bits) (state g.S.Store c.args.conn.now) (state g.S.Store c.ids.conn) c.in_ok-rows.rows.items c.deref.result.now c.id_of.result (c.ids.invariant.ok clean1) store (c.in_ok-rows.ensures.call.ok clean).1 c.deref.ensures.value (c.id_of.ensures.none, c.id_of.ensures.some) (omega (arith, ints, c.ids.id-is, c.if-id-ends.false, fits)) in
-    (λ _. none_next (tree_of c.args.table) (state g.S.Store c.args.conn.now).now.trees c.args.listed.now c.in-Some.ends.last (to_z w64 c.ids.id-bits) c.ids._turn (c.ids.invariant.reached clean1 store) (c.is_listed.ensures.same c.if-not-is_listed.false) (rw c.in_default-id_of.is at first), λ _. search rules)
+    (λ _. none_next (tree_of c.args.table) (state g.S.Store c.args.conn.now).now.trees (IsListedId c.args.listed.now) c.in-Some.ends.last (to_z w64 c.ids.id-bits) (c.ids.invariant.reached clean1 store) (c.is_listed.ensures.same c.if-not-is_listed.false) (rw c.in_default-id_of.is at first), λ _. search rules)
 
 pub ids-preserved : goal.ids-preserved
 ids-preserved g c =
@@ -95,8 +96,15 @@ ids-preserved g c =
           let fits : FitsSigned w64 c.in-Some.ends.last = search rules in
           let first = found_next (tree_of c.args.table) (to_z w64 c.ids.id-bits) (state g.S.Store c.args.conn.now) (state g.S.Store c.ids.conn) c.in_ok-rows.rows.items c.deref.result.now c.id_of.result (c.ids.invariant.ok clean1) store (c.in_ok-rows.ensures.call.ok clean).1 c.deref.ensures.value (c.id_of.ensures.none, c.id_of.ensures.some) (omega (arith, ints, c.ids.id-is, c.if-id-ends.false, fits)) in
           let next_fits : FitsSigned w64 c.in-Some-id_of.next = search rules in
-          subst (λ i. IsReached (tree_of c.args.table) (state g.S.Store c.args.conn.now).now.trees c.args.listed.now c.in-Some.ends.last i (c.ids._turn + 1)) (sym (to_z-of_z {w = w64} {z = c.in-Some-id_of.next} next_fits))
-          (next_reached (tree_of c.args.table) (state g.S.Store c.args.conn.now).now.trees c.args.listed.now c.in-Some.ends.last (to_z w64 c.ids.id-bits) c.ids._turn (c.ids.invariant.reached clean1 store) (c.is_listed.ensures.same c.if-not-is_listed.false) c.in-Some-id_of.next (rw c.in-Some-id_of.is at first));
+          subst (λ i. IsReached (tree_of c.args.table) (state g.S.Store c.args.conn.now).now.trees (IsListedId c.args.listed.now) c.in-Some.ends.last i) (sym (to_z-of_z {w = w64} {z = c.in-Some-id_of.next} next_fits))
+          (next_reached (tree_of c.args.table) (state g.S.Store c.args.conn.now).now.trees (IsListedId c.args.listed.now) c.in-Some.ends.last (to_z w64 c.ids.id-bits) (c.ids.invariant.reached clean1 store) (c.is_listed.ensures.same c.if-not-is_listed.false) c.in-Some-id_of.next (rw c.in-Some-id_of.is at first));
+      turns = λ clean store.
+          let clean1 : HasCleanDisk (state g.S.Store c.ids.conn) = omega (arith, c.next_rows.ensures.call.crash.clean) in
+          let fits : FitsSigned w64 c.in-Some.ends.last = search rules in
+          let first = found_next (tree_of c.args.table) (to_z w64 c.ids.id-bits) (state g.S.Store c.args.conn.now) (state g.S.Store c.ids.conn) c.in_ok-rows.rows.items c.deref.result.now c.id_of.result (c.ids.invariant.ok clean1) store (c.in_ok-rows.ensures.call.ok clean).1 c.deref.ensures.value (c.id_of.ensures.none, c.id_of.ensures.some) (omega (arith, ints, c.ids.id-is, c.if-id-ends.false, fits)) in
+          let next_fits : FitsSigned w64 c.in-Some-id_of.next = search rules in
+          subst (λ i. c.ids._turn + 1 ≤ below c.args.listed.now i) (sym (to_z-of_z {w = w64} {z = c.in-Some-id_of.next} next_fits))
+          (turn_more c.args.listed.now (Owns (tree_of c.args.table) (state g.S.Store c.args.conn.now).now.trees) (to_z w64 c.ids.id-bits) c.in-Some-id_of.next c.ids._turn (c.ids.invariant.turns clean1 store) (c.is_listed.ensures.same c.if-not-is_listed.false) (rw c.in-Some-id_of.is at first));
     }
 
 pub returns-in-Some-id_of-clause-call : goal.returns-in-Some-id_of-clause-call
@@ -107,5 +115,5 @@ returns-in-Some-id_of-clause-value g c clean store =
     let clean1 : HasCleanDisk (state g.S.Store c.ids.conn) = omega (arith, c.next_rows.ensures.call.crash.clean) in
     let fits : FitsSigned w64 c.in-Some.ends.last = search rules in
     let first = found_next (tree_of c.args.table) (to_z w64 c.ids.id-bits) (state g.S.Store c.args.conn.now) (state g.S.Store c.ids.conn) c.in_ok-rows.rows.items c.deref.result.now c.id_of.result (c.ids.invariant.ok clean1) store (c.in_ok-rows.ensures.call.ok clean).1 c.deref.ensures.value (c.id_of.ensures.none, c.id_of.ensures.some) (omega (arith, ints, c.ids.id-is, c.if-id-ends.false, fits)) in
-    let next = next_reached (tree_of c.args.table) (state g.S.Store c.args.conn.now).now.trees c.args.listed.now c.in-Some.ends.last (to_z w64 c.ids.id-bits) c.ids._turn (c.ids.invariant.reached clean1 store) (c.is_listed.ensures.same c.if-not-is_listed.false) c.in-Some-id_of.next (rw c.in-Some-id_of.is at first) in
-    absurd (omega (arith, next.turns, below_few c.args.listed.now c.in-Some-id_of.next, c.if-turn-turn-end.false))
+    let turns = turn_more c.args.listed.now (Owns (tree_of c.args.table) (state g.S.Store c.args.conn.now).now.trees) (to_z w64 c.ids.id-bits) c.in-Some-id_of.next c.ids._turn (c.ids.invariant.turns clean1 store) (c.is_listed.ensures.same c.if-not-is_listed.false) (rw c.in-Some-id_of.is at first) in
+    absurd (omega (arith, turns, below_few c.args.listed.now c.in-Some-id_of.next, c.if-turn-turn-end.false))

@@ -3,7 +3,7 @@ use Rattle.zeb_words.proofs.program.with_changes.Goals as goal
 
 pub returns : goal.returns
 returns c =
-    let one = c.in_ok-subcommand.ensures.shape c.plain.ensures.local ∙ ap₂ and_sub c.in_ok-with_options.ensures c.plain.ensures.app in
+    let one = c.in_ok-subcommand.ensures.shape c.in_ok-founding.ensures.local ∙ ap₂ and_sub c.in_ok-with_options.ensures c.in_ok-founding.ensures.app in
     let two = c.in_ok-subcommand-2.ensures.shape c.in_ok-naming.ensures.local ∙ ap₂ and_sub one c.in_ok-naming.ensures.app in
     let three = c.in_ok-subcommand-3.ensures.shape c.in_ok-naming-2.ensures.local ∙ ap₂ and_sub two c.in_ok-naming-2.ensures.app in
     let four = c.in_ok-subcommand-4.ensures.shape c.in_ok-changing.ensures.local ∙ ap₂ and_sub three c.in_ok-changing.ensures.app in

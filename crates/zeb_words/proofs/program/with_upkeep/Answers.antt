@@ -5,4 +5,4 @@ pub returns : goal.returns
 returns c =
     let one = c.in_ok-subcommand.ensures.shape c.plain.ensures.local ∙ ap₂ and_sub c.in_ok-with_changes.ensures c.plain.ensures.app in
     let two = c.in_ok-subcommand-2.ensures.shape c.plain-2.ensures.local ∙ ap₂ and_sub one c.plain-2.ensures.app in
-    IfOk-weaker c.subcommand-3.result _ _ (λ command h. h.shape c.plain-3.ensures.local ∙ ap₂ and_sub two c.plain-3.ensures.app) c.subcommand-3.ensures
+    IfOk-weaker c.subcommand-3.result _ _ (λ command h. h.shape c.in_ok-founding.ensures.local ∙ ap₂ and_sub two c.in_ok-founding.ensures.app) c.subcommand-3.ensures

@@ -1,16 +1,12 @@
 use Rattle.zeb_words.proofs.Cited.{rules, ◌≡◌, ◌∙◌, Err, codes, subcommand_rows_of, box_value, found_of, one_of, rows_of, out-ArgMatches, out-SubCommand, one_text-rows, AreBad, IsFlagRead, IsBadAct}
-use Rattle.zeb_words.proofs.ReadingLemmas.{bad_words, own_cause, pair_read}
+use Rattle.zeb_words.proofs.ReadingLemmas.{bad_words, flag_read, own_cause, pair_read}
 use Rattle.zeb_words.proofs.reading.words_of.Goals as goal
 
 pub returns-clause-value : goal.returns-clause-value
 returns-clause-value c =
     let m = c.args.matches.now in
     let same = one_text-rows (found_of m) (codes "shows") in
-    let flag : IsFlagRead (one_of (codes "shows") (rows_of (found_of m))) c.get_flag-shows.result = record {
-      absent = λ e. c.get_flag-shows.ensures.none (same ∙ e);
-      yes = λ e. c.get_flag-shows.ensures.value (same ∙ e);
-      no = λ e. c.get_flag-shows.ensures.other (same ∙ e);
-    } in
+    let flag : IsFlagRead (one_of (codes "shows") (rows_of (found_of m))) c.get_flag-shows.result = flag_read _ _ _ same c.get_flag-shows.ensures.none c.get_flag-shows.ensures.value c.get_flag-shows.ensures.other in
     record {
       config = c.in_ok-config.ensures.ok ∙ c.text_of.ensures;
       database = c.in_ok-database.ensures.value ∙ c.text_of-2.ensures;
@@ -29,11 +25,7 @@ returns-in_err-act-clause-own c =
     let rows = rows_of (found_of m) in
     let given = rows_of (found_of c.in-Some.given.now) in
     let same = one_text-rows (found_of m) (codes "shows") in
-    let flag : IsFlagRead (one_of (codes "shows") rows) c.get_flag-shows.result = record {
-      absent = λ e. c.get_flag-shows.ensures.none (same ∙ e);
-      yes = λ e. c.get_flag-shows.ensures.value (same ∙ e);
-      no = λ e. c.get_flag-shows.ensures.other (same ∙ e);
-    } in
+    let flag : IsFlagRead (one_of (codes "shows") rows) c.get_flag-shows.result = flag_read _ _ _ same c.get_flag-shows.ensures.none c.get_flag-shows.ensures.value c.get_flag-shows.ensures.other in
     let is = pair_read (λ b. (out-SubCommand (box_value b)).name.now) (λ b. rows_of (found_of (out-SubCommand (box_value b)).matches))
     (out-ArgMatches m).subcommand _ _ c.in-Some.ensures.name c.in-Some.ensures.rows in
     let usage = c.in_err-act.field-0.0 in

@@ -7,5 +7,6 @@ returns g c = record {
     c.args._store,
     refl,
     record { shield = λ h. h; clean = omega (arith); counts = omega (arith); closes = λ _ still. inl still; outcomes = λ db may. may },
+    λ part clean was_open. absurd cc,
   );
 }

@@ -1,7 +1,7 @@
 use Rattle.std.proofs.Common.{◌≡◌, ◌∷◌, ◌++◌, [], Err, Ok, arith, refl, rules, string_bytes, subst, sym}
 use Rattle.zeb_paths.specs.PrivateWalks.{Sees}
 use Rattle.zeb_paths.specs.Walks.{MayStand, due_of, dues_left, not_given, not_there, telling, too_deep}
-use Rattle.zeb_paths.specs.declared.causes.PathCause.TheVariants.{Folder}
+use Rattle.zeb_paths.specs.declared.causes.PathCause.TheVariants.{TooDeep}
 use Rattle.zeb_paths.specs.declared.paths.PathKind.TheVariants as kind
 use Rattle.zeb_paths.proofs.WalkLemmas.{may_stand, sees_popped, weighs, weight_last}
 use Rattle.zeb_paths.proofs.walk.Walk.look.Goals as goal
@@ -34,7 +34,7 @@ returns-in-Ok-Folder-2-clause-sees g c =
     let stands : MayStand at path (Ok kind.Folder) =
     subst (MayStand at path) found (may_stand at path c.as_str.result.now c.kind.result c.as_str.ensures.value c.kind.ensures.file c.kind.ensures.stands) in
     sees_popped at c.args.self.now.steps.items c.pop.new.self.items c.in-Some.step (dues_left c.pop.new.self.items) _ popped
-    (c.in-Some.step.path, Folder, too_deep stands (omega arith), refl, refl)
+    (c.in-Some.step.path, TooDeep, too_deep stands (omega arith), refl, refl)
 
 pub returns-in-Err-clause-sees : goal.returns-in-Err-clause-sees
 returns-in-Err-clause-sees g c =

@@ -1,0 +1,44 @@
+use Rattle.zeb_leaves.proofs.Cited.{state, HasCleanDisk, ◌≡◌, ◌↔◌, ◌∙◌, List, length, sym, ap, subst, arith}
+use Rattle.std.proofs.Common.{false, true}
+use Rattle.std.proofs.lemmas.Result.{IfOk-weaker}
+use Rattle.std.specs.Bool.{IsTrue}
+use Rattle.std.specs.Prelude.{IfOk}
+use Rattle.sqlite.specs.Effect.{Database}
+use Rattle.zeb_leaves.proofs.ExpectedLeaves.{leaves_agree, leaves_expected}
+use Rattle.zeb_leaves.proofs.LeavesOfIds.{by_list, by_names}
+use Rattle.zeb_leaves.specs.PrivateAgreeing.{EachHasLeaves, OthersAreEmpty, PostingsRise}
+use Rattle.zeb_register.proofs.AgreeingTables.{lists_agree}
+use Rattle.zeb_register.proofs.Calls.{store_same}
+use Rattle.zeb_register.specs.Agreeing.{AreBeside, LacksPostingsAndDict, ListsAgree}
+use Rattle.zeb_register.specs.Formats.{packed_leaves}
+use Rattle.zeb_register.specs.declared.catalog.ListedDatabase.{ListedDatabase}
+use Rattle.zeb_register.specs.declared.expected.ExpectedDatabase.{ExpectedDatabase}
+use Rattle.zeb_leaves.proofs.agreeing_tables.leaves_agree.Goals as goal
+
+pub returns-in_default-clause-value : goal.returns-in_default-clause-value
+returns-in_default-clause-value g c clean store ordered =
+    let s = state g.S.Store c.args.conn.now in
+    let none : ¬ ListsAgree s.now.trees c.args.expected.now = rw c.in_default.is at (c.in_ok-listed.ensures.value clean store ordered) in
+    (λ h. absurd (let e : false ≡ true = h in cc), λ are. absurd (none (lists_agree s store c.args.expected.now ordered packed_leaves are)))
+
+pub registers_agree-requires : goal.registers_agree-requires
+registers_agree-requires g c =
+    let long : length c.in-Some.listed.items ≡ length c.args.expected.now.databases.items = rw c.in-Some.is at c.in_ok-listed.ensures.long in ap length c.deref.ensures.value ∙ long ∙ ap length (sym c.deref-2.ensures.value)
+
+pub returns-clause-value : goal.returns-clause-value
+returns-clause-value g c clean store ordered =
+    let s0 = state g.S.Store c.args.conn.now in
+    let s1 = state g.S.Store c.lists_beside.new.conn in
+    let clean1 : HasCleanDisk s1 = omega (arith, c.registers_agree.ensures.call.crash.clean) in
+    let at = (c.in_ok-listed.ensures.call.ok clean1).0.now_is in
+    let databases = c.args.expected.now.databases.items in
+    let listed = c.in-Some.listed.items in
+    let found : AreBeside listed databases s0.now.trees × ListsAgree s0.now.trees c.args.expected.now = rw c.in-Some.is at (c.in_ok-listed.ensures.value clean1 store ordered) in
+    let value = subst (λ (d : Database). IfOk c.registers_agree.result (λ b. IsTrue b ↔ (LacksPostingsAndDict d.trees × (OthersAreEmpty listed d.trees × EachHasLeaves listed databases d.trees)))) at
+    (subst (λ (l : List ListedDatabase). IfOk c.registers_agree.result (λ b. IsTrue b ↔ (LacksPostingsAndDict s1.now.trees × (OthersAreEmpty l s1.now.trees × EachHasLeaves l databases s1.now.trees)))) c.deref.ensures.value
+    (subst (λ (l : List ExpectedDatabase). PostingsRise l → IfOk c.registers_agree.result (λ b. IsTrue b ↔ (LacksPostingsAndDict s1.now.trees × (OthersAreEmpty c.deref.result.now s1.now.trees × EachHasLeaves c.deref.result.now l s1.now.trees)))) c.deref-2.ensures.value
+    (c.registers_agree.ensures.value clean (store_same s0 s1 at store)) ordered.postings)) in
+    IfOk-weaker c.registers_agree.result _ _ (λ b is. (
+      λ h. let all = is.0 h in leaves_expected s0 store c.args.expected.now ordered listed found.0.0 found.1 (by_names s0 store databases listed found.0.0 found.0.1 all.0 all.1.0 all.1.1),
+      λ are. let agree = leaves_agree s0 store c.args.expected.now ordered are in is.1 (agree.lacks, by_list s0 store databases listed found.0.0 found.0.1 agree),
+    )) value

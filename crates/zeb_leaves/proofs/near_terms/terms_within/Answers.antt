@@ -1,0 +1,7 @@
+use Rattle.zeb_leaves.proofs.Cited.{state, subst, sym}
+use Rattle.zeb_leaves.specs.PrivateNearCalls.{MayTellBeside}
+use Rattle.zeb_leaves.proofs.near_terms.terms_within.Goals as goal
+
+pub returns-in-Below-clause-tells : goal.returns-in-Below-clause-tells
+returns-in-Below-clause-tells g c =
+    subst (λ side. MayTellBeside c.args.at c.args.start.now c.args.n side (state g.S.Store c.args.conn.now) (state g.S.Store c.last_within.new.conn) c.last_within.result) (sym c.in-Below.is) c.last_within.ensures.tells

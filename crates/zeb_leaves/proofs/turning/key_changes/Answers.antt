@@ -1,0 +1,16 @@
+use Rattle.zeb_leaves.proofs.Cited.{◌∙◌, length, refl, state, sym, IsStore}
+use Rattle.zeb_leaves.proofs.LastTold.{some_there}
+use Rattle.zeb_leaves.proofs.OneKey.{one_answered, one_run}
+use Rattle.zeb_register.specs.declared.registers.KeyChanges.{KeyChanges}
+use Rattle.zeb_leaves.proofs.turning.key_changes.Goals as goal
+
+pub run_changes-requires : goal.run_changes-requires
+run_changes-requires g c = record { rising = one_run _ c.requires.rising }
+
+pub returns-clause-units : goal.returns-clause-units
+returns-clause-units g c clean inside store =
+    let s0 = state g.S.Store c.args.tx.now.conn.now in
+    let s1 = state g.S.Store c.run_changes.new.tx.conn.now in
+    let one : KeyChanges = record { key = c.args.key; changes = c.args.changes } in
+    let changes = c.args.changes.now in
+    one_answered c.args.db.0 one (some_there changes (length changes) refl (sym c.is_empty.ensures ∙ c.if-is_empty.false)) c.in_ok-check_changes.ensures.stored s0.now.trees s1.now.trees (IsStore s1) c.run_changes.result (c.run_changes.ensures.units clean inside store)

@@ -1,0 +1,137 @@
+//! The terms of a register that are nearest to a text, each with how many records have it. Leaves are read a few at first, and twice as many
+//! where these don't serve.
+
+ghost use Rattle.std.specs.Prelude.{◌≡◌, ◌≢◌, ◌≤◌, [], Err};
+ghost use Rattle.sqlite.specs.Held.{state};
+ghost use Rattle.sqlite.specs.State.{IsUnchanged};
+ghost use Rattle.zeb_leaves.specs.PrivateNearCalls.{MayTellBeside, TellsBeside};
+ghost use Rattle.zeb_register.specs.Calls.{Reading};
+ghost use Rattle.zeb_register.specs.Clauses.{IsReasoned};
+ghost use Rattle.zeb_register.specs.Formats.{packed_leaves};
+ghost use Rattle.zeb_register.specs.Terms.{TellsBefore, TellsFrom};
+
+use crate::covering::leaf_at;
+use crate::first_terms::first_within;
+use crate::last_terms::last_within;
+use crate::statements::some_row;
+use sqlite::{Alter, Connection, Row};
+use std::alloc::Global;
+use zeb_register::{RegFault, RegisterOf, TermCount};
+
+/// On which side of a text terms are asked for.
+#[derive(Debug, Drop)]
+pub(crate) enum Side {
+    /// From the text on. This leaf covers its first block.
+    From(Row),
+    /// Below the text.
+    Below,
+}
+
+/// The leaves that are read first.
+const FEW: u32 = 4;
+
+/// The `n` terms of the side that are nearest to the start, by at most `limit` leaves there. `None` where more leaves have to be read.
+fn terms_within<S: Alter>(
+    alloc: Global,
+    conn: &mut Connection<S>,
+    at: RegisterOf,
+    side: &Side,
+    start: &str,
+    n: u64,
+    limit: u32,
+) -> Result<Option<Vec<TermCount>>, RegFault>
+    requires { (1 ≤ n) × (1 ≤ limit) }
+    ensures call { Reading (state S.Store conn.old) (state S.Store conn.new) result
+        (λ _. IsUnchanged) }
+    ensures tells { MayTellBeside at start.now n side.now (state S.Store conn.old)
+        (state S.Store conn.new) result }
+{
+    match side {
+        Side::From(leaf) => first_within(alloc, conn, at, leaf, start, n, limit),
+        Side::Below => last_within(alloc, conn, at, start, n, limit),
+    }
+}
+
+/// The `n` terms of the side that are nearest to the start.
+fn terms_beside<S: Alter>(
+    alloc: Global,
+    conn: &mut Connection<S>,
+    at: RegisterOf,
+    side: &Side,
+    start: &str,
+    n: u64,
+) -> Result<Vec<TermCount>, RegFault>
+    requires { 1 ≤ n }
+    ensures call { Reading (state S.Store conn.old) (state S.Store conn.new) result
+        (λ _. IsUnchanged) }
+    ensures tells { TellsBeside at start.now n side.now (state S.Store conn.old)
+        (state S.Store conn.new) result }
+{
+    let mut limit = FEW;
+    'turns: for _turn in 0..u32::BITS {
+        if let Some(counts) = terms_within(alloc, conn, at, side, start, n, limit)? {
+            return Ok(counts);
+        }
+        limit = limit.saturating_mul(2);
+    }
+    // So many leaves no memory holds.
+    Err(RegFault::Memory)
+}
+
+/// No terms. A closed connection is refused also where none is asked for.
+fn no_terms<S: Alter>(
+    alloc: Global,
+    conn: &mut Connection<S>,
+    at: RegisterOf,
+) -> Result<Vec<TermCount>, RegFault>
+    ensures call { Reading (state S.Store conn.old) (state S.Store conn.new) result
+        (λ list a b. (list.items ≡ []) × IsUnchanged a b) }
+    ensures honest { result ≢ Err RegFault.Damaged }
+    ensures refused { IsReasoned (state S.Store conn.old) (state S.Store conn.new) result }
+{
+    some_row(conn, at)?;
+    Ok(Vec::new(alloc))
+}
+
+/// The first `n` terms of a register that are not below `start` and that some record has, in the order of their bytes, each with the number
+/// of these records. The leaves that have to be read are held at once. `Damaged` only by one of these terms.
+pub fn terms_from<S: Alter>(
+    alloc: Global,
+    conn: &mut Connection<S>,
+    at: RegisterOf,
+    start: &str,
+    n: u64,
+) -> Result<Vec<TermCount>, RegFault>
+    ensures call { Reading (state S.Store conn.old) (state S.Store conn.new) result
+        (λ _. IsUnchanged) }
+    ensures units { TellsFrom packed_leaves at start.now n (state S.Store conn.old)
+        (state S.Store conn.new) result }
+{
+    if n == 0 {
+        return no_terms(alloc, conn, at);
+    }
+    match leaf_at(conn, at, start, 0)? {
+        Some(leaf) => terms_beside(alloc, conn, at, &Side::From(leaf), start, n),
+        None => Ok(Vec::new(alloc)),
+    }
+}
+
+/// The last `n` terms of a register that are below `start` and that some record has, in the order of their bytes, each with the number of
+/// these records. The leaves that have to be read are held at once. `Damaged` only by one of these terms.
+pub fn terms_before<S: Alter>(
+    alloc: Global,
+    conn: &mut Connection<S>,
+    at: RegisterOf,
+    start: &str,
+    n: u64,
+) -> Result<Vec<TermCount>, RegFault>
+    ensures call { Reading (state S.Store conn.old) (state S.Store conn.new) result
+        (λ _. IsUnchanged) }
+    ensures units { TellsBefore packed_leaves at start.now n (state S.Store conn.old)
+        (state S.Store conn.new) result }
+{
+    if n == 0 || start.is_empty() {
+        return no_terms(alloc, conn, at);
+    }
+    terms_beside(alloc, conn, at, &Side::Below, start, n)
+}

@@ -1,0 +1,173 @@
+//! The lines of the input on a register that is open: they are run, and it is closed behind the last.
+
+ghost use Rattle.std.specs.Prelude.{◌≡◌, ◌≢◌, false, true, IfOk, OnErr};
+ghost use Rattle.std.specs.Io.KnownBytes.{IsAtEnd};
+ghost use Rattle.zeb_change.specs.Conditions.{conditions};
+ghost use Rattle.zeb_register.specs.Formats.{version_of};
+ghost use Rattle.zeb_program.specs.PrivateWordRuns.{ClosesAloud, EndsSession, RunsIn, ServesIn, StopsIn, StopsServing, format_of};
+
+use crate::batch::run_lines;
+use crate::failures::tell_closed;
+use crate::opening::{OpenRegister, UsedLayout};
+use crate::outputs::Output;
+use crate::performing::close_register;
+use crate::script::Batch;
+use crate::shell::serve_lines;
+use crate::sinks::Sink;
+use crate::statuses::Status;
+use std::alloc::{AllocError, Global};
+use std::io::Write;
+use zeb_engine::Session;
+use zeb_leaves::Leaves;
+use zeb_marc::Source;
+use zeb_paths::Paths;
+use zeb_register::Layout;
+
+/// Runs the lines of a batch on a register that is open, and closes it.
+pub fn run_on<W: Write, V: Write, P: Paths>(
+    alloc: Global,
+    register: OpenRegister<P::Store>,
+    paths: &P,
+    batch: Batch<'_>,
+    output: &mut Sink<W>,
+    fault_output: &mut Sink<V>,
+) -> Result<Status, AllocError>
+    ensures answer { IfOk result (λ status. output.new.failed ≡ false
+        → fault_output.new.failed ≡ false → RunsIn P.Store.Store (P.leaves paths.now)
+        (P.tells paths.now) (format_of register.1)
+        (conditions (version_of (format_of register.1)) register.0.profile register.0.limits)
+        batch.entry.lines_before batch.entry.text.now register.0.connection
+        (W.contents output.old.writer) (W.contents output.new.writer)
+        (V.contents fault_output.old.writer) (V.contents fault_output.new.writer) status) }
+    ensures stopped { OnErr result (output.new.failed ≡ false → fault_output.new.failed ≡ false
+        → StopsIn P.Store.Store (P.leaves paths.now) (P.tells paths.now)
+        (conditions (version_of (format_of register.1)) register.0.profile register.0.limits)
+        batch.entry.lines_before batch.entry.text.now
+        register.0.connection (W.contents output.old.writer) (W.contents output.new.writer)
+        (V.contents fault_output.old.writer) (V.contents fault_output.new.writer)) }
+{
+    let (session, layout) = register;
+    match layout {
+        UsedLayout::Blocks => run_in(alloc, session, paths, batch, output, fault_output),
+        UsedLayout::Leaves => {
+            let session = session.to_layout::<Leaves>();
+            run_in(alloc, session, paths, batch, output, fault_output)
+        }
+    }
+}
+
+/// Runs the lines of a batch in a session, and closes its register.
+fn run_in<L: Layout, W: Write, V: Write, P: Paths>(
+    alloc: Global,
+    session: Session<P::Store, L>,
+    paths: &P,
+    batch: Batch<'_>,
+    output: &mut Sink<W>,
+    fault_output: &mut Sink<V>,
+) -> Result<Status, AllocError>
+    ensures answer { IfOk result (λ status. output.new.failed ≡ false
+        → fault_output.new.failed ≡ false → RunsIn P.Store.Store (P.leaves paths.now)
+        (P.tells paths.now) L.format
+        (conditions (version_of L.format) session.profile session.limits)
+        batch.entry.lines_before batch.entry.text.now session.connection
+        (W.contents output.old.writer) (W.contents output.new.writer)
+        (V.contents fault_output.old.writer) (V.contents fault_output.new.writer) status) }
+    ensures stopped { OnErr result (output.new.failed ≡ false → fault_output.new.failed ≡ false
+        → StopsIn P.Store.Store (P.leaves paths.now) (P.tells paths.now)
+        (conditions (version_of L.format)
+        session.profile session.limits) batch.entry.lines_before batch.entry.text.now
+        session.connection (W.contents output.old.writer) (W.contents output.new.writer)
+        (V.contents fault_output.old.writer) (V.contents fault_output.new.writer)) }
+{
+    let mut session = session;
+    let answered = run_lines(alloc, &mut session, paths, batch, output);
+    end_session(paths, session, answered, fault_output)
+}
+
+/// Serves the lines of the input on a register that is open, and closes it behind the last.
+pub fn serve_on<R: Source, W: Output, V: Write, P: Paths>(
+    alloc: Global,
+    register: OpenRegister<P::Store>,
+    paths: &P,
+    input: &mut R,
+    output: &mut Sink<W>,
+    fault_output: &mut Sink<V>,
+) -> Result<Status, AllocError>
+    requires { R.has_failed input.old ≡ false }
+    ensures failed_read { R.has_failed input.new ≡ true
+        → IfOk result (λ status. status ≡ Status.Failed) }
+    ensures whole { IfOk result (λ status. status ≢ Status.Failed
+        → IsAtEnd (R.remaining input.new)) }
+    ensures answer { IfOk result (λ status. output.new.failed ≡ false
+        → fault_output.new.failed ≡ false → ServesIn P.Store.Store (P.leaves paths.now)
+        (P.tells paths.now) (format_of register.1)
+        (conditions (version_of (format_of register.1)) register.0.profile register.0.limits)
+        (R.remaining input.old) (R.remaining input.new) (R.has_failed input.new)
+        register.0.connection (W.contents output.old.writer) (W.contents output.new.writer)
+        (V.contents fault_output.old.writer) (V.contents fault_output.new.writer) status) }
+    ensures stopped { OnErr result (output.new.failed ≡ false → fault_output.new.failed ≡ false
+        → StopsServing P.Store.Store (P.leaves paths.now) (P.tells paths.now) (format_of register.1)
+        (conditions (version_of (format_of register.1)) register.0.profile register.0.limits)
+        (R.remaining input.old) (R.remaining input.new)
+        register.0.connection (W.contents output.old.writer) (W.contents output.new.writer)
+        (V.contents fault_output.old.writer) (V.contents fault_output.new.writer)) }
+{
+    let (session, layout) = register;
+    match layout {
+        UsedLayout::Blocks => serve_in(alloc, session, paths, input, output, fault_output),
+        UsedLayout::Leaves => {
+            let session = session.to_layout::<Leaves>();
+            serve_in(alloc, session, paths, input, output, fault_output)
+        }
+    }
+}
+
+/// Serves the lines of the input in a session, and closes its register behind the last.
+fn serve_in<L: Layout, R: Source, W: Output, V: Write, P: Paths>(
+    alloc: Global,
+    session: Session<P::Store, L>,
+    paths: &P,
+    input: &mut R,
+    output: &mut Sink<W>,
+    fault_output: &mut Sink<V>,
+) -> Result<Status, AllocError>
+    requires { R.has_failed input.old ≡ false }
+    ensures failed_read { R.has_failed input.new ≡ true
+        → IfOk result (λ status. status ≡ Status.Failed) }
+    ensures whole { IfOk result (λ status. status ≢ Status.Failed
+        → IsAtEnd (R.remaining input.new)) }
+    ensures answer { IfOk result (λ status. output.new.failed ≡ false
+        → fault_output.new.failed ≡ false → ServesIn P.Store.Store (P.leaves paths.now)
+        (P.tells paths.now) L.format
+        (conditions (version_of L.format) session.profile session.limits)
+        (R.remaining input.old) (R.remaining input.new) (R.has_failed input.new)
+        session.connection (W.contents output.old.writer) (W.contents output.new.writer)
+        (V.contents fault_output.old.writer) (V.contents fault_output.new.writer) status) }
+    ensures stopped { OnErr result (output.new.failed ≡ false → fault_output.new.failed ≡ false
+        → StopsServing P.Store.Store (P.leaves paths.now) (P.tells paths.now) L.format
+        (conditions (version_of L.format)
+        session.profile session.limits) (R.remaining input.old) (R.remaining input.new)
+        session.connection (W.contents output.old.writer) (W.contents output.new.writer)
+        (V.contents fault_output.old.writer) (V.contents fault_output.new.writer)) }
+{
+    let mut session = session;
+    let answered = serve_lines(alloc, &mut session, paths, input, output, fault_output);
+    end_session(paths, session, answered, fault_output)
+}
+
+/// Closes the register of a session whose lines are answered so, tells where not all stands in its one file then, and answers the
+/// greatest status.
+fn end_session<L: Layout, V: Write, P: Paths>(
+    paths: &P,
+    session: Session<P::Store, L>,
+    answered: Result<Status, AllocError>,
+    fault_output: &mut Sink<V>,
+) -> Result<Status, AllocError>
+    ensures sound { fault_output.new.failed ≡ false → fault_output.old.failed ≡ false }
+    ensures ends { EndsSession answered result (ClosesAloud P.Store.Store (P.leaves paths.now)
+        session.connection fault_output.new.failed (V.contents fault_output.old.writer)
+        (V.contents fault_output.new.writer)) }
+{
+    let closed = tell_closed(close_register(paths, session), fault_output);
+    Ok(answered?.max(closed))
+}
