@@ -121,6 +121,7 @@ class Made:
         self.fields = [maker.fields(it) for it in range(1, number + 1)]
         changed = [[*it, ("650", f" 0{BEFORE_CODE}a{maker.text(3)}{BEFORE_CODE}x{maker.text(2)}")] for it in self.fields[::10]]
         self.words = maker.words
+        self.rare = [own_word(it) for it in range(3, 8)]
         self.all = write(folder / "all.mrc", self.fields)
         self.changed = write(folder / "changed.mrc", changed)
         self.taken = write(folder / "taken.mrc", self.fields[5::10])

@@ -109,7 +109,17 @@ class Ours:
         self.folder, self.program = folder, program
         self.file, self.log = folder / "made.db", folder / "made.db-wal"
         (folder / "zebra.cfg").write_text("store made.db\nidentifier 001\n" + rules, encoding="utf-8")
-        self.run("init", *(["--leaves"] if leaves else []))
+        self.flags = ["--leaves"] if leaves else []
+        self.begin()
+
+    def is_in_leaves(self):
+        return bool(self.flags)
+
+    def begin(self):
+        """A register without records, in a new file."""
+        for it in (self.file, self.log):
+            it.unlink(missing_ok=True)
+        self.run("init", *self.flags)
 
     def run(self, *words):
         return ran([self.program, *words], self.folder, [self.log])
@@ -136,6 +146,10 @@ class Ours:
     def opening(self):
         """What a session without a line takes: the least of three."""
         return min((self.batch([]) for _ in range(3)), key=lambda it: it.processor)
+
+    def find(self):
+        """What a find by words takes, a run of its own: the least of three."""
+        return min((self.run("find", "@attr 1=4 the") for _ in range(3)), key=lambda it: it.clock)
 
     def session(self):
         return Shell(self.program, self.folder)
@@ -181,7 +195,7 @@ class Shell:
 SETTINGS = """profilePath: {folder}:/usr/share/idzebra-2.0/tab
 attset: made.att
 recordType: grs.marcxml.made
-recordId: (bib1,Local-number)
+recordId: (bib1,{identifier})
 register: {folder}/register:20G
 lockDir: {folder}/lock
 keyTmpDir: {folder}/keys
@@ -195,6 +209,17 @@ storeData: 1
 ABS = "encoding utf-8\nname made\nattset made.att\nesetname F @\nmarc usmarc.mar\nxpath disable\n"
 
 
+def with_target(targets, target):
+    """The targets and one more, where it isn't among them: Zebra would index the same twice."""
+    return targets if target in targets.split(",") else f"{targets},{target}"
+
+
+def index_of_identifier(rules):
+    """The index that has the field 001."""
+    [targets] = [it.split()[2] for it in rules.splitlines() if it.startswith("melm 001 ")]
+    return targets.split(",")[0]
+
+
 def as_zebra_has_them(rules):
     """The lines of an .att and of an .abs file that mean what the profile's lines do.
 
@@ -203,7 +228,7 @@ def as_zebra_has_them(rules):
     """
     lines = [it.split() for it in rules.splitlines() if it and not it.startswith("#")]
     [everywhere] = [it[1] for it in lines if it[0] == "all"]
-    elements = [[*it[:2], it[2] if it[1].startswith("00") else f"{it[2]},{everywhere}"] for it in lines if it[0] == "melm"]
+    elements = [[*it[:2], it[2] if it[1].startswith("00") else with_target(it[2], everywhere)] for it in lines if it[0] == "melm"]
     elements.append(["xelm", "/*/datafield/subfield", everywhere])
     uses = [it for it in lines if it[0] == "att"]
     return ["".join(" ".join(it) + "\n" for it in some) for some in (uses, elements)]
@@ -214,13 +239,19 @@ class Zebra:
 
     def __init__(self, rules, folder, shadow=False):
         self.folder, self.shadow = folder, shadow
-        for it in ("register", "lock", "keys", "sets", "shadow"):
-            (folder / it).mkdir(parents=True)
-        settings = SETTINGS.format(folder=folder) + (f"shadow: {folder}/shadow:20G\n" if shadow else "")
+        folder.mkdir()
+        settings = SETTINGS.format(folder=folder, identifier=index_of_identifier(rules)) + (f"shadow: {folder}/shadow:20G\n" if shadow else "")
         (folder / "zebra.cfg").write_text(settings, encoding="utf-8")
         uses, elements = as_zebra_has_them(rules)
         (folder / "made.att").write_text("name made\nreference Bib-1\n" + uses, encoding="utf-8")
         (folder / "made.abs").write_text(ABS + elements, encoding="utf-8")
+        self.begin()
+
+    def begin(self):
+        """A register without records, in new folders."""
+        for it in ("register", "lock", "keys", "sets", "shadow"):
+            shutil.rmtree(self.folder / it, ignore_errors=True)
+            (self.folder / it).mkdir()
         self.run("init")
 
     def run(self, *words):

@@ -36,14 +36,14 @@ find -x -> refused
 update -- -a b -> zebra.cfg Default Update { paths: ["-a", "b"], shows: false }
 update -a -> refused
 # The program's own checks.
--d a:b stat -> bad usage
-create a:b -> bad usage
-create café -> bad usage
-create / -> bad usage
-create  -> bad usage
-scan --number 3 --position 4 x -> bad usage
--s stat -> bad usage
--s shell -> bad usage
+-d a:b stat -> bad usage: Name
+create a:b -> bad usage: Name
+create café -> bad usage: Name
+create / -> bad usage: Name
+create  -> bad usage: Name
+scan --number 3 --position 4 x -> bad usage: PastNumber
+-s stat -> bad usage: ShowsElsewhere
+-s shell -> bad usage: ShowsElsewhere
 reindex Default -> refused
 # The parser's.
 find -> refused
@@ -57,6 +57,9 @@ nothing -> refused
 -V -> refused
 find --version x -> refused
 --help -> help
+help -> help
+help find -> refused
+-d Books help -> refused
 find --help -> help
 --version -> version
 -d Books --version find -> version"#;
@@ -81,11 +84,19 @@ fn shown(rt: &impl AllocGlobal, line: &str) -> Result<String, AllocError> {
             words.database.as_str(),
             words.act
         ),
-        Err(Usage::BadUsage) => String::from_str(rt.alloc(), "bad usage"),
-        Err(Usage::Refused(_)) => String::from_str(rt.alloc(), "refused"),
+        Err(Usage::BadUsage(why)) => format!(in rt.alloc(); "bad usage: {why:?}"),
+        Err(Usage::Refused(text)) => refused(rt, text),
         Err(Usage::Help(text)) => help_or_version(rt, text),
         Err(Usage::Memory) => Err(AllocError),
     }
+}
+
+/// That it is refused, or the text itself where the parser's advice is in it.
+fn refused(rt: &impl AllocGlobal, text: String) -> Result<String, AllocError> {
+    if text.as_str().contains("tip:") {
+        return Ok(text);
+    }
+    String::from_str(rt.alloc(), "refused")
 }
 
 /// That it is help or the version, or else the text itself.

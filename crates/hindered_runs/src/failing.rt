@@ -73,7 +73,8 @@ static WORDS: &str = "\
 find|@attr 1=4 moby -> hits 1; 1 a1
 drop|X -> 1: diagnostic 235 at 0: X
 update|missing -> 3: cannot read missing
-create|a/b -> 2: bad usage";
+create|a/b -> 2: bad usage; \
+2: cause: a database's name has 1 to 64 ASCII letters, digits, '-', '_' and '.', and no others";
 
 /// The input fails behind each of its bytes, of which so many are given at a time. A shell has answered the lines before; else none is run.
 fn reads_fail(rt: &(impl Abort + AllocGlobal), words: &str, lines: &str, most: usize) -> Done {
@@ -84,10 +85,10 @@ fn reads_fail(rt: &(impl Abort + AllocGlobal), words: &str, lines: &str, most: u
         let count = if words == "shell" { ended } else { 0 };
         let mut row = Row::of_lines(rt.alloc(), words, lines, count)?;
         let begin = if words.is_empty() { "zebraidx" } else { "3" };
-        let cause = if words == "shell" {
-            "; 3: cause: a read failed"
-        } else {
+        let cause = if words.is_empty() {
             ""
+        } else {
+            "; 3: cause: a read failed"
         };
         row.add(
             "",

@@ -1,5 +1,5 @@
 -- What follows from what a change does with files (`FoldsFiles`): what the calls above draw from it.
-use Rattle.zeb_change.proofs.Cited.{◌≡◌, ◌≢◌, ◌+◌, ◌<◌, ◌≤◌, ℕ, ℤ, List, [], ◌∷◌, ◌++◌, length, Result, Ok, Err, OnOk, inl, inr, refl, subst, arith, flat_map, State, Has, Split, Format, IsStore, Fold, Pending, Refusal, Damaged, Setting, Base, Kept, IsFilesCost, IsWorkFor, AllFindWhole, FirstFindsWhole, PassesOn, Progress, files_folded, HoldsSome, IsDueFor, IsNothingNoted, WillBe, standing, IsRefusedFor, LosesNamedAlone, FoldsFiles, TakesFiles, ThenSettles, at, Meets, Why, why_of, IsFolded, IsUnderWay, StandsFor, conditions_of}
+use Rattle.zeb_change.proofs.Cited.{◌≡◌, ◌≢◌, ◌+◌, ◌<◌, ◌≤◌, ℕ, ℤ, List, [], ◌∷◌, ◌++◌, length, Result, Ok, Err, OnOk, inl, inr, refl, subst, arith, flat_map, State, Has, Split, Format, IsStore, works_for, Fold, Pending, Refusal, Damaged, Setting, Base, Kept, IsFilesCost, AllFindWhole, FirstFindsWhole, PassesOn, Progress, files_folded, HoldsSome, IsDueFor, IsNothingNoted, WillBe, standing, IsRefusedFor, LosesNamedAlone, FoldsFiles, TakesFiles, ThenSettles, at, Meets, Why, why_of, IsFolded, IsUnderWay, StandsFor, conditions_of}
 use Rattle.zeb_change.proofs.AcceptLaws.{IsAccepted, accepts_files, accepts_settled, showing, slices_in}
 use Rattle.zeb_change.proofs.CostLaws.{files_cost}
 use Rattle.zeb_change.proofs.CostLemmas.{due_end}
@@ -156,7 +156,7 @@ module _ (setting : Setting) (format : Format) (row_work : ℕ) (db : ℤ) (spli
     -- ---- what it costs
 
     pub works : Folds (Ok tt) → (p : Progress) → StandsFor fold p → IsUnderWay format setting.profile.now db records_of a p.base
-        → (n : ℕ) × IsFilesCost (conditions_of version setting) setting.kind 1 splits p n × IsWorkFor row_work n fold.progress.work folded.progress.work
+        → (n : ℕ) × IsFilesCost (conditions_of version setting) setting.kind 1 splits p n × works_for format row_work n a.now.trees b.now.trees fold.progress.work folded.progress.work
     works f p stands under =
         let old = at a f.none fold in
         let will : folds.IsUnder b version setting format db records_of old p = (stands, under_first f.none f.unnoted p.base under) in
@@ -167,10 +167,12 @@ module _ (setting : Setting) (format : Format) (row_work : ℕ) (db : ℤ) (spli
               (folds.files_take b version setting format db records_of row_work 1 splits old f.changes.0.0 p will (Ok tt) f.changes.0.1),
         )
       where
-        by : (n : ℕ) → IsDueFor row_work n fold.progress.work f.changes.0.0.fold.progress.work f.none f.changes.0.0.pending → (said : Result Progress Why)
-            → Meets (folds.IsFoldedTo b version setting format db records_of (at a f.none fold) f.changes.0.0) said (Ok tt) → IsWorkFor row_work n fold.progress.work folded.progress.work
+        by : (n : ℕ) → IsDueFor format row_work n a.now.trees f.changes.0.0.tables.trees fold.progress.work f.changes.0.0.fold.progress.work f.none f.changes.0.0.pending → (said : Result Progress Why)
+            → Meets (folds.IsFoldedTo b version setting format db records_of (at a f.none fold) f.changes.0.0) said (Ok tt)
+            → works_for format row_work n a.now.trees b.now.trees fold.progress.work folded.progress.work
         by n due (Err why) never = absurd never
         by n due (Ok q) one =
             let taken = f.changes.0 in
             let more = (taken.2.holds one.under_way.1.content (folds.content_storable b version setting format db records_of taken.0 q (one.stands, one.under_way)) one.under_way.1.held).1 in
-            due_end row_work n fold.progress.work taken.0.fold.progress.work folded.progress.work f.none taken.0.pending f.pending taken.2.counts (nothing_count f.none f.unnoted) (nothing_count f.pending f.changes.1) due more
+            due_end format row_work n a.now.trees taken.0.tables.trees b.now.trees fold.progress.work taken.0.fold.progress.work folded.progress.work f.none taken.0.pending f.pending taken.2.counts
+            (nothing_count f.none f.unnoted) (nothing_count f.pending f.changes.1) due more

@@ -11,7 +11,6 @@ pub use Rattle.sqlite_rules.specs.Lists.{Has}
 pub use Rattle.sqlite_trees.proofs.ListLemmas.{all-append}
 pub use Rattle.std.proofs.Common.{◌≡◌, ◌∙◌, ◌+◌, ◌<◌, ◌≤◌, ◌++◌, ℕ, ℤ, List, [], ◌∷◌, Option, Some, None, Ok, inl, inr, refl, sym, ap, subst, arith, ◌≢◌, ◌⊎◌, not, ◌↔◌, map, length, Result, Err, IfErr, OnOk, ◌*◌, ◌^◌, subst₂, pos, IsUtf8, if◌then◌else◌, zero, suc, Bool, true, false, drop, get_or, set, length-set, get_or-set_other, get_or-set_same, nat_le, find, Equal, Greater, Ordering, slice_get, ◌&&◌, nat_eq, cond, ◌/◌, ◌%◌, length-append, IfOk, filter, is_lt, ap₂, ◌||◌, encode_utf8, encode_utf8_all, All, lit<, rules, take, IsTrue, slice_set, slice_index_or}
 pub use Rattle.std.proofs.Math.ListN.{drop_of_length-le}
-pub use Rattle.std.proofs.Math.Nat.{mul-zero, mul-add}
 pub use Rattle.std.proofs.Math.Seq.{drop-cons, split_at}
 pub use Rattle.std.proofs.lemmas.Bool.{cases_order, and_parts, and_from, eqb-true, eq-eqb, cases_lt, lt-ltb, le-ltb, cond-true, cond-false, cases_Bool}
 pub use Rattle.std.proofs.lemmas.Bool.Decides.{nat_tests, Decides-eqb, Decides-int_eq}
@@ -45,7 +44,7 @@ pub use Rattle.ucd_table.proofs.Stepped.{of_ranges, zip_stepped}
 pub use Rattle.ucd_table.specs.Rows.{Range}
 pub use Rattle.zeb_change.specs.Base.{Base, Kept, has_ident, kept_as, with_new, with_bytes, without_ident}
 pub use Rattle.zeb_change.specs.Conditions.{Conditions}
-pub use Rattle.zeb_change.specs.Costs.{IsFilesCost, IsWorkFor, IsCostIn, IsSlicesCost, IsRecordCost, bytes_of, newer_of, occurs_by}
+pub use Rattle.zeb_change.specs.Costs.{IsFilesCost, IsCostIn, IsSlicesCost, IsRecordCost, bytes_of, newer_of, occurs_by}
 pub use Rattle.zeb_change.specs.Elders.{PassesOn, AllFindWhole, FirstFindsWhole, FindsWhole, KeepsWhole, first_record, IsSoOrDamaged, IsUpTo, KeepsWholeTo, AreWholeBefore, IsWholeBefore, first_in}
 pub use Rattle.zeb_change.specs.Folding.{Progress, files_folded, ident_in, Changed, deleted, updated, at_end, slices_folded, ◌then◌, changed_by, with_ident, with_record, counted, file_folded, record_folded, changed_record}
 pub use Rattle.zeb_change.specs.Holding.{HoldsSome}
@@ -66,7 +65,7 @@ pub use Rattle.zeb_change.specs.PrivateRecordChanges.{Steps, point, TurnsRecord,
 pub use Rattle.zeb_change.specs.PrivateRecordFolds.{at, AreReadAs, IsReadAs, TakesReader, TakesReaders}
 pub use Rattle.zeb_change.specs.PrivateRecords.{IsElderAs, elder_bytes, GoesBy, IsWholeElder, IsNewer}
 pub use Rattle.zeb_change.specs.PrivateStanding.{WillBe, standing, WillBeFolded, WillBeTaken, Standing}
-pub use Rattle.zeb_change.specs.PrivateWriting.{IsGivenOf, LacksLeaveFor, PutsNotes, WritesInStore, WritesNotes}
+pub use Rattle.zeb_change.specs.PrivateWriting.{CountsInStore, IsGivenOf, LacksLeaveFor, PutsNotes, WritesInStore, WritesNotes}
 pub use Rattle.zeb_change.specs.Reading.{HasFailedAt, NoneFailed, StayAble}
 pub use Rattle.zeb_change.specs.Reasons.{IsRefusedFor, LosesNamedAlone, AreNamed, HasReasonAt, IsAllowed, IsAtFault, IsNamed, IsNewAt, NamesAny, IsRefusedAt}
 pub use Rattle.zeb_change.specs.RecordChanges.{Point, Turns, AreStores, Accepts, ChangesRecord, HasOccurrences, IsSound, IsWithdrawn, NotesRecord, RefusesTurn, WritesRecords, Answers, RefusesSound, TellsFailure, IsUnsound}
@@ -120,23 +119,23 @@ pub use Rattle.zeb_profile.specs.declared.directives.Directive.{Directive}
 pub use Rattle.zeb_register.proofs.AlikeRows.{AreAlike, alike_back, turns_from, turns_to, allows_alike}
 pub use Rattle.zeb_register.proofs.Calls.{store_same}
 pub use Rattle.zeb_register.proofs.ContentChanges.{changed_at, change_is, same_content, integers_apart, at_sysno, place_total, posting_total, with_list}
-pub use Rattle.zeb_register.proofs.CountLemmas.{rises_then}
 pub use Rattle.zeb_register.proofs.FormatLemmas.{registers_rise, registers_stay}
 pub use Rattle.zeb_register.proofs.ListChanges.{list_changed, posting_is, place_of, content_changed}
 pub use Rattle.zeb_register.proofs.Malformed.{beside_same, beside_seen, beside_then, malformed_same, malformed_seen, malformed_then}
 pub use Rattle.zeb_register.proofs.RisingLists.{never_itself, told_by, same_list}
 pub use Rattle.zeb_register.proofs.RowsAreLists.{one_ident, one_number}
 pub use Rattle.zeb_register.proofs.RunRows.{beside_alike, rows_beside}
+pub use Rattle.zeb_register.proofs.WorkCounts.{works_both, works_none}
 pub use Rattle.zeb_register.specs.Calls.{Alters, GoesOn}
 pub use Rattle.zeb_register.specs.Content.{Content, HasRisingLists, posting_at, ArePlacesOf, Posting, AreListChanges, IsListChanged, OldsRise, place_cmp, posting_cmp, IsStorable, IsChangedAt, IsStorablePosting}
-pub use Rattle.zeb_register.specs.Formats.{Format, holds_in, plain_rows, packed_blocks}
+pub use Rattle.zeb_register.specs.Formats.{Format, holds_in, plain_rows, packed_blocks, packed_leaves}
 pub use Rattle.zeb_register.specs.Kept.{IsElderOf, AreNumbered}
 pub use Rattle.zeb_register.specs.RunChanges.{IsAmong, IsCountAmong, IsOwnCount, KeysRise, PutsKeys, TurnsAny, puts_run_rows, run_key, IsRun, changes_in, AreChangedBy, ChangesKeys, IsOfRun}
 pub use Rattle.zeb_register.specs.Sound.{KeepsRowsBeside, keeps_malformed}
 pub use Rattle.zeb_register.specs.Sql.{KeepsOthers, Loses, Replaces}
 pub use Rattle.zeb_register.specs.Store.{IsStore, KeepsLists, Changes, HasNumber, HasRecord, SharesRecord, databases_tree, meta_tree, record_row, records_tree, KeepsRegisters, blocks_tree, dict_tree, postings_tree}
 pub use Rattle.zeb_register.specs.Tables.{store_schema}
-pub use Rattle.zeb_register.specs.Tallies.{AreInRange, Rises}
+pub use Rattle.zeb_register.specs.Tallies.{AreInRange, CountsNothing, works_for}
 pub use Rattle.zeb_register.specs.UnitChanges.{IsBlockAmong, IsOwnBlock, IsOwnPlace, IsPlaceAmong, KeepsBut, NumbersRise}
 pub use Rattle.zeb_register.specs.declared.faults.RegFault.{RegFault}
 pub use Rattle.zeb_register.specs.declared.kept.Elder.{Elder}

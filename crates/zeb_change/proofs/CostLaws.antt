@@ -2,6 +2,7 @@
 use Rattle.zeb_change.proofs.Cited.{◌≡◌, ◌+◌, ℕ, ℤ, List, [], ◌∷◌, Option, Some, None, Result, Ok, Err, inl, inr, refl, sym, subst, arith, State, MarcFault, Split, Work, Format, Setting, Kept, IsCostIn, IsFilesCost, IsSlicesCost, Progress, IsDueFor, noted_count, AreInRange, At, TakesFiles, TakesRecord, TakesRest, point_in, Meets, Why, conditions_of, file_folded, record_folded}
 use Rattle.zeb_change.proofs.CostLemmas.{due_more, due_noted, due_then}
 use Rattle.zeb_change.proofs.FoldLaws.{IsFoldedTo, IsUnder, content_storable, file_takes, record_folds, record_takes, showing}
+use Rattle.zeb_change.proofs.FoldParts.{folded_blocks}
 use Rattle.zeb_change.proofs.RecordLaws as law
 
 module _ (s : State) (version : List ℕ) (setting : Setting) (format : Format) (row_work : ℕ) (db : ℤ) (records_of : ℤ → List Kept) where
@@ -13,14 +14,19 @@ module _ (s : State) (version : List ℕ) (setting : Setting) (format : Format) 
 
   -- so many keys have come up, those that were written are counted, and the counts are numbers of their type
   abbrev pub IsDue : ℕ → At → At → Type 0
-  IsDue n old new = IsDueFor row_work n old.fold.progress.work new.fold.progress.work old.pending new.pending × AreInRange new.fold.progress.work
+  IsDue n old new =
+      IsDueFor format row_work n old.tables.trees new.tables.trees old.fold.progress.work new.fold.progress.work old.pending new.pending × AreInRange new.fold.progress.work
 
   none_due : (old new : At) → new ≡ old → AreInRange old.fold.progress.work → IsDue 0 old new
-  none_due old new same are = subst (IsDue 0 old) (sym same) (due_noted row_work 0 old.fold.progress.work old.pending old.pending (omega arith), are)
+  none_due old new same are =
+      subst (IsDue 0 old) (sym same) (due_noted format row_work 0 old.tables.trees old.tables.trees old.fold.progress.work old.pending old.pending refl (omega arith), are)
 
   more_due : (m n : ℕ) (old mid new : At) → IsDue m old mid → IsDue n mid new → IsDue (m + n) old new
-  more_due m n old mid new one two =
-      (due_then row_work m n old.fold.progress.work mid.fold.progress.work new.fold.progress.work old.pending mid.pending new.pending two.1 one.0 two.0, two.1)
+  more_due m n old mid new one two = (
+    due_then format row_work m n old.tables.trees mid.tables.trees new.tables.trees old.fold.progress.work mid.fold.progress.work new.fold.progress.work
+        old.pending mid.pending new.pending two.1 one.0 two.0,
+    two.1,
+  )
 
   -- one record
   record_costs : (file nth : ℕ) (bytes : List ℕ) (old new : At) (p : Progress) → Under old p → TakesRecord setting format row_work db file nth bytes old new (Ok tt)
@@ -38,12 +44,13 @@ module _ (s : State) (version : List ℕ) (setting : Setting) (format : Format) 
       )
     where
       by : (n : ℕ) → noted_count takes.0.pending ≡ noted_count old.pending + n → (said : Result Progress Why) → Meets (Folded old takes.0) said (Ok tt)
-          → IsDueFor row_work n old.fold.progress.work new.fold.progress.work old.pending new.pending
+          → IsDueFor format row_work n old.tables.trees new.tables.trees old.fold.progress.work new.fold.progress.work old.pending new.pending
       by n more (Err why) never = absurd never
       by n more (Ok q) one =
           let due = (takes.2.holds one.under_way.1.content (content_storable s version setting format db records_of takes.0 q (one.stands, one.under_way)) one.under_way.1.held).1 in
-          due_more row_work n old.fold.progress.work new.fold.progress.work old.pending takes.0.pending new.pending more
-          (subst (λ (w : Work). IsDueFor row_work 0 w new.fold.progress.work takes.0.pending new.pending) takes.1.1.3 due)
+          due_more format row_work n old.tables.trees takes.0.tables.trees new.tables.trees old.fold.progress.work new.fold.progress.work old.pending takes.0.pending new.pending takes.2.counts
+          (folded_blocks setting db file nth bytes old takes.0 takes.1) more
+          (subst (λ (w : Work). IsDueFor format row_work 0 takes.0.tables.trees new.tables.trees w new.fold.progress.work takes.0.pending new.pending) takes.1.1.3 due)
 
   pub rest_costs : (file : ℕ) (slices : List (List ℕ)) (fault : Option MarcFault) (nth : ℕ) (old new : At) (p : Progress) → Under old p → AreInRange old.fold.progress.work
       → TakesRest setting format row_work db file nth (record { slices = slices; fault = fault }) old new (Ok tt)

@@ -1,58 +1,63 @@
 -- What is counted for the keys of records, one record after the other.
-use Rattle.zeb_change.proofs.Cited.{◌≡◌, ◌↔◌, ◌∙◌, ◌+◌, ◌*◌, ◌<◌, ◌^◌, ℕ, List, [], Option, Some, None, Result, Ok, Err, OnOk, map, length, inl, inr, refl, sym, ap, subst, subst₂, arith, mul-zero, mul-add, length-map, Contains, has_contained, contains_had, has_mapped, Occurrence, Place, Work, Rises, rises_then, same_list, ChangedKey, Directive, Elder, place_total, Base, kept_as, IsElderAs, elder_bytes, AreOccurrencesOf, IsRecordCost, IsWorkFor, bytes_of, newer_of, occurs_by, IsCostIn, Kind, ident_in, Pending, IsDueFor, IsNothingNoted, noted_count, AreInRange, occurrence_at, AreChangedKeys, key_in}
+use Rattle.zeb_change.proofs.Cited.{◌≡◌, ◌↔◌, ◌∙◌, ◌+◌, ℕ, List, [], Option, Some, None, Result, Ok, Err, OnOk, map, length, inl, inr, refl, sym, ap, subst, subst₂, arith, length-map, Contains, has_contained, contains_had, has_mapped, Row, Trees, Occurrence, Place, Work, Format, plain_rows, packed_blocks, packed_leaves, blocks_tree, works_both, works_for, works_none, same_list, ChangedKey, Directive, Elder, place_total, Base, kept_as, IsElderAs, elder_bytes, AreOccurrencesOf, IsRecordCost, bytes_of, newer_of, occurs_by, IsCostIn, Kind, ident_in, Pending, IsDueFor, IsNothingNoted, noted_count, AreInRange, occurrence_at, AreChangedKeys, key_in}
 use Rattle.std.specs.List.Sorted.{IsStrictlySortedBy}
 use Rattle.zeb_change.proofs.NotedChanges.{nothing_count}
 use Rattle.zeb_change.proofs.ChangeKeysContent.{told_key}
 
 -- ---- counts
 
-none_more : (w old : ℕ) → Rises (w * 0) old old
-none_more w old = inl (omega (arith, mul-zero w))
+module _ (format : Format) (row_work : ℕ) where
+  -- changes that are noted are due, beside leaves that stay
+  pub due_noted : (n : ℕ) (old new : Trees) (work : Work) (before after : Pending) → new blocks_tree ≡ old blocks_tree → noted_count after ≡ noted_count before + n
+      → IsDueFor format row_work n old new work work before after
+  due_noted n old new work before after same more = (0, works_none format row_work old new work same, omega (arith, more))
 
-pub no_work : (w : ℕ) (work : Work) → IsWorkFor w 0 work work
-no_work w work = record { reads_terms = none_more w _; writes_terms = none_more w _; reads_blocks = none_more w _; writes_blocks = none_more w _ }
+  pub due_then : (a b : ℕ) (old mid new : Trees) (was then is : Work) (before between after : Pending) → AreInRange is → IsDueFor format row_work a old mid was then before between
+      → IsDueFor format row_work b mid new then is between after → IsDueFor format row_work (a + b) old new was is before after
+  due_then a b old mid new was then is before between after are one two =
+      (one.0 + two.0, works_both format row_work one.0 two.0 old mid new was then is are one.1 two.1, omega (arith, one.2, two.2))
 
-pub works_then : (w a b : ℕ) (old mid new : Work) → AreInRange new → IsWorkFor w a old mid → IsWorkFor w b mid new → IsWorkFor w (a + b) old new
-works_then w a b old mid new are one two = record {
-  reads_terms = rises old.dict_read mid.dict_read new.dict_read are.dict_read one.reads_terms two.reads_terms;
-  writes_terms = rises old.dict_written mid.dict_written new.dict_written are.dict_written one.writes_terms two.writes_terms;
-  reads_blocks = rises old.block_read mid.block_read new.block_read are.block_read one.reads_blocks two.reads_blocks;
-  writes_blocks = rises old.block_written mid.block_written new.block_written are.block_written one.writes_blocks two.writes_blocks;
+  -- changes are noted, and then some are written
+  pub due_more : (n : ℕ) (old mid new : Trees) (was is : Work) (before between after : Pending) → AreInRange is → mid blocks_tree ≡ old blocks_tree → noted_count between ≡ noted_count before + n
+      → IsDueFor format row_work 0 mid new was is between after → IsDueFor format row_work n old new was is before after
+  due_more n old mid new was is before between after are same more due =
+      (0 + due.0, works_both format row_work 0 due.0 old mid new was was is are (works_none format row_work old mid was same) due.1, omega (arith, due.2, more))
+
+  -- a run's changes are written
+  pub due_written : (n : ℕ) (old mid new : Trees) (was then is : Work) (before between after : Pending) → AreInRange is → IsDueFor format row_work 0 old mid was then before between
+      → works_for format row_work n mid new then is → noted_count between ≡ n + noted_count after → IsDueFor format row_work 0 old new was is before after
+  due_written n old mid new was then is before between after are one two more =
+      (one.0 + n, works_both format row_work one.0 n old mid new was then is are one.1 two, omega (arith, one.2, more))
+
+  pub due_nothing : (n : ℕ) (old new : Trees) (was is : Work) (before one two : Pending) → IsNothingNoted one → IsNothingNoted two → IsDueFor format row_work n old new was is before one
+      → IsDueFor format row_work n old new was is before two
+  due_nothing n old new was is before one two none never due =
+      let empty = nothing_count one none in
+      let emptied = nothing_count two never in
+      (due.0, due.1, omega (arith, due.2, empty, emptied))
+
+  -- where nothing is noted at first and nothing at the end, what came up is counted
+  pub due_end : (n : ℕ) (old mid new : Trees) (was then is : Work) (before between after : Pending) → AreInRange is → noted_count before ≡ 0 → noted_count after ≡ 0
+      → IsDueFor format row_work n old mid was then before between → IsDueFor format row_work 0 mid new then is between after → works_for format row_work n old new was is
+  due_end n old mid new was then is before between after are none done one two =
+      let all = due_then n 0 old mid new was then is before between after are one two in
+      let same : all.0 ≡ n = omega (arith, all.2, none, done) in
+      subst (λ m. works_for format row_work m old new was is) same all.1
+
+-- what stands in other tables before and after makes no difference
+pub works_beside : (format : Format) (row_work n : ℕ) (first old new last : Trees) (was is : Work) → old blocks_tree ≡ first blocks_tree → last blocks_tree ≡ new blocks_tree
+    → works_for format row_work n old new was is → works_for format row_work n first last was is
+works_beside plain_rows row_work n first old new last was is before after works = works
+works_beside packed_blocks row_work n first old new last was is before after works = works
+works_beside packed_leaves row_work n first old new last was is before after works = record {
+  reads_terms = works.reads_terms;
+  writes_terms = works.writes_terms;
+  reads_leaves = works.reads_leaves;
+  more = works.more;
+  comes = ap length after ∙ works.comes ∙ ap (λ (rows : List Row). length rows + works.more) before;
+  writes_leaves = works.writes_leaves;
+  unwritten = λ none. elim (works.unwritten none) [ inl full ↦ inl full | inr same ↦ inr (after ∙ same ∙ before) ];
 }
-  where
-    rises : (x y z : ℕ) → z < 2 ^ 64 → Rises (w * a) x y → Rises (w * b) y z → Rises (w * (a + b)) x z
-    rises x y z below first then = subst (λ n. Rises n x z) (sym (mul-add w a b)) (rises_then (w * a) (w * b) x y z below first then)
-
--- changes that are noted are due
-pub due_noted : (w n : ℕ) (work : Work) (before after : Pending) → noted_count after ≡ noted_count before + n → IsDueFor w n work work before after
-due_noted w n work before after more = (0, no_work w work, omega (arith, more))
-
-pub due_then : (w a b : ℕ) (old mid new : Work) (before between after : Pending) → AreInRange new → IsDueFor w a old mid before between → IsDueFor w b mid new between after
-    → IsDueFor w (a + b) old new before after
-due_then w a b old mid new before between after are one two = (one.0 + two.0, works_then w one.0 two.0 old mid new are one.1 two.1, omega (arith, one.2, two.2))
-
--- changes are noted, and then some are written
-pub due_more : (w n : ℕ) (old now : Work) (before between after : Pending) → noted_count between ≡ noted_count before + n → IsDueFor w 0 old now between after → IsDueFor w n old now before after
-due_more w n old now before between after more due = (due.0, due.1, omega (arith, due.2, more))
-
--- a key's changes are written
-pub due_written : (w n : ℕ) (old mid new : Work) (before between after : Pending) → AreInRange new → IsDueFor w 0 old mid before between → IsWorkFor w n mid new
-    → noted_count between ≡ n + noted_count after → IsDueFor w 0 old new before after
-due_written w n old mid new before between after are one two more = (one.0 + n, works_then w one.0 n old mid new are one.1 two, omega (arith, one.2, more))
-
-pub due_nothing : (w n : ℕ) (old now : Work) (before one two : Pending) → IsNothingNoted one → IsNothingNoted two → IsDueFor w n old now before one → IsDueFor w n old now before two
-due_nothing w n old now before one two none never due =
-    let empty = nothing_count one none in
-    let emptied = nothing_count two never in
-    (due.0, due.1, omega (arith, due.2, empty, emptied))
-
--- where nothing is noted at first and nothing at the end, what came up is counted
-pub due_end : (w n : ℕ) (old mid new : Work) (before between after : Pending) → AreInRange new → noted_count before ≡ 0 → noted_count after ≡ 0 → IsDueFor w n old mid before between → IsDueFor w 0 mid new between after
-    → IsWorkFor w n old new
-due_end w n old mid new before between after are none done one two =
-    let all = due_then w n 0 old mid new before between after are one two in
-    let same : all.0 ≡ n = omega (arith, all.2, none, done) in
-    subst (λ m. IsWorkFor w m old new) same all.1
 
 -- ---- keys
 

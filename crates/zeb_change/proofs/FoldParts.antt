@@ -1,5 +1,5 @@
 -- The parts of the fold of files, as calls say them, put together.
-use Rattle.zeb_change.proofs.Cited.{◌≡◌, ◌∙◌, ◌+◌, ◌<◌, ℕ, ℤ, Bool, true, false, List, [], ◌∷◌, drop, get_or, length, map, Option, Some, None, Result, Ok, Err, inl, inr, refl, sym, ap, subst, drop_more, Int, State, MarcFault, Split, a_fault, a_slice, next_of, split_of-next, RegFault, Elder, Work, Format, keeps_malformed, KeepsRowsBeside, IsStore, Fold, Pending, Refusal, Kind, Update, Delete, Adelete, Limits, Setting, Fate, IsSettled, marc_refusal, register_refusal, AreInRange, AreStores, Point, Steps, Turns, Advances, AreReadAs, At, FoldsRecord, IsReadAs, IsUnsettled, OfReaders, SettlesNotes, TakesFiles, TakesReader, TakesReaders, TakesRecord, TakesRest, ThenSettles, at}
+use Rattle.zeb_change.proofs.Cited.{◌≡◌, ◌∙◌, ◌+◌, ◌<◌, ℕ, ℤ, Bool, true, false, List, [], ◌∷◌, drop, get_or, length, map, Option, Some, None, Result, Ok, Err, inl, inr, refl, sym, ap, subst, arith, drop_more, Int, State, Trees, MarcFault, Split, a_fault, a_slice, next_of, split_of-next, RegFault, Elder, Work, Format, keeps_malformed, KeepsOthers, KeepsRowsBeside, IsStore, blocks_tree, records_tree, store_schema, CountsNothing, Fold, Pending, Refusal, Kind, Update, Delete, Adelete, Limits, Setting, Fate, IsSettled, marc_refusal, register_refusal, AreInRange, AreStores, Point, Steps, Turns, Advances, AreReadAs, At, FoldsRecord, IsReadAs, IsUnsettled, OfReaders, SettlesNotes, TakesFiles, TakesReader, TakesReaders, TakesRecord, TakesRest, ThenSettles, at, point_in}
 use Rattle.zeb_marc.specs.Splits.{at_end, split_of}
 use Rattle.zeb_register.specs.declared.faults.RegFault.TheVariants as fault
 use Rattle.zeb_change.specs.declared.records.Progress.{Progress}
@@ -31,21 +31,43 @@ pub folded_stores : (setting : Setting) (db : ℤ) (file nth : ℕ) (bytes : Lis
 folded_stores setting db file nth bytes old new are folds =
     turned_stores setting db folds.1.1.ident bytes setting.kind folds.1.1.elder _ _ folds.1.0 are folds.1.1.done
 
+-- ---- the registers stay as they are when a record is folded in
+
+record_blocks : (old new : Trees) → KeepsOthers store_schema records_tree old new → new blocks_tree ≡ old blocks_tree
+record_blocks old new others = others.1.1.1.1.0 (λ e. absurd (omega (arith, e)))
+
+stay_blocks : (old new : Point) → new ≡ old → new.tables.trees blocks_tree ≡ old.tables.trees blocks_tree
+stay_blocks old new same = ap (λ (p : Point). p.tables.trees blocks_tree) same
+
+turned_blocks : (setting : Setting) (db : ℤ) (ident bytes : List ℕ) (kind : Kind) (elder : Option Elder) (old new : Point) (fate : Fate) → Turns setting db ident bytes kind elder old new fate
+    → new.tables.trees blocks_tree ≡ old.tables.trees blocks_tree
+turned_blocks setting db ident bytes Update None old new fate done = record_blocks old.tables.trees new.tables.trees done.3.rows.others
+turned_blocks setting db ident bytes Update (Some elder) old new fate (inl same) = stay_blocks old new same.2
+turned_blocks setting db ident bytes Update (Some elder) old new fate (inr put) = record_blocks old.tables.trees new.tables.trees put.4.rows.others
+turned_blocks setting db ident bytes Delete None old new fate done = absurd done
+turned_blocks setting db ident bytes Delete (Some elder) old new fate done = record_blocks old.tables.trees new.tables.trees done.3.rows.others
+turned_blocks setting db ident bytes Adelete None old new fate done = stay_blocks old new done.1
+turned_blocks setting db ident bytes Adelete (Some elder) old new fate done = record_blocks old.tables.trees new.tables.trees done.3.rows.others
+
+pub folded_blocks : (setting : Setting) (db : ℤ) (file nth : ℕ) (bytes : List ℕ) (old new : At) → FoldsRecord setting db file nth bytes old new (Ok tt) → new.tables.trees blocks_tree ≡ old.tables.trees blocks_tree
+folded_blocks setting db file nth bytes old new folds = turned_blocks setting db folds.1.1.ident bytes setting.kind folds.1.1.elder (point_in old) (point_in new) folds.1.0 folds.1.1.done
+
 -- ---- how far it goes
 
-pub advanced : (limits : Limits) (row_work : ℕ) (old new : Progress) → Steps limits old new → Advances limits row_work old new
-advanced limits row_work old new steps = record { database = steps.database; most = steps.most; work = λ none. steps.work }
+pub advanced : (limits : Limits) (format : Format) (row_work : ℕ) (old new : Progress) → Steps limits old new → Advances limits format row_work old new
+advanced limits format row_work old new steps = record { database = steps.database; most = steps.most; work = λ none. steps.work }
 
-pub advances_then : (limits : Limits) (row_work : ℕ) (old mid new : Progress) → Advances limits row_work old mid → Advances limits row_work mid new → Advances limits row_work old new
-advances_then limits row_work old mid new one two = record {
+pub advances_then : (limits : Limits) (format : Format) (row_work : ℕ) (old mid new : Progress) → Advances limits format row_work old mid → Advances limits format row_work mid new
+    → Advances limits format row_work old new
+advances_then limits format row_work old mid new one two = record {
   database = two.database ∙ one.database;
   most = λ most below limit. two.most most (one.most most below limit) limit;
   work = λ none. two.work none ∙ one.work none;
 }
 
-pub advances_worked : (limits : Limits) (row_work : ℕ) (old mid : Progress) (work : Work) → Advances limits row_work old mid → (row_work ≡ 0 → work ≡ mid.work)
-    → Advances limits row_work old (record { database = mid.database; last = mid.last; work = work })
-advances_worked limits row_work old mid work one same = record { database = one.database; most = one.most; work = λ none. same none ∙ one.work none }
+pub advances_worked : (limits : Limits) (format : Format) (row_work : ℕ) (old mid : Progress) (work : Work) → Advances limits format row_work old mid → (CountsNothing format row_work → work ≡ mid.work)
+    → Advances limits format row_work old (record { database = mid.database; last = mid.last; work = work })
+advances_worked limits format row_work old mid work one same = record { database = one.database; most = one.most; work = λ none. same none ∙ one.work none }
 
 -- ---- what is noted is written
 

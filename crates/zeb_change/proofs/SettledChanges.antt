@@ -7,7 +7,7 @@ use Rattle.zeb_change.proofs.TermTexts.{posted_storable}
 
 -- what is left as it is
 pub still_settled : (format : Format) (row_work : ℕ) (db : ℤ) (s : State) (pending : Pending) (work : Work) → IsStore s → IsSettled format row_work db s s pending pending work work
-still_settled format row_work db s pending work store = (store, (refl, refl, refl), λ ahead storable holds. (holds, due_noted row_work 0 work pending pending (omega arith)))
+still_settled format row_work db s pending work store = (store, (refl, refl, refl), λ ahead storable holds. (holds, due_noted format row_work 0 s.now.trees s.now.trees work pending pending refl (omega arith)))
 
 -- the fold once some of what is noted is written, with the work of that
 abbrev pub worked : Fold → Work → Fold

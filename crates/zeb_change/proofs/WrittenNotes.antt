@@ -1,5 +1,5 @@
 -- What is noted is written in runs of keys: that is what all keys come to as one run, and the registers hold what they would have held then.
-use Rattle.zeb_change.proofs.Cited.{◌≡◌, ◌∙◌, ◌++◌, ℕ, ℤ, List, [], ◌∷◌, Result, Ok, Err, OnOk, map, sym, subst, inl, inr, AllZip, Has, all_from, has_left, has_mapped, has_right, State, Trees, Int, Key, key_order, RegFault, Work, AreListChanges, OldsRise, Content, Format, holds_in, IsStore, KeepsRowsBeside, keeps_malformed, registers_rise, with_list, KeyNotes, Pending, IsNothingNoted, LeadsList, Settles, IsSettled, IsDueFor, WillHold, notes_at}
+use Rattle.zeb_change.proofs.Cited.{◌≡◌, ◌∙◌, ◌++◌, ℕ, ℤ, List, [], ◌∷◌, Result, Ok, Err, OnOk, map, sym, subst, inl, inr, AllZip, Has, all_from, has_left, has_mapped, has_right, State, Trees, Int, Key, key_order, RegFault, Work, AreListChanges, OldsRise, Content, Format, holds_in, IsStore, KeepsRowsBeside, keeps_malformed, registers_rise, with_list, KeyNotes, Pending, IsNothingNoted, LeadsList, Settles, IsSettled, WillHold, notes_at, CountsInStore, HasCleanDisk, IsTrue}
 use Rattle.std.specs.List.Sorted.{IsStrictlySortedBy}
 use Rattle.zeb_register.specs.declared.faults.RegFault.TheVariants.{Damaged, Memory}
 use Rattle.zeb_register.specs.Answers.{IfDamaged}
@@ -151,23 +151,23 @@ module _ (format : Format) (db : ℤ) (before : Pending) (s t : State) where
   Writes result = WritesInStore format db before.notes.entries s t result
 
   pub settles : (row_work : ℕ) (after : Pending) (work worked : Work) (result : Result (Unit {0}) RegFault) → WorksInside s t result → Writes result
-      → OnOk result (IsNothingNoted after × IsDueFor row_work 0 work worked before after) → Settles format row_work db s t before after work worked result
+      → OnOk result (IsNothingNoted after × CountsInStore format row_work s t work worked before after) → Settles format row_work db s t before after work worked result
   settles row_work after work worked result inside writes all = record {
     stays = inside.stays;
-    written = λ clean mode store. put result (writes clean mode store) all;
+    written = λ clean mode store. put clean mode store result (writes clean mode store) all;
     honest = λ clean mode store told ahead storable will. lacking result (writes clean mode store) told ahead will;
     crash = inside.crash;
   }
     where
-      put : (r : Result (Unit {0}) RegFault) → OnOk r (IsStore t) × WritesNotes format db before.notes.entries s.now.trees t.now.trees r → OnOk r (IsNothingNoted after × IsDueFor row_work 0 work worked before after)
-          → OnOk r (IsSettled format row_work db s t before after work worked)
-      put (Ok done) it noted = (
+      put : HasCleanDisk t → IsTrue s.in_transaction → IsStore s → (r : Result (Unit {0}) RegFault) → OnOk r (IsStore t) × WritesNotes format db before.notes.entries s.now.trees t.now.trees r
+          → OnOk r (IsNothingNoted after × CountsInStore format row_work s t work worked before after) → OnOk r (IsSettled format row_work db s t before after work worked)
+      put clean mode store (Ok done) it noted = (
         it.0,
         it.1.puts.lists,
         λ ahead storable will.
-            (will_begin format t.now.trees db after ahead noted.0 (put_ahead format db before s.now.trees ahead will t.now.trees it.1) storable, noted.1),
+            (will_begin format t.now.trees db after ahead noted.0 (put_ahead format db before s.now.trees ahead will t.now.trees it.1) storable, noted.1 clean mode store),
       )
-      put (Err fault) it noted = tt
+      put clean mode store (Err fault) it noted = tt
 
       lacking : (r : Result (Unit {0}) RegFault) → OnOk r (IsStore t) × WritesNotes format db before.notes.entries s.now.trees t.now.trees r → r ≡ Err Damaged
           → (ahead : Content) → ¬ WillHold format s.now.trees db before ahead

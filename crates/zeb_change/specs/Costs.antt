@@ -1,5 +1,5 @@
 -- What a change costs the registers: for each record, the keys whose places differ between the elder record and the newer one.
-use Rattle.std.specs.Prelude.{◌≡◌, ◌↔◌, ◌+◌, ◌*◌, ℕ, List, [], ◌∷◌, length, Option, Some, None, Ok}
+use Rattle.std.specs.Prelude.{◌≡◌, ◌↔◌, ◌+◌, ℕ, List, [], ◌∷◌, length, Option, Some, None, Ok}
 use Rattle.std.specs.List.{Contains}
 use Rattle.std.specs.List.Sorted.{IsStrictlySortedBy}
 use Rattle.zeb_marc.specs.Records.{fields_of}
@@ -11,17 +11,11 @@ use Rattle.zeb_keys.specs.declared.keys.Key.{Key}
 use Rattle.zeb_keys.specs.declared.keys.Occurrence.{Occurrence}
 use Rattle.zeb_extract.specs.Occurrences.{IsOccurrence}
 use Rattle.zeb_keys.specs.Order.{key_order}
-use Rattle.zeb_register.specs.declared.registers.Work.{Work}
-use Rattle.zeb_register.specs.Tallies.{Works}
 use Rattle.zeb_change.specs.declared.settings.Kind.{Kind}
 use Rattle.zeb_change.specs.declared.settings.Kind.TheVariants.{Update, Delete, Adelete}
 use Rattle.zeb_change.specs.Base.{Base, Kept, kept_as}
 use Rattle.zeb_change.specs.Conditions.{Conditions}
 use Rattle.zeb_change.specs.Folding.{Progress, record_folded, file_folded, ident_in}
-
--- each of the four counts rises by what the layout counts of a row, so many times
-abbrev pub IsWorkFor : ℕ → ℕ → Work → Work → Type 0
-IsWorkFor row_work n old new = Works (row_work * n) (row_work * n) (row_work * n) (row_work * n) old new
 
 -- ---- one record
 

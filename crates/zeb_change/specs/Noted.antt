@@ -12,9 +12,9 @@ use Rattle.zeb_register.specs.declared.registers.Work.{Work}
 use Rattle.zeb_register.specs.Content.{ArePlacesOf, Content, IsListChanged, IsStorable, Posting, place_cmp}
 use Rattle.zeb_register.specs.Formats.{Format, holds_in}
 use Rattle.zeb_register.specs.Store.{IsStore, KeepsLists}
+use Rattle.zeb_register.specs.Tallies.{works_for}
 use Rattle.zeb_change.specs.declared.key_notes.KeyNotes.{KeyNotes}
 use Rattle.zeb_change.specs.declared.pending.Pending.{Pending}
-use Rattle.zeb_change.specs.Costs.{IsWorkFor}
 use Rattle.zeb_change.specs.Inside.{StaysInside}
 use Rattle.zeb_change.specs.NoteWords.{KeyChange, words_of_changes}
 
@@ -72,16 +72,16 @@ pub record WillHold (format : Format) (trees : Trees) (db : ℤ) (pending : Pend
 -- ---- what is written of them
 
 -- So many changes came up. Those that were written are counted, and the others are noted.
-abbrev pub IsDueFor : ℕ → ℕ → Work → Work → Pending → Pending → Type 0
-IsDueFor row_work n old new before after =
-    (written : ℕ) × IsWorkFor row_work written old new × (written + noted_count after ≡ noted_count before + n)
+abbrev pub IsDueFor : Format → (row_work n : ℕ) → (old new : Trees) → (work worked : Work) → (before after : Pending) → Type 0
+IsDueFor format row_work n old new work worked before after =
+    (written : ℕ) × works_for format row_work written old new work worked × (written + noted_count after ≡ noted_count before + n)
 
 -- Some of what is noted is written, and the rest is noted still: the registers will hold what they would have held.
 abbrev pub IsSettled : (format : Format) → ℕ → ℤ → State → State → Pending → Pending → Work → Work → Type 0
 IsSettled format row_work db old new before after work worked =
     IsStore new × KeepsLists old.now.trees new.now.trees
     × ((ahead : Content) → IsStorable ahead → WillHold format old.now.trees db before ahead
-    → WillHold format new.now.trees db after ahead × IsDueFor row_work 0 work worked before after)
+    → WillHold format new.now.trees db after ahead × IsDueFor format row_work 0 old.now.trees new.now.trees work worked before after)
 
 -- What a call does that writes noted changes. It tells damage only of registers that don't hold what the changes say stood there.
 pub record Settles {T : Type 0} (format : Format) (row_work : ℕ) (db : ℤ) (old new : State) (before after : Pending) (work worked : Work) (result : Result T RegFault) : Type 0 where

@@ -1,6 +1,6 @@
 -- What only the contracts of private functions speak of; no public clause reaches it.
 -- What is noted is written, in rows, on any tables of a store: all of it, or none where the rows don't allow what is noted of some key.
-use Rattle.std.specs.Prelude.{◌≡◌, ℤ, List, length, Result, OnOk}
+use Rattle.std.specs.Prelude.{◌≡◌, ℕ, ℤ, List, length, Result, OnOk}
 use Rattle.std.specs.List.{AllByRecursion, AllZip}
 use Rattle.sqlite.specs.State.{State}
 use Rattle.sqlite.specs.Tree.{Trees}
@@ -8,6 +8,7 @@ use Rattle.sqlite_rules.specs.Lists.{Has}
 use Rattle.zeb_keys.specs.declared.keys.Key.{Key}
 use Rattle.zeb_register.specs.declared.faults.RegFault.{RegFault}
 use Rattle.zeb_register.specs.declared.registers.KeyChanges.{KeyChanges}
+use Rattle.zeb_register.specs.declared.registers.Work.{Work}
 use Rattle.zeb_register.specs.Answers.{Answers, IfDamaged}
 use Rattle.zeb_register.specs.Clauses.{InStore}
 use Rattle.zeb_register.specs.Formats.{Format}
@@ -15,8 +16,9 @@ use Rattle.zeb_register.specs.RunChanges.{KeysRise, PutsKeys}
 use Rattle.zeb_register.specs.Store.{IsStore}
 use Rattle.zeb_register.specs.UnitChanges.{AllowsChanges, IsStorableChange, KeyUnits, NumbersRise}
 use Rattle.zeb_change.specs.declared.key_notes.KeyNotes.{KeyNotes}
+use Rattle.zeb_change.specs.declared.pending.Pending.{Pending}
 use Rattle.zeb_change.specs.NoteWords.{KeyChange}
-use Rattle.zeb_change.specs.Noted.{IsNotedIn}
+use Rattle.zeb_change.specs.Noted.{IsDueFor, IsNotedIn}
 use Rattle.zeb_change.specs.PrivatePending.{AreGivenInOrder, DoKeysRise}
 
 -- what is noted of the key, as a layout takes it
@@ -51,3 +53,8 @@ WritesNotes format db entries old new = Answers (IfDamaged (LacksLeaveFor format
 abbrev pub WritesInStore : Format → ℤ → List (Key × KeyNotes) → (old new : State) → Result (Unit {0}) RegFault → Type 0
 WritesInStore format db entries old new result =
     InStore old new (λ trees. OnOk result (IsStore new) × WritesNotes format db entries trees new.now.trees result)
+
+-- inside a transaction on a store, what was noted and is noted no longer is counted
+abbrev pub CountsInStore : Format → (row_work : ℕ) → (old new : State) → (work worked : Work) → (before after : Pending) → Type 0
+CountsInStore format row_work old new work worked before after =
+    InStore old new (λ trees. IsDueFor format row_work 0 trees new.now.trees work worked before after)

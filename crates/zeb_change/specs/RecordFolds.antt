@@ -19,7 +19,7 @@ use Rattle.zeb_change.specs.declared.tally.Fate.{Fate}
 use Rattle.zeb_change.specs.Folding.{splits_of}
 use Rattle.zeb_change.specs.Noted.{IsDueFor, IsNothingNoted, WillHold}
 use Rattle.zeb_change.specs.Outcomes.{marc_refusal}
-use Rattle.zeb_register.specs.Tallies.{AreInRange}
+use Rattle.zeb_register.specs.Tallies.{AreInRange, CountsNothing}
 use Rattle.zeb_change.specs.Tallies.{IsTallied}
 use Rattle.zeb_change.specs.RecordChanges.{Accepts, AreStores, ChangesRecord, Point}
 use Rattle.zeb_change.specs.Refused.{IsFailing, why_of}
@@ -54,7 +54,7 @@ pub record SettlesNotes (format : Format) (row_work : ℕ) (db : ℤ) (old new :
   pub malformed : keeps_malformed format old.tables.trees new.tables.trees
   pub holds : (ahead : Content) → IsStorable ahead → WillHold format old.tables.trees db old.pending ahead
       → WillHold format new.tables.trees db new.pending ahead
-      × IsDueFor row_work 0 old.fold.progress.work new.fold.progress.work old.pending new.pending
+      × IsDueFor format row_work 0 old.tables.trees new.tables.trees old.fold.progress.work new.fold.progress.work old.pending new.pending
   pub counts : AreInRange new.fold.progress.work
   pub last : new.fold.progress.last ≡ old.fold.progress.last
   pub tally : new.fold.tally ≡ old.fold.tally
@@ -130,8 +130,8 @@ OfReaders Fine remains Does result = (splits : List Split)
 
 -- ---- how far the last number and the counts of work go
 
--- The database stays, the last number rises no further than the limit, and over a layout whose rows count nothing the counts of work stay.
-pub record Advances (limits : Limits) (row_work : ℕ) (old new : Progress) : Type 0 where
+-- The database stays, the last number rises no further than the limit, and over a layout that counts nothing the counts of work stay.
+pub record Advances (limits : Limits) (format : Format) (row_work : ℕ) (old new : Progress) : Type 0 where
   pub database : new.database ≡ old.database
   pub most : (most : ℕ) → old.last ≤ most → limits.numbers ≤ most → new.last ≤ most
-  pub work : row_work ≡ 0 → new.work ≡ old.work
+  pub work : CountsNothing format row_work → new.work ≡ old.work

@@ -103,7 +103,8 @@ fn take_record<S: Alter, L: Layout>(
     ensures same { tx.new.conn.ghost_name ≡ tx.old.conn.ghost_name }
     ensures inside { WorksInside (state S.Store tx.old.conn.now)
         (state S.Store tx.new.conn.now) result }
-    ensures steps { Advances setting.now.limits L.row_work fold.old.progress fold.new.progress }
+    ensures steps { Advances setting.now.limits L.format L.row_work fold.old.progress
+        fold.new.progress }
     ensures takes { OnRows (state S.Store tx.old.conn.now) (state S.Store tx.new.conn.now)
         (TakesRecord setting.now L.format L.row_work fold.old.progress.database.0
         incoming.entry.file incoming.entry.nth incoming.entry.bytes.now
@@ -138,7 +139,8 @@ fn fold_file<S: Alter, L: Layout, R: Source>(
     ensures same { tx.new.conn.ghost_name ≡ tx.old.conn.ghost_name }
     ensures inside { WorksInside (state S.Store tx.old.conn.now)
         (state S.Store tx.new.conn.now) result }
-    ensures steps { Advances setting.now.limits L.row_work fold.old.progress fold.new.progress }
+    ensures steps { Advances setting.now.limits L.format L.row_work fold.old.progress
+        fold.new.progress }
     ensures takes { OnRows (state S.Store tx.old.conn.now) (state S.Store tx.new.conn.now)
         (TakesReader setting.now L.format L.row_work fold.old.progress.database.0
         (R.has_failed reader.new) (R.remaining reader.old) file 1
@@ -178,7 +180,8 @@ fn fold_readers<S: Alter, L: Layout, R: Source>(
     ensures same { tx.new.conn.ghost_name ≡ tx.old.conn.ghost_name }
     ensures inside { WorksInside (state S.Store tx.old.conn.now)
         (state S.Store tx.new.conn.now) result }
-    ensures steps { Advances setting.now.limits L.row_work fold.old.progress fold.new.progress }
+    ensures steps { Advances setting.now.limits L.format L.row_work fold.old.progress
+        fold.new.progress }
     ensures takes { OnRows (state S.Store tx.old.conn.now) (state S.Store tx.new.conn.now)
         (OfReaders (NoneFailed R.has_failed readers.new) (map R.remaining readers.old)
         (λ splits. TakesFiles setting.now L.format L.row_work fold.old.progress.database.0 1 splits
@@ -207,7 +210,8 @@ fn take_files<S: Alter, L: Layout, R: Source>(
     ensures same { tx.new.conn.ghost_name ≡ tx.old.conn.ghost_name }
     ensures inside { WorksInside (state S.Store tx.old.conn.now)
         (state S.Store tx.new.conn.now) result }
-    ensures steps { Advances setting.now.limits L.row_work fold.old.progress fold.new.progress }
+    ensures steps { Advances setting.now.limits L.format L.row_work fold.old.progress
+        fold.new.progress }
     ensures changes { OnRows (state S.Store tx.old.conn.now) (state S.Store tx.new.conn.now)
         (OfReaders (NoneFailed R.has_failed readers.new) (map R.remaining readers.old)
         (λ splits. ChangesFiles setting.now L.format L.row_work fold.old.progress.database.0 splits
@@ -245,7 +249,8 @@ pub fn fold_files<S: Alter, L: Layout, R: Source>(
     ensures inside { WorksInside (state S.Store tx.old.conn.now)
         (state S.Store tx.new.conn.now) result }
     // How far the last number and the counts go, whatever is answered.
-    ensures steps { Advances setting.now.limits L.row_work fold.old.progress fold.new.progress }
+    ensures steps { Advances setting.now.limits L.format L.row_work fold.old.progress
+        fold.new.progress }
     // What it does on any tables of a store, and whatever the readers tell.
     ensures changes { OnRows (state S.Store tx.old.conn.now) (state S.Store tx.new.conn.now)
         (OfReaders (NoneFailed R.has_failed readers.new) (map R.remaining readers.old)

@@ -7,8 +7,9 @@ ghost use Rattle.sqlite.specs.Held.{state};
 ghost use Rattle.zeb_marc.specs.Splits.{Split};
 ghost use Rattle.zeb_register.specs.Formats.{Format};
 ghost use Rattle.zeb_register.specs.Store.{IsStore};
+ghost use Rattle.zeb_register.specs.Tallies.{works_for};
 ghost use Rattle.zeb_change.specs.Base.{Kept};
-ghost use Rattle.zeb_change.specs.Costs.{IsFilesCost, IsWorkFor};
+ghost use Rattle.zeb_change.specs.Costs.{IsFilesCost};
 ghost use Rattle.zeb_change.specs.Elders.{AllFindWhole, FirstFindsWhole, PassesOn};
 ghost use Rattle.zeb_change.specs.Folding.{Progress, files_folded};
 ghost use Rattle.zeb_change.specs.Holding.{HoldsSome};
@@ -25,7 +26,7 @@ use sqlite::{Alter, Connection};
 /// From tables that hold a database as the definition has it, a fold comes to what the definition says of the records of the files,
 /// in their order: the tables hold then what it leaves, or its first refusal is answered, or a failure. Of tables that hold some
 /// database on its way, whatever the files are, damage is never answered, and those that an accepted fold leaves hold one too.
-/// An accepted fold counts what the definition says.
+/// An accepted fold counts the work for the keys that its records change, as the layout counts it.
 pub fn a_fold_follows_the_definition<S: Alter>(old: &Connection<S>, new: &Connection<S>)
     ensures folded { (setting : Setting) (format : Format) (row_work : ℕ) (db : ℤ)
         (splits : List Split) (first last : Fold)
@@ -57,7 +58,8 @@ pub fn a_fold_follows_the_definition<S: Alter>(old: &Connection<S>, new: &Connec
         → IsUnderWay format setting.profile.now db records_of
         (state S.Store old.now) p.base
         → (n : ℕ) × IsFilesCost (conditions_of version setting) setting.kind 1 splits p n
-        × IsWorkFor row_work n first.progress.work last.progress.work }
+        × works_for format row_work n (state S.Store old.now).now.trees
+        (state S.Store new.now).now.trees first.progress.work last.progress.work }
 {
     let _ = old;
     let _ = new;

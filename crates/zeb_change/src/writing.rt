@@ -9,15 +9,15 @@ ghost use Rattle.zeb_keys.specs.Order.{key_order};
 ghost use Rattle.zeb_register.specs.Calls.{GoesOn, Inside};
 ghost use Rattle.zeb_register.specs.Clauses.{InStore};
 ghost use Rattle.zeb_register.specs.Sound.{KeepsRowsBeside, keeps_malformed};
+ghost use Rattle.zeb_register.specs.Tallies.{CountsNothing, works_for};
 ghost use Rattle.zeb_register.specs.UnitChanges.{NumbersRise};
 ghost use Rattle.zeb_change.specs.declared.key_notes.KeyNotes.{KeyNotes};
-ghost use Rattle.zeb_change.specs.Costs.{IsWorkFor};
 ghost use Rattle.zeb_change.specs.NoteWords.{KeyChange};
-ghost use Rattle.zeb_change.specs.Noted.{IsDueFor, IsNothingNoted, Settles, changes_among};
+ghost use Rattle.zeb_change.specs.Noted.{IsNothingNoted, Settles, changes_among};
 ghost use Rattle.zeb_change.specs.Inside.{WorksInside};
 ghost use Rattle.zeb_change.specs.PrivateNoteWords.{IsCutOff, counts_in, places_in};
 ghost use Rattle.zeb_change.specs.PrivatePending.{AreGivenInOrder, IsGivenFrom, IsTakenFrom};
-ghost use Rattle.zeb_change.specs.PrivateWriting.{WritesInStore};
+ghost use Rattle.zeb_change.specs.PrivateWriting.{CountsInStore, WritesInStore};
 
 use crate::key_notes::PlaceCounts;
 use crate::pending::{Pending, TakenKey};
@@ -121,8 +121,10 @@ fn write_run<S: Alter, L: Layout>(
         → WritesInStore L.format db.0 entries (state S.Store tx.old.conn.now)
         (state S.Store tx.new.conn.now) result }
     ensures work { (entries : List (Key × KeyNotes)) → AllZip IsTakenFrom entries taken.now
-        → OnOk result (IsWorkFor L.row_work (changes_among entries) work.old work.new) }
-    ensures no_work { L.row_work ≡ 0 → work.new ≡ work.old }
+        → InStore (state S.Store tx.old.conn.now) (state S.Store tx.new.conn.now) (λ trees.
+        OnOk result (works_for L.format L.row_work (changes_among entries) trees
+        (state S.Store tx.new.conn.now).now.trees work.old work.new)) }
+    ensures no_work { CountsNothing L.format L.row_work → work.new ≡ work.old }
 {
     let given = given_each(alloc, taken)?;
     let run = run_of(alloc, &given)?;
@@ -143,8 +145,9 @@ fn write_runs<S: Alter, L: Layout>(
     ensures rows { WritesInStore L.format db.0 pending.old.notes.entries
         (state S.Store tx.old.conn.now) (state S.Store tx.new.conn.now) result }
     ensures all { OnOk result (IsNothingNoted pending.new
-        × IsDueFor L.row_work 0 work.old work.new pending.old pending.new) }
-    ensures no_work { L.row_work ≡ 0 → work.new ≡ work.old }
+        × CountsInStore L.format L.row_work (state S.Store tx.old.conn.now)
+        (state S.Store tx.new.conn.now) work.old work.new pending.old pending.new) }
+    ensures no_work { CountsNothing L.format L.row_work → work.new ≡ work.old }
 {
     loop {
         let taken = pending.take_run()?;
@@ -179,8 +182,8 @@ pub fn write_pending<S: Alter, L: Layout>(
     ensures beside { InStore (state S.Store tx.old.conn.now) (state S.Store tx.new.conn.now)
         (λ trees. OnOk result
         (KeepsRowsBeside (Int db.0 ∷ []) trees (state S.Store tx.new.conn.now).now.trees)) }
-    // Over a layout whose rows count nothing the counts stay, also where it is refused.
-    ensures no_work { L.row_work ≡ 0 → work.new ≡ work.old }
+    // Over a layout that counts nothing the counts stay, also where it is refused.
+    ensures no_work { CountsNothing L.format L.row_work → work.new ≡ work.old }
 {
     write_runs::<S, L>(tx, alloc, work, db, pending)
 }
@@ -203,7 +206,7 @@ pub fn write_where_full<S: Alter, L: Layout>(
     ensures beside { InStore (state S.Store tx.old.conn.now) (state S.Store tx.new.conn.now)
         (λ trees. OnOk result
         (KeepsRowsBeside (Int db.0 ∷ []) trees (state S.Store tx.new.conn.now).now.trees)) }
-    ensures no_work { L.row_work ≡ 0 → work.new ≡ work.old }
+    ensures no_work { CountsNothing L.format L.row_work → work.new ≡ work.old }
 {
     if pending.is_full() {
         return write_pending::<S, L>(tx, alloc, work, db, pending);

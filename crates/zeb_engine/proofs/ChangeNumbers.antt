@@ -1,5 +1,5 @@
 -- The numbers of a database's records, which a change looks at first.
-use Rattle.zeb_engine.proofs.Cited.{◌≡◌, ◌∙◌, ◌+◌, ◌≤◌, ◌<◌, ℕ, ℤ, pos, List, Option, Some, None, Result, Ok, Err, OnOk, IfErr, IfOk, IsTrue, IsUtf8, refl, sym, subst, arith, Contains, Database, Row, State, KeepsCommit, Trees, RegFault, Record, OnlyReads, Format, PutsDatabase, AreStores, IsFirstFrom, IsStore, Changes, HasRecord, databases_tree, registers_stay, store_schema, KeepsOthers, store_same, IsDatabaseName, Kind, Kept, AreSessions, Conditions, Holdings, IsImage, HasNumbersTo, MayBeginUnder, last_of, AreGiven, AreWellNumbered, IsMisnumbered, PutsRow}
+use Rattle.zeb_engine.proofs.Cited.{◌≡◌, ◌∙◌, ◌+◌, ◌≤◌, ◌<◌, ℕ, ℤ, pos, List, Option, Some, None, Result, Ok, Err, OnOk, IfErr, IfOk, IsTrue, IsUtf8, refl, sym, subst, arith, Contains, Database, Row, State, KeepsCommit, Trees, RegFault, Record, OnlyReads, Format, PutsDatabase, AreStores, IsFirstFrom, IsStore, Changes, HasRecord, blocks_tree, databases_tree, registers_stay, store_schema, KeepsOthers, store_same, IsDatabaseName, Kind, Kept, AreSessions, Conditions, Holdings, IsImage, HasNumbersTo, MayBeginUnder, last_of, AreGiven, AreWellNumbered, IsMisnumbered, PutsRow}
 use Rattle.zeb_register.specs.declared.catalog.Database as catalog
 use Rattle.zeb_register.specs.declared.RegFault.TheVariants as register
 use Rattle.zeb_engine.proofs.ChangeSteps.{IsBegun, begun}
@@ -78,6 +78,10 @@ row_put old new id name last put = record { store = record { is = put.layout.is;
 pub put_row : (s : State) (old new : Database) (id : ℤ) (name : List ℕ) (last : ℕ) → PutsRow id name last old new
     → Changes databases_tree (PutsDatabase id name (pos last)) (showing s old) (showing s new)
 put_row s old new id name last put = record { layout = shown_store s new put.store; mode = refl; rows = put.rows; others = put.others }
+
+-- blocks and leaves are as they were
+pub put_blocks : {id : ℤ} {name : List ℕ} {last : ℕ} (old new : Database) → PutsRow id name last old new → new.trees blocks_tree ≡ old.trees blocks_tree
+put_blocks old new put = put.others.1.1.1.1.0 (λ e. absurd (omega (arith, e)))
 
 -- ---- of an image
 

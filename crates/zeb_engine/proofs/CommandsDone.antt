@@ -106,7 +106,7 @@ module _ (format : Format) (row_work : ℕ) (block_rows : List Posting → ℕ) 
 -- a change by the bytes of files
 pub files_done : {S R : Type 0} {g : Ghosts S} {remaining : R → Option (List ℕ)} {may_fail has_failed : R → Bool} {before after : List R} {row_work : ℕ} {c : Conditions} {kind : Kind} {old new : Held S} {answer : Result Reply Refusal} {work : Work}
     (format : Format) (block_rows : List Posting → ℕ) (name : DbName) (files : Vec (Vec ℕ Global) Global)
-    → ReadersDone g remaining may_fail has_failed before after row_work c kind (name_bytes name) old new answer work → NoneFailed has_failed after → map remaining before ≡ map Some (map (λ file. file.items) files.items)
+    → ReadersDone g remaining may_fail has_failed before after format row_work c kind (name_bytes name) old new answer work → NoneFailed has_failed after → map remaining before ≡ map Some (map (λ file. file.items) files.items)
     → CommandDone g format row_work block_rows c (Change kind name files) old new answer work
 files_done {g = g} {has_failed = has_failed} {after = after} {old = old} {new = new} format block_rows name files done fine told =
     let texts = map (λ file. file.items) files.items in
@@ -146,10 +146,10 @@ unbegun_done g format row_work block_rows profile limits kind name files held wo
     }
 
 -- a change of which a reader had failed before
-pub faulty_done : {S R : Type 0} (g : Ghosts S) (remaining : R → Option (List ℕ)) (may_fail has_failed : R → Bool) (row_work : ℕ) (c : Conditions) (kind : Kind) (name : List ℕ) (held : Held S) (readers : List R)
+pub faulty_done : {S R : Type 0} (g : Ghosts S) (remaining : R → Option (List ℕ)) (may_fail has_failed : R → Bool) (format : Format) (row_work : ℕ) (c : Conditions) (kind : Kind) (name : List ℕ) (held : Held S) (readers : List R)
     (why : Refusal) → NamesFailed has_failed readers why → (work : Work) → work ≡ no_work → Survives (state g held) (state g held) (λ _. ⊥)
-    → ReadersDone g remaining may_fail has_failed readers readers row_work c kind name held held (Err why) work
-faulty_done g remaining may_fail has_failed row_work c kind name held readers why named work fresh commits =
+    → ReadersDone g remaining may_fail has_failed readers readers format row_work c kind name held held (Err why) work
+faulty_done g remaining may_fail has_failed format row_work c kind name held readers why named work fresh commits =
     let s = state g held in
     record {
       call = record { accepted = λ clean. tt; refused = λ clean. nothing_still s; endures = λ clean other db left. left };

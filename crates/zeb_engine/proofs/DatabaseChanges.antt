@@ -1,11 +1,11 @@
 -- What follows from what a change of a database does, in rows (`ChangesDatabase`): all that a session promises of a change.
-use Rattle.zeb_engine.proofs.Cited.{◌≡◌, ◌≢◌, ◌⊎◌, ◌∙◌, ◌<◌, ◌≤◌, ℕ, ℤ, pos, length, map, List, Option, Some, None, Result, Ok, Err, OnOk, IsTrue, inl, inr, refl, sym, ap, subst, subst₂, arith, flat_map, Database, State, Trees, HasCleanDisk, Split, Directive, IsProfile, Work, PutsDatabase, IsDatabaseOf, AreCountedDatabases, version_of, Changes, IsStore, databases_tree, registers_stay, Refusal, Damaged, Kind, Update, AllFindWhole, PassesOn, Progress, at_first, files_folded, splits_of, LosesNamedAlone, IsRefusedFor, FoldsFiles, NeverUnready, IsFailing, Meets, Why, why_of, IsFolded, IsUnderWay, conditions_of, Conditions, AreSessions, Holdings, Base, IsImage, Keeps, name_bytes, Reply, refused, IsFailure, no_database, start_of, Outcome, Costs, ElderOver, EldersOver, LeavesRows, LosesNamedOver, ReasonsOver, BeginsWith, IsMissedFor, comes_to, last_of, IsMisnumbered, Asked, FoldsInto, AcceptsChange, ChangesDatabase, CommitsRows, Transacts, Commanded, IsReady, Serves, Commits, StandsFor, ready, IsOfReady, never_unready}
+use Rattle.zeb_engine.proofs.Cited.{◌≡◌, ◌≢◌, ◌⊎◌, ◌∙◌, ◌<◌, ◌≤◌, ℕ, ℤ, pos, length, map, List, Option, Some, None, Result, Ok, Err, OnOk, IsTrue, inl, inr, refl, sym, ap, subst, subst₂, arith, flat_map, Database, State, Trees, HasCleanDisk, works_for, Split, Directive, IsProfile, Work, PutsDatabase, IsDatabaseOf, AreCountedDatabases, version_of, Changes, IsStore, databases_tree, registers_stay, Refusal, Damaged, Kind, Update, AllFindWhole, PassesOn, Progress, at_first, files_folded, splits_of, LosesNamedAlone, IsRefusedFor, FoldsFiles, NeverUnready, IsFailing, Meets, Why, why_of, IsFolded, IsUnderWay, conditions_of, Conditions, AreSessions, Holdings, Base, IsImage, Keeps, name_bytes, Reply, refused, IsFailure, no_database, start_of, Outcome, Costs, ElderOver, EldersOver, LeavesRows, LosesNamedOver, ReasonsOver, BeginsWith, IsMissedFor, comes_to, last_of, IsMisnumbered, Asked, FoldsInto, AcceptsChange, ChangesDatabase, CommitsRows, Transacts, Commanded, IsReady, Serves, Commits, StandsFor, ready, IsOfReady, never_unready}
 use Rattle.zeb_register.specs.declared.catalog.Database as catalog
-use Rattle.zeb_change.specs.Costs.{IsWorkFor}
+use Rattle.zeb_change.proofs.CostLemmas.{works_beside}
 use Rattle.zeb_change.proofs.ChangeLaws as law
 use Rattle.zeb_engine.proofs.ChangeBegins.{may_begin, none_starts}
 use Rattle.zeb_engine.proofs.ChangeElders.{begins_at, few_elder, found_elder, leaves_same, missed_elder, put_elder, put_elders, put_leaves, put_named}
-use Rattle.zeb_engine.proofs.ChangeNumbers.{begins_sound, put_row, showing}
+use Rattle.zeb_engine.proofs.ChangeNumbers.{begins_sound, put_blocks, put_row, showing}
 use Rattle.zeb_engine.proofs.ChangeReasons.{missed_reasons, put_reasons}
 use Rattle.zeb_engine.proofs.ChangeSteps.{IsBegun, begun, change_leads, first_way, fold_done, fold_refused}
 use Rattle.zeb_engine.proofs.ListedDatabases.{counted, none_named}
@@ -184,7 +184,7 @@ module _ (Fine : Type 0) (a : Asked) (work : Work) (s : State) where
             (change_leads a.format (registers_stay a.format) under at kind name a.name.named before (showing s f.mid) its (last_of found) begun_so (splits_of texts) done.0 done.1 (showing s f.now) (showing s new) f.fold done.2
             accepts.id last_put)
 
-        costs_in : Costs a.row_work under kind name texts work worked before
+        costs_in : Costs a.format a.row_work under kind name texts work worked s.now.trees new.trees before
         unfolding begun_so start
         costs_in =
             let at = begun_so in
@@ -192,7 +192,8 @@ module _ (Fine : Type 0) (a : Asked) (work : Work) (s : State) where
             (all_read texts read_so) (at_first at.start) (stands (Ok tt) f sound before image bases is) (way (Ok tt) f sound before image bases is) in (
               cost.0,
               record { bases = at.bases; is_ready = at.is_ready; start = at.start; starts = at.starts; cost = cost.1 },
-              subst₂ (λ (old last : Work). IsWorkFor a.row_work cost.0 old last) f.at_first.work_is (sym accepts.work_is) cost.2,
+              works_beside a.format a.row_work cost.0 s.now.trees f.mid.trees f.now.trees new.trees work worked (put_blocks s.now f.mid f.put) (put_blocks f.now new accepts.put)
+                  (subst₂ (λ (old last : Work). works_for a.format a.row_work cost.0 f.mid.trees f.now.trees old last) f.at_first.work_is (sym accepts.work_is) cost.2),
             )
 
   -- ---- on any tables
@@ -316,7 +317,7 @@ module _ (Fine : Type 0) (a : Asked) (work : Work) (s : State) where
 
   -- what an accepted change has counted
   pub costs : (worked : Work) (new : State) → HasCleanDisk new → (result : Result Reply Refusal) → Transacts (ChangesDatabase Fine a work worked) s new result → ∥ IsProfile profile ∥₁ → (texts : List (List ℕ)) → Told texts
-      → OnOk result ((before : Holdings) → IsTrue s.is_open → IsReady under s.now.trees before → Keeps s before → Costs a.row_work under kind name texts work worked before)
+      → OnOk result ((before : Holdings) → IsTrue s.is_open → IsReady under s.now.trees before → Keeps s before → Costs a.format a.row_work under kind name texts work worked s.now.trees new.now.trees before)
   costs worked new clean (Err refusal) did sound texts read_so = tt
   costs worked new clean (Ok told) did sound texts read_so = λ before opened known keeps.
       let at = (keeps opened).0 in

@@ -151,7 +151,7 @@ module _ (format : Format) (row_work : ℕ) (block_rows : List Posting → ℕ) 
 
   -- a change by readers of which none had failed
   pub unready_readers : {R : Type 0} (remaining : R → Option (List ℕ)) (may_fail has_failed : R → Bool) (readers : List R) → NoneFailed has_failed readers → (kind : Kind) (name : List ℕ) (work : Work) → work ≡ no_work
-      → ReadersDone g remaining may_fail has_failed readers readers row_work here kind name old mid (Err why) work
+      → ReadersDone g remaining may_fail has_failed readers readers format row_work here kind name old mid (Err why) work
   unready_readers remaining may_fail has_failed readers none kind name work fresh =
       let s = state g old in
       record {

@@ -83,8 +83,8 @@ LosesWhole profile id old new = (sysno : ℤ) (ident bytes : List ℕ) → HasRe
 
 -- What an accepted change leaves. The tables are a store's still. The change is one of the database that has the name, or of one that an
 -- update has made for it, whose records had numbers that it can have given; no other row of the databases is changed, and its last number
--- doesn't fall. No record of it is lost but whole ones, and nothing is changed under another id. Each text is as it was, and under the
--- layout that has this version, what is malformed in the packed registers is so still, each such row as it was.
+-- doesn't fall. No record of it is lost but whole ones, and nothing is changed under another id. Each text is as it was. Under the layout that
+-- has this version, what is malformed in the registers is so still: each such row, or in leaves, where a row is of many keys, each such unit.
 pub record LeavesRows (version : List ℕ) (profile : List Directive) (kind : Kind) (name : List ℕ) (old : Trees) (new : State) : Type 0 where
   pub store : IsStore new
   pub id : ℤ

@@ -1,9 +1,10 @@
--- What a command counts of the rows of the packed tables: one case a command.
+-- What a command counts of the rows that it reads and writes: one case a command.
 use Rattle.std.specs.Prelude.{◌≡◌, ℕ, List, map, OnOk, Result, string_bytes}
 use Rattle.sqlite.specs.State.{HasCleanDisk, State}
 use Rattle.zeb_register.specs.declared.registers.Work.{Work}
 use Rattle.zeb_register.specs.Content.{Posting}
 use Rattle.zeb_register.specs.Formats.{Format}
+use Rattle.zeb_register.specs.Tallies.{CountsNothing}
 use Rattle.zeb_change.specs.declared.refusals.Refusal.{Refusal}
 use Rattle.zeb_change.specs.Conditions.{Conditions}
 use Rattle.zeb_image.specs.NameOf.{name_bytes}
@@ -23,7 +24,7 @@ Counted format row_work block_rows c Init old new answer work = work ≡ no_work
 Counted format row_work block_rows c (Create name) old new answer work = work ≡ no_work
 Counted format row_work block_rows c (Drop name) old new answer work = work ≡ no_work
 Counted format row_work block_rows c (Change kind name files) old new answer work =
-    HasCleanDisk new → CostsAlone row_work c kind (name_bytes name) (map (λ file. file.items) files.items) old answer work
+    HasCleanDisk new → CostsAlone format row_work c kind (name_bytes name) (map (λ file. file.items) files.items) old new answer work
 Counted format row_work block_rows c (Find name query first count) old new answer work =
     HasCleanDisk new → OnOk answer (FindReads format row_work block_rows c.profile (name_bytes name) (string_bytes query) old no_work work)
 Counted format row_work block_rows c Check old new answer work = work ≡ no_work
@@ -35,8 +36,23 @@ Counted format row_work block_rows c (Scan name query number position) old new a
     HasCleanDisk new → OnOk answer (ScanReads format row_work number position old no_work work)
 Counted format row_work block_rows c (Analyse files) old new answer work = work ≡ no_work
 
+-- no row that the command reads or writes counts: in leaves those count that a change reads and writes, and no others
+abbrev pub IsUncounted : Format → (row_work : ℕ) → Command → Type 0
+IsUncounted format row_work Init = row_work ≡ 0
+IsUncounted format row_work (Create name) = row_work ≡ 0
+IsUncounted format row_work (Drop name) = row_work ≡ 0
+IsUncounted format row_work (Change kind name files) = CountsNothing format row_work
+IsUncounted format row_work (Find name query first count) = row_work ≡ 0
+IsUncounted format row_work Check = row_work ≡ 0
+IsUncounted format row_work Reindex = row_work ≡ 0
+IsUncounted format row_work Upgrade = row_work ≡ 0
+IsUncounted format row_work (Stat name) = row_work ≡ 0
+IsUncounted format row_work (Dump name) = row_work ≡ 0
+IsUncounted format row_work (Scan name query number position) = row_work ≡ 0
+IsUncounted format row_work (Analyse files) = row_work ≡ 0
+
 pub record CommandCounts (format : Format) (row_work : ℕ) (block_rows : List Posting → ℕ) (c : Conditions) (command : Command) (old new : State)
     (answer : Result Reply Refusal) (work : Work) : Type 0 where
   pub counted : Counted format row_work block_rows c command old new answer work
-  -- over a layout whose rows count nothing none has counted anything
-  pub none : row_work ≡ 0 → work ≡ no_work
+  -- where no row counts that it reads or writes, it has counted nothing, whatever it answers
+  pub none : IsUncounted format row_work command → work ≡ no_work

@@ -2,6 +2,8 @@
 use Rattle.std.specs.Prelude.{◌≡◌, ◌⊎◌, Bool, ℕ, List, map, Option, Some, Result, Err, IsErrAnd}
 use Rattle.sqlite.specs.State.{HasCleanDisk, State, Survives}
 use Rattle.zeb_register.specs.declared.registers.Work.{Work}
+use Rattle.zeb_register.specs.Formats.{Format}
+use Rattle.zeb_register.specs.Tallies.{CountsNothing}
 use Rattle.zeb_change.specs.Conditions.{Conditions}
 use Rattle.zeb_change.specs.Reading.{HasFailedAt, NamesFailed, NoneFailed, StayAble}
 use Rattle.zeb_change.specs.declared.refusals.Refusal.{Refusal}
@@ -50,8 +52,8 @@ module _ {R : Type 0} (remaining : R → Option (List ℕ)) (has_failed : R → 
     pub survives : Survives old new (λ db. Give remaining has_failed before after (λ texts. CommitsBy (TakesFiles c kind name texts) old db))
     pub crash : HasCleanDisk new → Give remaining has_failed before after (λ texts. Endures (TakesFiles c kind name texts) old new answer)
 
-  -- Accepted, it has counted the work for the keys that its records change, and no other; and over a layout whose rows count nothing it has
-  -- counted nothing, whatever is answered.
-  pub record ReadersCount (row_work : ℕ) (work : Work) : Type 0 where
-    pub costs : HasCleanDisk new → (texts : List (List ℕ)) → Tell remaining before texts → CostsAlone row_work c kind name texts old answer work
-    pub none : row_work ≡ 0 → work ≡ no_work
+  -- Accepted, it has counted the work for the keys that its records change, and no other; and over a layout that counts nothing it has counted
+  -- nothing, whatever is answered.
+  pub record ReadersCount (format : Format) (row_work : ℕ) (work : Work) : Type 0 where
+    pub costs : HasCleanDisk new → (texts : List (List ℕ)) → Tell remaining before texts → CostsAlone format row_work c kind name texts old new answer work
+    pub none : CountsNothing format row_work → work ≡ no_work

@@ -31,7 +31,7 @@ pub record CommandDone {S : Type 0} (g : Ghosts S) (format : Format) (row_work :
   pub counts : CommandCounts format row_work block_rows c command (state g old) (state g new) answer work
 
 -- the same of a change by readers
-pub record ReadersDone {S R : Type 0} (g : Ghosts S) (remaining : R → Option (List ℕ)) (may_fail has_failed : R → Bool) (before after : List R) (row_work : ℕ)
+pub record ReadersDone {S R : Type 0} (g : Ghosts S) (remaining : R → Option (List ℕ)) (may_fail has_failed : R → Bool) (before after : List R) (format : Format) (row_work : ℕ)
     (c : Conditions) (kind : Kind) (name : List ℕ) (old new : Held S) (answer : Result Reply Refusal) (work : Work) : Type 0 where
   pub call : Commanded (state g old) (state g new) answer
   pub survives : Survives (state g old) (state g new) (λ db. Give remaining has_failed before after (λ texts. CommitsBy (TakesFiles c kind name texts) (state g old) db))
@@ -39,4 +39,4 @@ pub record ReadersDone {S R : Type 0} (g : Ghosts S) (remaining : R → Option (
       → Give remaining has_failed before after (λ texts. ServesBy (TakesFiles c kind name texts) (state g old) (state g new) answer)
   pub does : HasCleanDisk (state g new) → ReadersChange remaining has_failed before after c kind name (state g old) (state g new) answer
   pub faults : NamesFaults may_fail has_failed before after answer
-  pub counts : ReadersCount remaining has_failed before after c kind name (state g old) (state g new) answer row_work work
+  pub counts : ReadersCount remaining has_failed before after c kind name (state g old) (state g new) answer format row_work work

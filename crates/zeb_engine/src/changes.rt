@@ -6,6 +6,7 @@ ghost use Rattle.zeb_register.specs.Calls.{GoesOn, Inside, OnlyReads};
 ghost use Rattle.zeb_register.specs.Catalog.{PutsDatabase};
 ghost use Rattle.zeb_register.specs.Clauses.{ChangesTable, InStore, OnStore};
 ghost use Rattle.zeb_register.specs.Store.{databases_tree};
+ghost use Rattle.zeb_register.specs.Tallies.{CountsNothing};
 ghost use Rattle.zeb_change.specs.Inside.{WorksInside};
 ghost use Rattle.zeb_change.specs.Reading.{NoneFailed, NoReadFault, TellsFaults};
 ghost use Rattle.zeb_change.specs.RecordChanges.{OnRows};
@@ -93,9 +94,11 @@ fn check_numbers<S: Alter>(
     ensures same { tx.new.conn.ghost_name ≡ tx.old.conn.ghost_name }
     ensures call { Inside (state S.Store tx.old.conn.now) (state S.Store tx.new.conn.now) result
         (λ _. OnlyReads) }
-    ensures numbers { InStore (state S.Store tx.old.conn.now) (state S.Store tx.new.conn.now) (λ trees.
+    ensures numbers { InStore (state S.Store tx.old.conn.now) (state S.Store tx.new.conn.now)
+        (λ trees.
         OnOk result (HasNumbersTo last trees database.0)) }
-    ensures honest { InStore (state S.Store tx.old.conn.now) (state S.Store tx.new.conn.now) (λ trees.
+    ensures honest { InStore (state S.Store tx.old.conn.now) (state S.Store tx.new.conn.now)
+        (λ trees.
         result ≡ Err RegFault.Damaged → ¬ AreWellNumbered last trees database.0) }
 {
     let next = number_above(last)?;
@@ -117,10 +120,12 @@ fn begin_change<S: Alter>(
     ensures put { ChangesTable databases_tree (state S.Store tx.old.conn.now)
         (state S.Store tx.new.conn.now) result
         (λ id. PutsDatabase id.0 name.now (pos last)) }
-    ensures numbers { InStore (state S.Store tx.old.conn.now) (state S.Store tx.new.conn.now) (λ trees.
+    ensures numbers { InStore (state S.Store tx.old.conn.now) (state S.Store tx.new.conn.now)
+        (λ trees.
         IfOk result (λ id. HasNumbersTo last trees id.0)) }
     ensures honest { InStore (state S.Store tx.old.conn.now) (state S.Store tx.new.conn.now) (λ _.
-        result ≡ Err RegFault.Damaged → IsMisnumbered name.now last (state S.Store tx.old.conn.now).now) }
+        result ≡ Err RegFault.Damaged → IsMisnumbered name.now last
+        (state S.Store tx.old.conn.now).now) }
 {
     let database = database_put(tx, name, last)?;
     check_numbers(tx, database, last)?;
@@ -136,14 +141,16 @@ fn apply<S: Alter, L: Layout, R: Source>(
     readers: &mut [R],
 ) -> Result<Reply, Refusal>
     ensures same { tx.new.conn.ghost_name ≡ tx.old.conn.ghost_name }
-    ensures inside { WorksInside (state S.Store tx.old.conn.now) (state S.Store tx.new.conn.now) result }
+    ensures inside { WorksInside (state S.Store tx.old.conn.now)
+        (state S.Store tx.new.conn.now) result }
     ensures applies { OnRows (state S.Store tx.old.conn.now) (state S.Store tx.new.conn.now)
         (AppliesChange (NoneFailed R.has_failed readers.new)
-        (asked change.now.setting L.format L.row_work change.now.name.now (map R.remaining readers.old))
+        (asked change.now.setting L.format L.row_work change.now.name.now
+        (map R.remaining readers.old))
         (last_of change.now.found) work.old work.new
         (state S.Store tx.old.conn.now).now (state S.Store tx.new.conn.now).now result) }
     ensures faults { TellsFaults R.may_fail R.has_failed readers.old readers.new result }
-    ensures no_work { L.row_work ≡ 0 → work.new ≡ work.old }
+    ensures no_work { CountsNothing L.format L.row_work → work.new ≡ work.old }
 {
     let name = change.name.as_str();
     let last = change.last();
@@ -174,11 +181,12 @@ fn transact<S: Alter, L: Layout, R: Source>(
     ensures idle { connection.new.in_transaction ≡ false }
     ensures call { Commanded (state S.Store connection.old) (state S.Store connection.new) result }
     ensures transacts { Transacts (AppliesChange (NoneFailed R.has_failed readers.new)
-        (asked change.now.setting L.format L.row_work change.now.name.now (map R.remaining readers.old))
+        (asked change.now.setting L.format L.row_work change.now.name.now
+        (map R.remaining readers.old))
         (last_of change.now.found) work.old work.new)
         (state S.Store connection.old) (state S.Store connection.new) result }
     ensures faults { TellsFaults R.may_fail R.has_failed readers.old readers.new result }
-    ensures no_work { L.row_work ≡ 0 → work.new ≡ work.old }
+    ensures no_work { CountsNothing L.format L.row_work → work.new ≡ work.old }
 {
     let _settled = connection.is_autocommit();
     let mut tx = connection.transaction();
@@ -223,10 +231,11 @@ pub(crate) fn change_database<S: Alter, L: Layout, R: Source>(
     ensures idle { connection.new.in_transaction ≡ false }
     ensures call { Commanded (state S.Store connection.old) (state S.Store connection.new) result }
     ensures transacts { Transacts (ChangesDatabase (NoneFailed R.has_failed readers.new)
-        (asked setting.entry L.format L.row_work name.now (map R.remaining readers.old)) work.old work.new)
+        (asked setting.entry L.format L.row_work name.now
+        (map R.remaining readers.old)) work.old work.new)
         (state S.Store connection.old) (state S.Store connection.new) result }
     ensures faults { TellsFaults R.may_fail R.has_failed readers.old readers.new result }
-    ensures no_work { L.row_work ≡ 0 → work.new ≡ work.old }
+    ensures no_work { CountsNothing L.format L.row_work → work.new ≡ work.old }
 {
     let found = found_for::<S, L>(connection, &setting, name)?;
     let mut buffer = RecordBuf::new(setting.alloc)?;

@@ -12,7 +12,7 @@ pub enum Command {
     Check,
     /// The session's profile in the place of the register's, whose rule for identifiers it has to have; the registers are made anew by it.
     Reindex,
-    /// The session's layout in the place of the first one: the registers are made anew in it. Nothing changes where it is the session's.
+    /// The session's layout in the place of an earlier one: the registers are made anew in it. Nothing changes where it is the session's.
     Upgrade,
     /// An empty database of this name.
     Create(DbName),

@@ -40,7 +40,8 @@ pub(crate) fn reindex<S: Alter, L: Layout>(
     requires idle { connection.old.in_transaction ≡ false }
     ensures idle { connection.new.in_transaction ≡ false }
     ensures done { (limits : Limits) → CommandDone S.Store L.format L.row_work L.block_rows
-        (conditions (version_of L.format) profile.now limits) Command.Reindex connection.old connection.new
+        (conditions (version_of L.format) profile.now limits) Command.Reindex connection.old
+        connection.new
         result no_work }
 {
     // Its profile is some text's, both texts of the session are UTF-8, and it has a rule for identifiers.
@@ -84,7 +85,8 @@ pub(crate) fn upgrade<S: Alter, L: Layout>(
     requires idle { connection.old.in_transaction ≡ false }
     ensures idle { connection.new.in_transaction ≡ false }
     ensures done { (limits : Limits) → CommandDone S.Store L.format L.row_work L.block_rows
-        (conditions (version_of L.format) profile.now limits) Command.Upgrade connection.old connection.new
+        (conditions (version_of L.format) profile.now limits) Command.Upgrade connection.old
+        connection.new
         result no_work }
 {
     // What is shown is what was committed.

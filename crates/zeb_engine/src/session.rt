@@ -120,7 +120,8 @@ impl<S: Alter, L: Layout> Session<S, L> {
         connection
     }
 
-    /// The work on the registers that the last command counted: a change, a find, a scan and a stat count theirs, all others none.
+    /// The work on the registers that the last command counted. In packed blocks a change, a find, a scan and a stat count theirs. In leaves a
+    /// change alone does, and in single rows nothing is counted. No other command counts any.
     pub fn work(&self) -> Work
         ensures { result ≡ self.now.work }
     {
@@ -152,6 +153,8 @@ impl<S: Alter, L: Layout> Session<S, L> {
             self.old.limits)
             command.now (state S.Store self.old.connection) (state S.Store self.new.connection)
             result }
+        // What it has counted. Of an accepted change in packed blocks each of the four counts is the number of changed keys.
+        // In leaves it is a bound: a leaf read and one written for each of these at most, and each leaf that comes written besides.
         ensures counts { CommandCounts L.format L.row_work L.block_rows
             (conditions (version_of L.format) self.old.profile self.old.limits) command.now
             (state S.Store self.old.connection) (state S.Store self.new.connection) result

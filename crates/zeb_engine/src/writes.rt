@@ -217,7 +217,8 @@ pub(crate) fn init_register<S: Alter, L: Layout>(
     requires idle { connection.old.in_transaction ≡ false }
     ensures idle { connection.new.in_transaction ≡ false }
     ensures done { (limits : Limits) → CommandDone S.Store L.format L.row_work L.block_rows
-        (conditions (version_of L.format) profile.now limits) Command.Init connection.old connection.new
+        (conditions (version_of L.format) profile.now limits) Command.Init connection.old
+        connection.new
         result no_work }
 {
     // Its profile is some text's.

@@ -101,7 +101,8 @@ pub fn counts_add_up()
         (inserted updated deleted : ℕ)
         → (turned c (changed_by_files c kind name files) before).0 ≡ changed inserted updated
         deleted
-        → IsAccepted c kind name files before (turned c (changed_by_files c kind name files) before) }
+        → IsAccepted c kind name files before (turned c
+        (changed_by_files c kind name files) before) }
     ensures taken { (c : Conditions) (kind : Kind) (files : List Split) (base : Base) (p : Progress)
         → FoldsTo c kind files base p
         → p.taken ≡ records_in files }

@@ -24,7 +24,8 @@ use zeb_query::Operator;
 /// one after the other, are a run from nothing.
 pub fn worked_examples()
     ensures begun { (version : List ℕ) (limits : Limits) (before : Holdings)
-        → IsJust (Step (book_conditions version limits) Command.Init before) done (no_books version) }
+        → IsJust (Step (book_conditions version limits) Command.Init before) done
+        (no_books version) }
     ensures kept { (version : List ℕ) (limits : Limits) (command : Command)
         → IsUpdateBy (worked_record ∷ []) command
         → IsJust (Step (book_conditions version limits) command (no_books version)) (changed 1 0 0)

@@ -1,5 +1,5 @@
 -- Leaves that are cut off, one after the other.
-use Rattle.zeb_leaf.proofs.Cited.{◌≡◌, ◌≢◌, ℕ, ◌+◌, ◌<◌, ◌≤◌, List, [], ◌∷◌, ◌++◌, length, take, drop, refl, sym, ◌∙◌, ap, subst, arith, append_assoc, append-nil, length-take-le, take-append-drop, AllByRecursion, Entry, IsEntry, IsLeaf, entry_cmp, leaf_bytes}
+use Rattle.zeb_leaf.proofs.Cited.{◌≡◌, ℕ, ◌+◌, ◌<◌, ◌≤◌, List, [], ◌∷◌, ◌++◌, length, take, drop, refl, sym, ◌∙◌, ap, subst, arith, append_assoc, append-nil, length-take-le, take-append-drop, AllByRecursion, Entry, IsEntry, IsLeaf, entry_cmp, leaf_bytes}
 use Rattle.std.specs.List.Sorted.{IsStrictlySortedBy}
 use Rattle.zeb_leaf.specs.Cuts.{AreCut, BeginsAt, IsCutOff}
 use Rattle.zeb_leaf.specs.declared.entries.TheConstants.{LEAF_BYTES}

@@ -7,6 +7,7 @@ pub mod Walked
 pub mod Pushing
 pub mod Finding
 pub mod Chosen
+pub mod Behind
 pub mod Numbers
 pub mod Cutting
 pub mod WorkedLeaves
@@ -14,4 +15,5 @@ pub mod Fronts
 pub mod Faults
 pub mod Members
 pub mod MergedLists
+pub mod MovedLists
 pub mod CutLists

@@ -1,5 +1,5 @@
 -- Lists by their elements.
-use Rattle.zeb_leaf.proofs.Cited.{◌≡◌, ◌<◌, List, [], ◌∷◌, ◌++◌, ◌⊎◌, inl, inr, length, refl, subst, arith, AllByRecursion, Less}
+use Rattle.zeb_leaf.proofs.Cited.{◌≡◌, List, [], ◌∷◌, ◌++◌, inl, inr, refl, arith, AllByRecursion, Less}
 use Rattle.std.specs.Prelude.{Contains}
 use Rattle.std.specs.List.Sorted.{IsStrictlySortedBy}
 use Rattle.std.specs.declared.cmp.Ordering.{Ordering}

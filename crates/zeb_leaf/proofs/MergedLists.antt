@@ -1,13 +1,12 @@
 -- Entries merged with changes, change by change.
 use Rattle.zeb_leaf.proofs.Cited.{◌≡◌, ◌≢◌, ℕ, List, [], ◌∷◌, ◌++◌, length, ◌⊎◌, refl, sym, ◌∙◌, ap, subst, inl, inr, arith, common_steps, append_assoc, Less, Equal, Greater, Some, None, AllByRecursion, Entry, IsEntry, entry_cmp, slice_cmp, nat_cmp, ordering_then}
-use Rattle.std.specs.Prelude.{Contains, Option, ◌↔◌}
+use Rattle.std.specs.Prelude.{Contains, Option}
 use Rattle.std.specs.List.Sorted.{IsStrictlySortedBy}
-use Rattle.std.specs.Cmp.{IsTotalOrder}
 use Rattle.std.specs.Ordering.{ordering_reverse}
 use Rattle.std.specs.declared.cmp.Ordering.{Ordering}
 use Rattle.std.proofs.lemmas.List.Elements.{Contains-append_cases, Contains-append_left, Contains-append_right}
-use Rattle.zeb_leaf.specs.Merging.{AreChanges, AreMerged, IsOf, IsPut, IsTouched, change_cmp, entry_with, puts}
-use Rattle.zeb_leaf.specs.PrivateMerging.{ArePartedAt, BeginsElsewhere, BeginsFrom, IsRestBehind, Merges}
+use Rattle.zeb_leaf.specs.Merging.{AreMerged, IsOf, IsPut, IsTouched, change_cmp, entry_with, puts}
+use Rattle.zeb_leaf.specs.PrivateMerging.{ArePartedAt, Begins, IsRestBehind, Merges}
 use Rattle.zeb_leaf.specs.Spans.{key_cmp}
 use Rattle.zeb_leaf.specs.declared.merging.BlockChange.{BlockChange}
 use Rattle.zeb_leaf.specs.declared.merging.NewBlock.{NewBlock}
@@ -78,14 +77,14 @@ puts_rise term block (Some new) = (tt, tt)
 -- ---- entries parted at a key
 
 -- what is behind a key in a rising list is above it
-behind_above : (term : List ℕ) (block : ℕ) (rest behind : List Entry) → IsStrictlySortedBy entry_cmp rest → BeginsFrom term block rest → IsRestBehind term block rest behind → (e : Entry) → Contains behind e → entry_cmp (bare term block) e ≡ Less
+behind_above : (term : List ℕ) (block : ℕ) (rest behind : List Entry) → IsStrictlySortedBy entry_cmp rest → ¬ Begins term block Less rest → IsRestBehind term block rest behind → (e : Entry) → Contains behind e → entry_cmp (bare term block) e ≡ Less
 behind_above term block rest behind up next (inl own) e has =
     let there = subst (λ (list : List Entry). IsStrictlySortedBy entry_cmp list) own.1 up in
     level_below (bare term block) own.0 e (level_key (bare term block) own.0 (sym (key_level own.0 (bare term block) own.2).0) (sym (key_level own.0 (bare term block) own.2).1)) (first_below entry_cmp own.0 behind e there has)
 behind_above term block rest behind up next (inr other) e has =
     all_above rest up next other.1 (subst (λ (list : List Entry). Contains list e) other.0 has)
   where
-    all_above : (rest : List Entry) → IsStrictlySortedBy entry_cmp rest → BeginsFrom term block rest → BeginsElsewhere term block rest → Contains rest e → entry_cmp (bare term block) e ≡ Less
+    all_above : (rest : List Entry) → IsStrictlySortedBy entry_cmp rest → ¬ Begins term block Less rest → ¬ Begins term block Equal rest → Contains rest e → entry_cmp (bare term block) e ≡ Less
     all_above [] up next other has = absurd (none_in e has)
     all_above (f ∷ rest) up next other has =
         let first : entry_cmp (bare term block) f ≡ Less = turned f (bare term block) next other in

@@ -1,5 +1,5 @@
 -- Into which leaves a list of entries is cut.
-use Rattle.std.specs.Prelude.{◌≡◌, ◌+◌, ◌/◌, ◌<◌, ◌≤◌, ℕ, List, [], ◌∷◌, ◌++◌, length}
+use Rattle.std.specs.Prelude.{◌≡◌, ◌/◌, ◌<◌, ◌≤◌, ℕ, List, [], ◌∷◌, ◌++◌, length}
 use Rattle.zeb_leaf.specs.Leaves.{IsLeaf, leaf_bytes}
 use Rattle.zeb_leaf.specs.declared.parting.Filling.{Filling}
 use Rattle.zeb_leaf.specs.declared.parting.Filling.TheVariants.{Even, Full}

@@ -1,13 +1,18 @@
 -- What only the contracts of private functions speak of; no public clause reaches it.
 -- The parts in which an entry is told, and when they tell one; which entries are chosen.
-use Rattle.std.specs.Prelude.{◌≡◌, ◌⊎◌, ℕ, ◌+◌, ◌^◌, ◌<◌, ◌≤◌, List, [], ◌∷◌, ◌++◌, length, drop, take}
+use Rattle.std.specs.Prelude.{◌≡◌, ◌≢◌, ◌⊎◌, ℕ, ◌+◌, ◌^◌, ◌<◌, ◌≤◌, List, [], ◌∷◌, ◌++◌, length, drop, take}
+use Rattle.std.specs.declared.cmp.Ordering.TheVariants.{Less}
+use Rattle.std.specs.Ordering.{nat_cmp}
+use Rattle.std.specs.Cmp.Lexicographic.{slice_cmp}
 use Rattle.zeb_blocks.specs.Numbers.{uleb}
-use Rattle.zeb_leaf.specs.Spans.{IsInSpan}
+use Rattle.zeb_leaf.specs.Spans.{IsInSpan, key_cmp}
 use Rattle.zeb_leaf.specs.Answers.{entry_of}
-use Rattle.zeb_leaf.specs.Leaves.{counted}
+use Rattle.zeb_leaf.specs.Leaves.{counted, shared_of}
 use Rattle.zeb_leaf.specs.Walks.{Place}
 use Rattle.zeb_leaf.specs.declared.entries.Entry.{Entry}
 use Rattle.zeb_leaf.specs.declared.entries.Held.{Held}
+use Rattle.zeb_leaf.specs.declared.spans.Side.{Side}
+use Rattle.zeb_leaf.specs.declared.spans.Side.TheVariants.{Below, Near, Past}
 use Rattle.zeb_leaf.specs.declared.telling.Told.{Told}
 
 -- the parts of an entry
@@ -56,6 +61,18 @@ abbrev pub entry_told : List ℕ → Parts → Entry
 entry_told before p = record { term = take p.shared before ++ p.suffix; block = p.block; records = p.records; bytes = p.bytes }
 
 -- ---- entries that are chosen
+
+-- the entry beside a span of keys: its term is below that of the first key and shares so many bytes with it, or it isn't below the end
+abbrev pub IsOnSide : (first end : List ℕ) → ℕ → (term : List ℕ) → ℕ → Side → Type 0
+IsOnSide first end number term block (Below count) = (slice_cmp nat_cmp term first ≡ Less) × (count ≡ shared_of term first)
+IsOnSide first end number term block Near = Unit {0}
+IsOnSide first end number term block Past = key_cmp term block end number ≢ Less
+
+-- an entry behind it that shares so many bytes with it is outside of the span
+abbrev pub IsOutside : Side → ℕ → Type 0
+IsOutside (Below count) shared = count < shared
+IsOutside Near shared = ⊥
+IsOutside Past shared = Unit {0}
 
 -- the entry is put behind the others, if its key is from one on and below another
 abbrev pub TakesIfInSpan : List ℕ → ℕ → List ℕ → ℕ → Entry → (old new : List Held) → Type 0

@@ -1,16 +1,18 @@
 //! An entry of a leaf, and why bytes can't be read.
-ghost use Rattle.std.specs.Prelude.{◌≡◌};
+ghost use Rattle.std.specs.Prelude.{◌≡◌, IfOk};
 
-use std::alloc::{AllocError, AllocFailed};
+use smallvec::SmallVec;
+use std::alloc::{AllocError, AllocFailed, Global};
 use std::marker::Model;
 
 /// So many bytes a leaf has at most, unless it has a single entry: above it, a leaf is parted.
 pub const LEAF_BYTES: usize = 3_000;
 
-/// Bytes of a leaf that are kept: contracts see their list.
+/// Bytes of a leaf that are kept: contracts see their list. Most terms are short, and so are the blocks of most terms: up to 24 bytes are kept in
+/// the value, since a leaf has hundreds of entries, and memory for each of them would take longer than all else.
 #[derive(Debug, Drop)]
 pub struct Bytes {
-    kept: Vec<u8>,
+    kept: SmallVec<u8, 24>,
 }
 
 impl Model for Bytes {
@@ -26,7 +28,18 @@ impl Bytes {
     pub fn new(kept: Vec<u8>) -> Bytes
         ensures { result ≡ kept.items }
     {
-        Bytes { kept }
+        Bytes {
+            kept: SmallVec::from_vec(kept),
+        }
+    }
+
+    /// A copy of these bytes. The only refusal is want of memory.
+    pub fn copied(alloc: Global, bytes: &[u8]) -> Result<Bytes, AllocError>
+        ensures { IfOk result (λ copy. copy ≡ bytes.now) }
+    {
+        Ok(Bytes {
+            kept: SmallVec::from_slice(alloc, bytes)?,
+        })
     }
 
     /// The bytes, lent.

@@ -20,7 +20,7 @@ pub use laws::{
 };
 pub use merging::{BlockChange, NewBlock, merge};
 pub use parting::{Filling, NewLeaf, cut};
-pub use reading::{find, read_leaf};
+pub use reading::{copy_entry, find, read_leaf};
 pub use spans::{BlockKey, push_span};
 pub use walking::LeafReader;
 pub use writing::{LeafWriter, spell_leaf};

@@ -1,18 +1,18 @@
 //! The entries of a leaf, with blocks changed.
-ghost use Rattle.std.specs.Prelude.{◌≡◌, ◌++◌, ◌≤◌, length, take, drop, IfOk, OnOk};
-ghost use Rattle.std.specs.declared.cmp.Ordering.TheVariants.{Less};
+ghost use Rattle.std.specs.Prelude.{◌≡◌, ◌++◌, ◌↔◌, IfOk, IsTrue, OnOk};
+ghost use Rattle.std.specs.declared.cmp.Ordering.TheVariants.{Equal, Less};
 ghost use Rattle.std.specs.List.{AllByRecursion};
 ghost use Rattle.std.specs.List.Sorted.{IsStrictlySortedBy};
-ghost use Rattle.zeb_leaf.specs.declared.entries.Entry.{Entry};
 ghost use Rattle.zeb_leaf.specs.Merging.{AreChanges, AreMerged, puts};
 ghost use Rattle.zeb_leaf.specs.Order.{IsEntry, entry_cmp};
-ghost use Rattle.zeb_leaf.specs.PrivateMerging.{ArePartedAt, BeginsFrom, IsRestBehind, Merges};
+ghost use Rattle.zeb_leaf.specs.PrivateMerging.{Begins, IsRestBehind, Merges, MovesBelow, TakesBelow};
 ghost use Rattle.zeb_leaf.specs.Spans.{key_cmp};
 
 use crate::entries::{Bytes, Entry};
 use crate::spans::{BlockKey, order};
 use std::alloc::{AllocError, Global};
 use std::cmp::Ordering;
+use std::collections::VecDeque;
 
 /// What a changed block has.
 #[derive(Debug, Drop)]
@@ -45,76 +45,67 @@ fn place(entry: &Entry, key: BlockKey) -> Ordering
     order(own, key)
 }
 
-/// How many entries there are before the first that isn't below the key.
-fn count_below(entries: &[Entry], key: BlockKey) -> usize
-    ensures within { result ≤ length entries.now }
-    ensures below { AllByRecursion (λ (e : Entry).
-        key_cmp e.term e.block key.entry.term.now key.entry.block ≡ Less)
-        (take result entries.now) }
-    ensures next { BeginsFrom key.entry.term.now key.entry.block (drop result entries.now) }
+/// Whether the first entry is below the key.
+fn begins_below(left: &VecDeque<Entry>, key: BlockKey) -> bool
+    ensures { IsTrue result ↔ Begins key.entry.term.now key.entry.block Less left.now.items }
 {
-    for (count, entry) in entries.iter().enumerate() {
-        if !place(entry, key).is_lt() {
-            return count;
-        }
-    }
-    entries.len()
-}
-
-/// The entries behind that of the key, where the first is; else all.
-fn behind<'a>(entries: &'a [Entry], key: BlockKey) -> &'a [Entry]
-    ensures { IsRestBehind key.entry.term.now key.entry.block entries.now result.now }
-{
-    match entries.split_first() {
-        None => entries,
-        Some((first, rest)) => {
-            if place(first, key).is_eq() {
-                rest
-            } else {
-                entries
-            }
-        }
+    match left.front() {
+        Some(first) => place(first, key).is_lt(),
+        None => false,
     }
 }
 
-/// Entries that are parted at a key: those below it, and those behind its own.
-#[derive(Clone, Copy)]
-struct Parted<'a> {
-    below: &'a [Entry],
-    behind: &'a [Entry],
-}
-
-/// Entries, parted at a key.
-fn parted_at<'a>(entries: &'a [Entry], key: BlockKey) -> Parted<'a>
-    ensures { ArePartedAt key.entry.term.now key.entry.block entries.now result.below.now
-        result.behind.now }
+/// Whether the first entry is that of the key.
+fn begins_at(left: &VecDeque<Entry>, key: BlockKey) -> bool
+    ensures { IsTrue result ↔ Begins key.entry.term.now key.entry.block Equal left.now.items }
 {
-    let (below, rest) = entries.split_at(count_below(entries, key));
-    Parted {
-        below,
-        behind: behind(rest, key),
+    match left.front() {
+        Some(first) => place(first, key).is_eq(),
+        None => false,
     }
 }
 
-/// An entry, copied.
-fn copied(alloc: Global, entry: &Entry) -> Result<Entry, AllocError>
-    ensures { IfOk result (λ copy. copy ≡ entry.now) }
+/// Takes the first entry out, if it is below the key.
+fn take_below(left: &mut VecDeque<Entry>, key: BlockKey) -> Option<Entry>
+    ensures { TakesBelow key.entry.term.now key.entry.block left.old.items left.new.items result }
 {
-    Ok(Entry {
-        term: Bytes::new(Vec::from_slice(alloc, entry.term.as_slice())?),
-        block: entry.block,
-        records: entry.records,
-        bytes: Bytes::new(Vec::from_slice(alloc, entry.bytes.as_slice())?),
-    })
+    if !begins_below(left, key) {
+        return None;
+    }
+    left.pop_front()
 }
 
-/// Puts copies of entries behind the others.
-fn push_copies(alloc: Global, merged: &mut Vec<Entry>, entries: &[Entry]) -> Result<(), AllocError>
-    ensures { OnOk result (merged.new.items ≡ merged.old.items ++ entries.now) }
+/// Moves the entries below the key from the front of some behind others.
+fn move_below(
+    merged: &mut Vec<Entry>,
+    left: &mut VecDeque<Entry>,
+    key: BlockKey,
+) -> Result<(), AllocError>
+    ensures { OnOk result (MovesBelow key.entry.term.now key.entry.block left.old.items
+        left.new.items merged.old.items merged.new.items) }
 {
-    for entry in entries {
-        let copy = copied(alloc, entry)?;
-        merged.push(copy)?;
+    while let Some(entry) = take_below(left, key) {
+        merged.push(entry)?;
+    }
+    Ok(())
+}
+
+/// Leaves the first entry out, if it is that of the key.
+fn drop_own(left: &mut VecDeque<Entry>, key: BlockKey)
+    ensures { IsRestBehind key.entry.term.now key.entry.block left.old.items left.new.items }
+{
+    if begins_at(left, key) {
+        left.pop_front();
+    }
+}
+
+/// Moves all entries that are left behind the others.
+fn move_all(merged: &mut Vec<Entry>, left: VecDeque<Entry>) -> Result<(), AllocError>
+    ensures { OnOk result (merged.new.items ≡ merged.old.items ++ left.items) }
+{
+    let mut left = left;
+    while let Some(entry) = left.pop_front() {
+        merged.push(entry)?;
     }
     Ok(())
 }
@@ -135,42 +126,42 @@ fn push_new(merged: &mut Vec<Entry>, change: BlockChange) -> Result<(), AllocErr
     Ok(())
 }
 
-/// Puts the entries below a changed block, and what the change puts, behind the others. Left are the entries behind the block's own.
-fn push_up_to<'a>(
-    alloc: Global,
+/// Moves the entries below a changed block, and what the change puts, behind the others. Left are the entries behind the block's own.
+fn push_up_to(
     merged: &mut Vec<Entry>,
-    left: &'a [Entry],
+    left: &mut VecDeque<Entry>,
     change: BlockChange,
-) -> Result<&'a [Entry], AllocError>
-    ensures { IfOk result (λ rest. Merges change left.now merged.old.items merged.new.items rest.now) }
+) -> Result<(), AllocError>
+    ensures { OnOk result
+        (Merges change left.old.items merged.old.items merged.new.items left.new.items) }
 {
     let key = BlockKey {
         term: change.term.as_slice(),
         block: change.block,
     };
-    let parted = parted_at(left, key);
-    push_copies(alloc, merged, parted.below)?;
-    push_new(merged, change)?;
-    Ok(parted.behind)
+    move_below(merged, left, key)?;
+    drop_own(left, key);
+    push_new(merged, change)
 }
 
-/// The entries after changes: each changed block has what its change puts, and each other entry stays. The entries that stay are copied; what is
-/// put isn't. The only refusal is want of memory.
+/// The entries after changes: each changed block has what its change puts, and each other entry stays. No entry is copied. The only refusal is
+/// want of memory.
 pub fn merge(
     alloc: Global,
-    entries: &[Entry],
+    entries: Vec<Entry>,
     changes: Vec<BlockChange>,
 ) -> Result<Vec<Entry>, AllocError>
-    requires rising { IsStrictlySortedBy entry_cmp entries.now }
-    requires each { AllByRecursion IsEntry entries.now }
+    requires rising { IsStrictlySortedBy entry_cmp entries.items }
+    requires each { AllByRecursion IsEntry entries.items }
     requires changes { AreChanges changes.items }
-    ensures { IfOk result (λ merged. AreMerged changes.items entries.now merged.items) }
+    ensures { IfOk result (λ merged. AreMerged changes.items entries.items merged.items) }
 {
-    let mut merged = Vec::new(alloc);
-    let mut left = entries;
+    let most = entries.len().saturating_add(changes.len());
+    let mut merged = Vec::with_capacity(alloc, most)?;
+    let mut left = VecDeque::from_vec(entries);
     for change in changes {
-        left = push_up_to(alloc, &mut merged, left, change)?;
+        push_up_to(&mut merged, &mut left, change)?;
     }
-    push_copies(alloc, &mut merged, left)?;
+    move_all(&mut merged, left)?;
     Ok(merged)
 }

@@ -62,19 +62,6 @@ fn entry_len(before: &[u8], entry: &Entry) -> usize
     numbers.saturating_add(rest).saturating_add(bytes)
 }
 
-/// How many bytes a leaf with these entries takes; 2^64 - 1 where they are more.
-fn leaf_len(entries: &[Entry]) -> usize
-    ensures { result ≡ min (length (leaf_bytes entries.now)) (2 ^ 64 - 1) }
-{
-    let mut len: usize = 0;
-    let mut before: &[u8] = &[];
-    for entry in entries {
-        len = len.saturating_add(entry_len(before, entry));
-        before = entry.term.as_slice();
-    }
-    len
-}
-
 /// How many entries a leaf takes: as many as can be in so many bytes, and one at least.
 fn fitting(entries: &[Entry], most: usize) -> usize
     requires small { most < 2 ^ 64 - 1 }
@@ -118,6 +105,19 @@ fn share(left: usize, filling: Filling) -> usize
     }
 }
 
+/// The leaf with these entries and bytes.
+fn leaf_with(alloc: Global, entries: &[Entry], bytes: Vec<u8>) -> Result<NewLeaf, AllocError>
+    requires { entries.now ≢ [] }
+    ensures { IfOk result (λ leaf. BeginsAt leaf entries.now × (leaf.bytes ≡ bytes.items)) }
+{
+    let first = &entries[0];
+    Ok(NewLeaf {
+        term: Bytes::copied(alloc, first.term.as_slice())?,
+        block: first.block,
+        bytes: Bytes::new(bytes),
+    })
+}
+
 /// The leaf with these entries.
 fn new_leaf(alloc: Global, entries: &[Entry]) -> Result<NewLeaf, AllocError>
     requires some { entries.now ≢ [] }
@@ -125,12 +125,33 @@ fn new_leaf(alloc: Global, entries: &[Entry]) -> Result<NewLeaf, AllocError>
     requires each { AllByRecursion IsEntry entries.now }
     ensures { IfOk result (λ leaf. BeginsAt leaf entries.now × IsLeaf leaf.bytes entries.now) }
 {
-    let first = &entries[0];
-    Ok(NewLeaf {
-        term: Bytes::new(Vec::from_slice(alloc, first.term.as_slice())?),
-        block: first.block,
-        bytes: Bytes::new(spell_leaf(alloc, entries)?),
-    })
+    let bytes = spell_leaf(alloc, entries)?;
+    leaf_with(alloc, entries, bytes)
+}
+
+/// The leaves with these entries, which take so many bytes together, as of [`cut`].
+fn leaves_of(
+    alloc: Global,
+    entries: &[Entry],
+    taken: usize,
+    filling: Filling,
+) -> Result<Vec<NewLeaf>, AllocError>
+    requires rising { IsStrictlySortedBy entry_cmp entries.now }
+    requires each { AllByRecursion IsEntry entries.now }
+    ensures { IfOk result (λ leaves. AreCut (bytes_above filling) leaves.items entries.now) }
+{
+    let mut leaves = Vec::new(alloc);
+    let mut rest = entries;
+    let mut left = taken;
+    while !rest.is_empty() {
+        let most = share(left, filling);
+        let (own, behind) = rest.split_at(fitting(rest, most));
+        let leaf = new_leaf(alloc, own)?;
+        left = left.saturating_sub(leaf.bytes.as_slice().len());
+        leaves.push(leaf)?;
+        rest = behind;
+    }
+    Ok(leaves)
 }
 
 /// The leaves with these entries, one behind the other: each has one entry at least, and several take at most [`LEAF_BYTES`] bytes. By the
@@ -141,16 +162,16 @@ pub fn cut(alloc: Global, entries: &[Entry], filling: Filling) -> Result<Vec<New
     requires each { AllByRecursion IsEntry entries.now }
     ensures { IfOk result (λ leaves. AreCut (bytes_above filling) leaves.items entries.now) }
 {
-    let mut leaves = Vec::new(alloc);
-    let mut rest = entries;
-    let mut left = leaf_len(entries);
-    while !rest.is_empty() {
-        let most = share(left, filling);
-        let (own, behind) = rest.split_at(fitting(rest, most));
-        let leaf = new_leaf(alloc, own)?;
-        left = left.saturating_sub(leaf.bytes.as_slice().len());
-        leaves.push(leaf)?;
-        rest = behind;
+    if entries.is_empty() {
+        return Ok(Vec::new(alloc));
     }
+    // Most changes leave a leaf small enough: then it is spelled once, and nothing is counted.
+    let bytes = spell_leaf(alloc, entries)?;
+    if bytes.len() > LEAF_BYTES {
+        return leaves_of(alloc, entries, bytes.len(), filling);
+    }
+    let leaf = leaf_with(alloc, entries, bytes)?;
+    let mut leaves = Vec::new(alloc);
+    leaves.push(leaf)?;
     Ok(leaves)
 }

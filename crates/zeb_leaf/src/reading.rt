@@ -9,14 +9,14 @@ use crate::walking::LeafReader;
 use std::alloc::{AllocError, Global};
 
 /// The entry of a term that has this beside it, its bytes copied.
-fn copy_entry(alloc: Global, term: &[u8], held: Held) -> Result<Entry, AllocError>
+pub fn copy_entry(alloc: Global, term: &[u8], held: Held) -> Result<Entry, AllocError>
     ensures { IfOk result (λ entry. entry ≡ entry_of term.now held.entry) }
 {
     Ok(Entry {
-        term: Bytes::new(Vec::from_slice(alloc, term)?),
+        term: Bytes::copied(alloc, term)?,
         block: held.block,
         records: held.records,
-        bytes: Bytes::new(Vec::from_slice(alloc, held.bytes)?),
+        bytes: Bytes::copied(alloc, held.bytes)?,
     })
 }
 

@@ -1,15 +1,15 @@
 //! What a leaf has from one key to another.
-ghost use Rattle.std.specs.Prelude.{◌≡◌, ◌≢◌, ◌++◌, ◌↔◌, List, IsTrue, OnOk};
-ghost use Rattle.std.specs.declared.cmp.Ordering.TheVariants.{Less};
+ghost use Rattle.std.specs.Prelude.{◌≡◌, ◌++◌, ◌↔◌, List, IfOk, IsTrue, OnOk};
 ghost use Rattle.zeb_leaf.specs.declared.entries.Entry.{Entry};
 ghost use Rattle.zeb_leaf.specs.declared.entries.Held.{Held};
 ghost use Rattle.zeb_leaf.specs.Spans.{AreInSpan, key_cmp};
 ghost use Rattle.zeb_leaf.specs.Answers.{Answers, entry_of};
 ghost use Rattle.zeb_leaf.specs.Leaves.{IsLeaf};
-ghost use Rattle.zeb_leaf.specs.PrivateTold.{TakesIfInSpan};
+ghost use Rattle.zeb_leaf.specs.PrivateTold.{IsOnSide, IsOutside, TakesIfInSpan};
 
 use crate::entries::{Held, LeafFault};
 use crate::walking::LeafReader;
+use crate::writing::shared_len;
 use std::alloc::{AllocError, Global};
 use std::cmp::Ordering;
 
@@ -28,14 +28,26 @@ pub(crate) fn order(one: BlockKey, other: BlockKey) -> Ordering
     one.term.cmp(other.term).then(one.block.cmp(&other.block))
 }
 
-/// Whether a key isn't below the first one and is below the end.
-fn is_in_span(key: BlockKey, first: BlockKey, end: BlockKey) -> bool
-    ensures { IsTrue result
-        ↔ ((key_cmp key.entry.term.now key.entry.block first.entry.term.now first.entry.block
-        ≢ Less)
-        × (key_cmp key.entry.term.now key.entry.block end.entry.term.now end.entry.block ≡ Less)) }
+/// Where the last entry that was compared stands beside a span of keys.
+#[derive(Clone, Copy, Debug)]
+enum Side {
+    /// Its term is below that of the first key, and shares so many bytes with it.
+    Below(usize),
+    /// It may be in the span, or the next one may.
+    Near,
+    /// It isn't below the end.
+    Past,
+}
+
+/// Whether the next entry, whose term shares so many bytes with the last one, is known to be outside of the span.
+fn is_outside(side: Side, shared: usize) -> bool
+    ensures { IsTrue result ↔ IsOutside side shared }
 {
-    !order(key, first).is_lt() && order(key, end).is_lt()
+    match side {
+        Side::Below(count) => count < shared,
+        Side::Near => false,
+        Side::Past => true,
+    }
 }
 
 /// Puts what an entry of this term has beside it behind the others, if its key isn't below the first one and is below the end.
@@ -45,23 +57,31 @@ fn push_if_in_span<'a>(
     found: Held<'a>,
     first: BlockKey,
     end: BlockKey,
-) -> Result<(), AllocError>
-    ensures { OnOk result (TakesIfInSpan first.entry.term.now first.entry.block
+) -> Result<Side, AllocError>
+    ensures takes { OnOk result (TakesIfInSpan first.entry.term.now first.entry.block
         end.entry.term.now end.entry.block
         (entry_of own.now found.entry) held.old.items held.new.items) }
+    ensures side { IfOk result (λ side. IsOnSide first.entry.term.now
+        end.entry.term.now end.entry.block own.now found.entry.block side) }
 {
+    if own.cmp(first.term).is_lt() {
+        return Ok(Side::Below(shared_len(own, first.term)));
+    }
     let key = BlockKey {
         term: own,
         block: found.block,
     };
-    if is_in_span(key, first, end) {
+    if !order(key, end).is_lt() {
+        return Ok(Side::Past);
+    }
+    if !order(key, first).is_lt() {
         held.push(found)?;
     }
-    Ok(())
+    Ok(Side::Near)
 }
 
 /// Puts what a leaf has from the first key on and below the end behind the others. Nothing of the leaf is copied but one term at a time, and
-/// all of it is read.
+/// all of it is read. Before the first key few terms are compared with its own, and behind the end none is.
 ///
 /// [`LeafFault::Malformed`] exactly where the bytes are no leaf, as of [`read_leaf`](crate::read_leaf).
 pub fn push_span<'a>(
@@ -81,8 +101,11 @@ pub fn push_span<'a>(
         return Err(LeafFault::Malformed);
     }
     let mut reader = LeafReader::new(alloc, bytes);
-    while let Some(found) = reader.next()? {
-        push_if_in_span(held, reader.term(), found, first, end)?;
+    let mut side = Side::Near;
+    while let Some(step) = reader.step()? {
+        if !is_outside(side, step.shared) {
+            side = push_if_in_span(held, reader.term(), step.held, first, end)?;
+        }
     }
     Ok(())
 }

@@ -27,7 +27,8 @@ ghost use Rattle.zeb_leaf.specs.Leaves.{counted};
 fn read_counted<'a>(bytes: &'a [u8]) -> Option<(&'a [u8], &'a [u8])>
     ensures { MatchOption result
         ((part rest : List ℕ) → length part < 2 ^ 64 → bytes.now ≢ counted part ++ rest)
-        (λ found. (length found.0.now < 2 ^ 64) × (bytes.now ≡ counted found.0.now ++ found.1.now)) }
+        (λ found. (length found.0.now < 2 ^ 64) ×
+        (bytes.now ≡ counted found.0.now ++ found.1.now)) }
 {
     let (count, behind) = read_number(bytes)?;
     behind.split_at_checked(count as usize)
@@ -39,7 +40,8 @@ impl<'a> Told<'a> {
     /// The parts at the front of the bytes, and what stands behind them; `None` where the bytes don't begin with an entry's parts.
     pub(crate) fn read(bytes: &'a [u8]) -> Option<(Told<'a>, &'a [u8])>
         ensures { MatchOption result
-            ((parts : Parts) (rest : List ℕ) → AreSmall parts → bytes.now ≢ parts_bytes parts ++ rest)
+            ((parts : Parts) (rest : List ℕ) → AreSmall parts
+            → bytes.now ≢ parts_bytes parts ++ rest)
             (λ found. AreSmall (parts_told found.0)
             × (bytes.now ≡ parts_bytes (parts_told found.0) ++ found.1.now)) }
     {

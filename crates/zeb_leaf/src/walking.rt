@@ -1,6 +1,8 @@
 //! A walk over a leaf, entry by entry.
-ghost use Rattle.std.specs.Prelude.{◌≡◌, ◌++◌, ◌↔◌, [], IsTrue, IsUtf8, OnErr, OnOk, MatchOption};
+ghost use Rattle.std.specs.Prelude.{◌≡◌, ◌≤◌, ◌++◌, ◌↔◌, [], IsTrue, IsUtf8, OnErr, OnOk, MatchOption, length, take};
+ghost use Rattle.std.specs.Str.{IsCharBoundary};
 ghost use Rattle.zeb_leaf.specs.Answers.{Answers, entry_of};
+ghost use Rattle.zeb_leaf.specs.Leaves.{shared_of};
 ghost use Rattle.zeb_leaf.specs.Walks.{Steps, IsStuck, first_place};
 
 use crate::entries::{Held, LeafFault};
@@ -15,11 +17,12 @@ pub struct LeafReader<'a> {
     term: Vec<u8>,
     least: u64,
     left: &'a [u8],
-    /// Where the next term is put together: only once it is known to be text, it takes the place of the one before it.
-    next_term: Vec<u8>,
+    /// Where a term is put together that shares a part of a character: only once it is known to be text, it takes the place of the one before it.
+    tried: Vec<u8>,
 }
 
 impl<'a> Model for LeafReader<'a> {
+    ghost use Rattle.std.specs.Prelude.{IsUtf8};
     ghost use Rattle.zeb_leaf.specs.Walks.{Walk};
 
     ghost Value = { Walk };
@@ -28,6 +31,16 @@ impl<'a> Model for LeafReader<'a> {
       place = record { term = r.term.items; least = r.least };
       left = r.left.now;
     } };
+
+    ghost invariant = { λ r. IsUtf8 r.term.items };
+}
+
+/// An entry that a walk came over.
+#[derive(Clone, Copy, Debug)]
+pub(crate) struct Step<'a> {
+    /// How many bytes of its term are those of the term before it.
+    pub(crate) shared: usize,
+    pub(crate) held: Held<'a>,
 }
 
 /// Makes the bytes those of two parts, one behind the other. Where memory ran out, they may be others.
@@ -46,6 +59,55 @@ fn is_text(bytes: &[u8]) -> bool
     str::from_utf8(bytes).is_ok()
 }
 
+/// Whether no byte within a character stands at this place.
+fn is_between_characters(bytes: &[u8], place: usize) -> bool
+    requires { place ≤ length bytes.now }
+    ensures { IsTrue result → IsCharBoundary bytes.now place }
+{
+    match bytes.get(place) {
+        Some(byte) => *byte < 0x80 || *byte >= 0xc0,
+        None => true,
+    }
+}
+
+/// Cuts bytes at the place, and puts others behind. Where memory ran out, they stay as they were.
+fn set_behind(bytes: &mut Vec<u8>, place: usize, back: &[u8]) -> Result<(), AllocError>
+    ensures ok { OnOk result (bytes.new.items ≡ take place bytes.old.items ++ back.now) }
+    ensures err { OnErr result (bytes.new.items ≡ bytes.old.items) }
+{
+    bytes.reserve(back.len())?;
+    bytes.truncate(place);
+    bytes.extend_from_slice(back)
+}
+
+/// Makes a text another one, which shares so many bytes at its front. `Malformed` just where that is no text. At a refusal the text stays;
+/// what is tried stands in other bytes.
+fn set_text(
+    text: &mut Vec<u8>,
+    tried: &mut Vec<u8>,
+    shared: usize,
+    suffix: &[u8],
+) -> Result<(), LeafFault>
+    requires { (shared ≤ length text.old.items) × IsUtf8 text.old.items }
+    ensures told { Answers (¬ IsUtf8 (take shared text.old.items ++ suffix.now))
+        (λ _. (text.new.items ≡ take shared text.old.items ++ suffix.now)
+        × IsUtf8 text.new.items) result }
+    ensures stays { OnErr result (text.new.items ≡ text.old.items) }
+{
+    // A text that is cut between characters, and a text behind it.
+    if is_between_characters(text.as_slice(), shared) && is_text(suffix) {
+        set_behind(text, shared, suffix)?;
+        return Ok(());
+    }
+    let (front, _) = text.as_slice().split_at(shared);
+    set_joined(tried, front, suffix)?;
+    if !is_text(tried.as_slice()) {
+        return Err(LeafFault::Malformed);
+    }
+    mem::swap(text, tried);
+    Ok(())
+}
+
 impl<'a> LeafReader<'a> {
     /// A walk before the first entry of the bytes. Nothing is allocated yet.
     pub fn new(alloc: Global, bytes: &'a [u8]) -> LeafReader<'a>
@@ -55,7 +117,7 @@ impl<'a> LeafReader<'a> {
             term: Vec::new(alloc),
             least: 0,
             left: bytes,
-            next_term: Vec::new(alloc),
+            tried: Vec::new(alloc),
         }
     }
 
@@ -64,6 +126,36 @@ impl<'a> LeafReader<'a> {
         ensures { result.now ≡ self.now.place.term }
     {
         self.term.as_slice()
+    }
+
+    /// The next entry, as of [`LeafReader::next`], and how many bytes its term shares with the one before it.
+    pub(crate) fn step(&mut self) -> Result<Option<Step<'a>>, LeafFault>
+        ensures answers { Answers (IsStuck self.old) (λ found. MatchOption found
+            ((self.old.left ≡ []) × (self.new ≡ self.old))
+            (λ step. Steps self.old (entry_of self.new.place.term step.held) self.new
+            × (step.shared ≡ shared_of self.old.place.term self.new.place.term))) result }
+        ensures stays { OnErr result (self.new ≡ self.old) }
+    {
+        if self.left.is_empty() {
+            return Ok(None);
+        }
+        let Some((told, left)) = Told::read(self.left) else {
+            return Err(LeafFault::Malformed);
+        };
+        if !told.fits(self.term.as_slice(), self.least) {
+            return Err(LeafFault::Malformed);
+        }
+        set_text(&mut self.term, &mut self.tried, told.shared, told.suffix)?;
+        self.least = told.block + 1;
+        self.left = left;
+        Ok(Some(Step {
+            shared: told.shared,
+            held: Held {
+                block: told.block,
+                records: told.records,
+                bytes: told.bytes,
+            },
+        }))
     }
 
     /// The next entry: its term is then [`LeafReader::term`]. `None` at the end of the bytes.
@@ -78,27 +170,9 @@ impl<'a> LeafReader<'a> {
             (λ held. Steps self.old (entry_of self.new.place.term held) self.new)) result }
         ensures stays { OnErr result (self.new ≡ self.old) }
     {
-        if self.left.is_empty() {
-            return Ok(None);
+        match self.step()? {
+            Some(step) => Ok(Some(step.held)),
+            None => Ok(None),
         }
-        let Some((told, left)) = Told::read(self.left) else {
-            return Err(LeafFault::Malformed);
-        };
-        if !told.fits(self.term.as_slice(), self.least) {
-            return Err(LeafFault::Malformed);
-        }
-        let (shared, _) = self.term.as_slice().split_at(told.shared);
-        set_joined(&mut self.next_term, shared, told.suffix)?;
-        if !is_text(self.next_term.as_slice()) {
-            return Err(LeafFault::Malformed);
-        }
-        mem::swap(&mut self.term, &mut self.next_term);
-        self.least = told.block + 1;
-        self.left = left;
-        Ok(Some(Held {
-            block: told.block,
-            records: told.records,
-            bytes: told.bytes,
-        }))
     }
 }

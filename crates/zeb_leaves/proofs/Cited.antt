@@ -29,7 +29,7 @@ pub use Rattle.zeb_leaf.specs.Order.{IsEntry, entry_cmp}
 pub use Rattle.zeb_leaf.specs.Walks.{first_place}
 pub use Rattle.zeb_leaf.specs.declared.entries.Entry.{Entry}
 pub use Rattle.zeb_register.specs.Covering.{Covers, HasEntriesAt, IsUpTo, LacksEntriesAt, ShowsEntries, leaf_key, own_key}
-pub use Rattle.zeb_register.specs.HeldLeaves.{AreLeavesAlone, HoldsLeaves, IsLeafAlone}
+pub use Rattle.zeb_register.specs.HeldLeaves.{AreAloneIn, HoldsLeaves, IsAnyLeaf, IsLeafAlone}
 pub use Rattle.zeb_register.specs.LeafUnits.{AreLeavesMiscounted, AreLeavesWhole, HasMalformedLeaf, IsLeafMalformed, IsLeafOf, LeavesCount, LeavesRead, LeavesReadBlock}
 pub use Rattle.zeb_leaves.specs.PrivateLeafReads.{HasBlockFrom, IsCovering, IsFirst, IsGreatest, IsLastOf, IsLeafAt, IsLeafIn, IsLeast, IsNextBehind, IsUncovered, ShowsFirst, ShowsGreatest, ShowsLast, ShowsLeast, ShowsSome, TellsSome}
 pub use Rattle.zeb_register.specs.Readings.{HasRecordOf, IsAt, IsEntryOf, IsPartMalformed, LacksSum, PartReads, SayPart, SaysPart, SumsRecords}

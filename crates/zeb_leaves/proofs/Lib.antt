@@ -3,6 +3,7 @@ pub mod LeafStatements
 pub mod LeafShapes
 pub mod CoveringLeaves
 pub mod CoveringCalls
+pub mod OnlyLeaf
 pub mod InsideCalls
 pub mod BehindStatements
 pub mod OneCover
@@ -13,6 +14,7 @@ pub mod SaidLists
 pub mod KeyCalls
 pub mod SpanRuns
 pub mod LeavesBehind
+pub mod NextLeaves
 pub mod SpanEntries
 pub mod SpanLists
 pub mod SpanCalls
@@ -30,6 +32,7 @@ pub mod CountedTerms
 pub mod TermsTold
 pub mod NearLists
 pub mod NearCalls
+pub mod WalkedRows
 pub mod NearTerms
 pub mod FirstTerms
 pub mod FallingKeys
@@ -41,6 +44,7 @@ pub mod SpotsSaid
 pub mod TermCalls
 pub mod CutPieces
 pub mod TurnedEntries
+pub mod SearchedEntries
 pub mod PiecesInTurn
 pub mod BlockTurns
 pub mod PiecesOfRuns
@@ -55,6 +59,7 @@ pub mod FrontPieces
 pub mod PiecesLeft
 pub mod TurningCalls
 pub mod OneKey
+pub mod CountedLeaves
 pub mod DatabaseRows
 pub mod WalkedLeaves
 pub mod WalkedHold

@@ -1,5 +1,5 @@
 -- What stays where the leaves of one register are changed for pieces: each other unit, each other count, and each row that is no leaf of it.
-use Rattle.zeb_leaves.proofs.Cited.{Row, column, Int, ◌≡◌, ◌↔◌, ◌⊎◌, ◌∙◌, ◌*◌, ◌/◌, ◌++◌, ◌∷◌, ℕ, ℤ, pos, List, [], refl, sym, ap, subst, inl, inr, arith, all_has, Has, HasRow, Trees, Entry, IsLeafAlone, IsLeafOf, IsRest, Key, AreLeavesAlone, blocks_tree, key_in, register_code, register_front}
+use Rattle.zeb_leaves.proofs.Cited.{Row, column, Int, ◌≡◌, ◌↔◌, ◌⊎◌, ◌∙◌, ◌*◌, ◌/◌, ◌++◌, ◌∷◌, ℕ, ℤ, pos, List, [], refl, sym, ap, subst, inl, inr, arith, all_has, Has, HasRow, Trees, Entry, IsLeafAlone, IsLeafOf, IsRest, Key, AreAloneIn, IsAnyLeaf, blocks_tree, key_in, register_code, register_front}
 use Rattle.zeb_leaf.specs.declared.merging.BlockChange.{BlockChange}
 use Rattle.zeb_register.proofs.ContentChanges.{told_spot}
 use Rattle.zeb_register.proofs.ContentLemmas.{same_key}
@@ -80,21 +80,25 @@ module _ (a b : Trees) (db : ℤ) (key : Key) (beside : KeepsBesideLeaves db key
     all_alike : (d : ℤ) (k : Key) → ¬ HasKeyUnit db Changed d k → (block : ℕ) → Alike d k block
     all_alike d k out block = subst (Alike d k) (number block) (alike d k (256 * block) (λ it. out (256 * block, it)))
 
-    kept_alone : AreLeavesAlone a → AreLeavesAlone b
-    kept_alone alone = record {
-      blocks = λ row there. elim (beside.comes row there) [
-        | inl was ↦ alone.blocks row was
-        | inr it ↦
-            let leaf : IsLeafOf b db key it.0 = (subst (HasRow b blocks_tree) it.2 there, it.1, it.3) in
-            let shape = (beside.after db key).shaped it.0 leaf in
-            (db, key_in key.index key.register shape.0, shape.1, shape.2, it.2 ∙ ap (λ (r : Row). register_front db key.index key.register ++ r) shape.3)
-      ];
-      leaves = λ d k. elim (told_register db key d k) [
-        | inl same ↦ subst (λ (f : Row). (leaf : Row) → In f b leaf → IsLeafAlone (In f b) leaf) (front_so db key d k same.0 same.1 same.2) (leaves.alone (alone.leaves db key))
-        | inr other ↦ (λ leaf there. alone_so (IsLeafOf a d k) (IsLeafOf b d k) (rows_so d k other) leaf (alone.leaves d k leaf ((rows_so d k other leaf).1 there)))
-      ];
-      alone = (beside.postings ∙ alone.alone.0, beside.dict ∙ alone.alone.1);
-    }
+    -- a row that comes is a leaf
+    comes_shaped : (row : Row) → HasRow b blocks_tree row → HasRow a blocks_tree row ⊎ IsAnyLeaf row
+    comes_shaped row there = elim (beside.comes row there) [
+      | inl was ↦ inl was
+      | inr it ↦
+          let leaf : IsLeafOf b db key it.0 = (subst (HasRow b blocks_tree) it.2 there, it.1, it.3) in
+          let shape = (beside.after db key).shaped it.0 leaf in
+          inr (db, key_in key.index key.register shape.0, shape.1, shape.2, it.2 ∙ ap (λ (r : Row). register_front db key.index key.register ++ r) shape.3)
+    ]
+
+    -- the entries of a register are covered where they were
+    kept_alone : (d : ℤ) (k : Key) → AreAloneIn a d k → AreAloneIn b d k
+    kept_alone d k alone = elim (told_register db key d k) [
+      | inl same ↦
+          let Alone : Trees → Row → Type 0 = λ trees f. (leaf : Row) → In f trees leaf → IsLeafAlone (In f trees) leaf in
+          let front = front_so db key d k same.0 same.1 same.2 in
+          subst (Alone b) front (leaves.alone (subst (Alone a) (sym front) alone))
+      | inr other ↦ (λ leaf there. alone_so (IsLeafOf a d k) (IsLeafOf b d k) (rows_so d k other) leaf (alone leaf ((rows_so d k other leaf).1 there)))
+    ]
 
     -- some unit of the register is among them
     first_unit : (p : KeyChanges) × (n : ℕ) × Has pieces p × Changed p.key.now n
@@ -135,6 +139,7 @@ module _ (a b : Trees) (db : ℤ) (key : Key) (beside : KeepsBesideLeaves db key
             lacks_taken (IsLeafOf b d k) (IsLeafOf a d k) k.term (λ block. (like block).1),
           );
       alone = kept_alone;
+      shaped = comes_shaped;
       blocks = λ row out. (
         λ h. elim (beside.comes row h) [ inl was ↦ was | inr it ↦ absurd (out (beneath row it)) ],
         λ h. beside.stays row (λ it. out (beneath row it)) h,

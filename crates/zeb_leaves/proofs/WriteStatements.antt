@@ -1,5 +1,5 @@
 -- The statements that write leaves, each with what it is compiled to.
-use Rattle.zeb_leaves.proofs.Cited.{◌≡◌, ◌∙◌, ◌∷◌, ℕ, ℤ, List, [], Ok, drop, refl, sym, ap, ap₂, inl, inr, Blob, Int, Null, Text, Row, State, IsStore, blocks_tree, store_schema}
+use Rattle.zeb_leaves.proofs.Cited.{arith, ◌≡◌, ◌∙◌, ◌∷◌, ℕ, ℤ, List, [], Ok, drop, refl, sym, ap, ap₂, inl, inr, Blob, Int, Null, Text, Row, State, IsStore, blocks_tree, store_schema}
 use Rattle.sqlite.proofs.Callers.{IsPlain, command_of}
 use Rattle.sqlite.specs.Command.TheVariants.{Insert, Update}
 use Rattle.sqlite.specs.Listing.{understood}
@@ -10,11 +10,13 @@ use Rattle.sqlite.specs.declared.types.Value.{Value}
 use Rattle.sqlite_tied.specs.Compute.{everything}
 use Rattle.zeb_leaves.specs.declared.writes.TheConstants.{ADD, SET}
 use Rattle.zeb_register.proofs.PostingStatements.{blocks, blocks_static}
+use Rattle.zeb_register.proofs.RowCounts.{gained_longer, remade_as_many}
 use Rattle.zeb_register.proofs.StatementForms.{Condition, alone, equals, no_limit, reading}
 use Rattle.zeb_register.proofs.Writes.{RemakesRows, changed_so, gains, inserts, updates}
 use Rattle.zeb_register.specs.PrivateKeyColumns.{IsBlockOf}
 use Rattle.zeb_register.specs.PrivateRowStatements.{Gains, Renews}
 use Rattle.zeb_register.specs.Store.{Changes}
+use Rattle.zeb_register.specs.Tallies.{HasMoreLeaves}
 
 abbrev pub six : ℤ → ℤ → ℤ → List ℕ → ℤ → List ℕ → Row
 six db idx reg term block bytes = Int db ∷ Int idx ∷ Int reg ∷ Text term ∷ Int block ∷ Blob bytes ∷ []
@@ -40,6 +42,11 @@ pub adds_leaf : (db idx reg : ℤ) (term : List ℕ) (block : ℤ) (bytes : List
 adds_leaf db idx reg term block bytes old new count store ran =
     let row = six db idx reg term block bytes in
     gains store_schema 9 old new row (inserts store_schema 4 blocks blocks_static add_text row add_terms 7 row add_is add_plain refl refl old new count store ran).0
+
+pub adds_one : (db idx reg : ℤ) (term : List ℕ) (block : ℤ) (bytes : List ℕ) (old new : State) (count : ℕ) → IsStore old → Executes add_text (six db idx reg term block bytes) old new (Ok count) → HasMoreLeaves 1 old.now.trees new.now.trees
+adds_one db idx reg term block bytes old new count store ran =
+    let row = six db idx reg term block bytes in
+    gained_longer store_schema 4 blocks blocks_static old new store row (inserts store_schema 4 blocks blocks_static add_text row add_terms 7 row add_is add_plain refl refl old new count store ran).0
 
 -- ---- UPDATE
 
@@ -86,3 +93,9 @@ sets_leaf db idx reg term block bytes old new count store ran =
             (id, (each (Int id ∷ columns)).1 (inr (Int id ∷ there.0, there.1.1, (p.0, (p.1, (p.2, (p.3, (p.4, tt))))), is)))
       ],
     )) done
+
+pub sets_none : (db idx reg : ℤ) (term : List ℕ) (block : ℤ) (bytes : List ℕ) (old new : State) (count : ℕ) → IsStore old → Executes set_text (six db idx reg term block bytes) old new (Ok count) → HasMoreLeaves 0 old.now.trees new.now.trees
+sets_none db idx reg term block bytes old new count store ran =
+    let row = six db idx reg term block bytes in
+    let many = remade_as_many store_schema 4 blocks blocks_static old new store row set_wheres set_terms refl (updates store_schema 4 blocks blocks_static set_text row set_wheres (col 1 0) set_terms set_is set_plain refl refl refl old new count store ran) in
+    omega (arith, many)

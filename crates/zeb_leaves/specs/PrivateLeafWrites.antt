@@ -1,7 +1,8 @@
 -- What only the contracts of private functions speak of; no public clause reaches it: leaves that are written.
-use Rattle.std.specs.Prelude.{◌≡◌, ◌⊎◌, ◌↔◌, ◌++◌, ◌∷◌, ℕ, ℤ, pos, Bool, List, [], Option, Some, None}
+use Rattle.std.specs.Prelude.{◌≡◌, ◌⊎◌, ◌↔◌, ◌+◌, ◌++◌, ◌∷◌, ℕ, ℤ, pos, Bool, true, false, List, [], Option, Some, None, Result, IfOk, OnOk}
 use Rattle.sqlite.specs.declared.types.Value.TheVariants.{Blob, Int, Text}
 use Rattle.sqlite.specs.Order.{Row}
+use Rattle.sqlite.specs.State.{State}
 use Rattle.sqlite.specs.Tree.{Trees}
 use Rattle.sqlite_rules.specs.Lists.{Has}
 use Rattle.zeb_keys.specs.Registers.{register_code}
@@ -11,8 +12,10 @@ use Rattle.zeb_register.specs.Covering.{leaf_key}
 use Rattle.zeb_leaves.specs.LeafChanges.{ArePartedFrom}
 use Rattle.zeb_leaves.specs.PrivateSpans.{ShowsKey}
 use Rattle.zeb_leaves.specs.PrivateTermReads.{End}
+use Rattle.zeb_register.specs.Clauses.{InStore}
 use Rattle.zeb_register.specs.PrivateKeyColumns.{IsBlockOf, register_columns}
 use Rattle.zeb_register.specs.Sql.{HasRow}
+use Rattle.zeb_register.specs.Tallies.{HasMoreLeaves}
 use Rattle.zeb_register.specs.UnitChanges.{IsTold}
 use Rattle.zeb_register.specs.declared.registers.RegisterOf.{RegisterOf}
 
@@ -59,6 +62,25 @@ PutsEntries at term block entries tree old new =
 abbrev pub IfToldPutsEntries : Bool → RegisterOf → List ℕ → ℕ → List Entry → ℕ → Trees → Trees → Type 0
 IfToldPutsEntries is_there at term block entries tree old new =
     IsTold is_there (IsLeafWith at term (pos block)) tree old → PutsEntries at term block entries tree old new
+
+-- ---- how many leaves come
+
+-- accepted inside a transaction on a store, a call makes so many leaves more
+abbrev pub MakesLeaves : {A E : Type 0} → ℕ → (old new : State) → Result A E → Type 0
+MakesLeaves more old new result = InStore old new (λ trees. OnOk result (HasMoreLeaves more trees new.now.trees))
+
+-- how many leaves come where one is put: none where it is told to be there
+abbrev pub coming : Bool → ℕ
+coming true = 0
+coming false = 1
+
+-- so many leaves are written: one that is put, and others that come behind it
+abbrev pub WritesLeaves : Bool → (written : ℕ) → (old new : Trees) → Type 0
+WritesLeaves is_there written old new = (behind : ℕ) × (written ≡ 1 + behind) × HasMoreLeaves (coming is_there + behind) old new
+
+-- a call tells how many leaves it wrote
+abbrev pub TellsWritten : {E : Type 0} → Bool → (old new : State) → Result ℕ E → Type 0
+TellsWritten is_there old new result = InStore old new (λ trees. IfOk result (λ written. WritesLeaves is_there written trees new.now.trees))
 
 -- ---- the keys that a leaf covers, from its own key up to the leaf behind it
 

@@ -8,6 +8,7 @@ use Rattle.sqlite.specs.Order.{Row, column, value_cmp}
 use Rattle.sqlite.specs.Tree.{Trees}
 use Rattle.sqlite_rules.specs.Lists.{Has}
 use Rattle.zeb_blocks.specs.declared.postings.Posting.{Posting}
+use Rattle.zeb_leaf.specs.Leaves.{IsLeaf}
 use Rattle.zeb_leaf.specs.Spans.{key_cmp}
 use Rattle.zeb_leaf.specs.declared.entries.Entry.{Entry}
 use Rattle.zeb_register.specs.Covering.{Covers, ShowsEntries, leaf_key, own_key}
@@ -39,6 +40,10 @@ module _ (Leaves : Row → Type 0) (first : List ℕ) where
   AreLeavesFrom (row ∷ rows) = Covers Leaves (leaf_key first 0) row × IsListOf IsLeafFrom rows
 
 -- ---- the entries that they have there
+
+-- the bytes are those of a leaf with the entries, or there are neither
+abbrev pub AreEntries : List ℕ → List Entry → Type 0
+AreEntries bytes entries = IsLeaf bytes entries ⊎ ((bytes ≡ []) × (entries ≡ []))
 
 -- a key below which others are, or none
 abbrev pub End : Type 0
@@ -97,6 +102,10 @@ IsNoText e = ¬ IsUtf8 e.term
 -- it says no postings
 abbrev pub SaysNone : Entry → Type 0
 SaysNone e = (part : List Posting) → ¬ SaysPart e part
+
+-- an entry of a term that has so many records, and nothing beside
+abbrev pub entry_with_records : List ℕ → ℕ → Entry
+entry_with_records term records = record { term = term; block = 0; records = records; bytes = [] }
 
 -- the entry's records are counted with the last of the terms, if that is its own, or else by a term more
 abbrev pub CountsIn : Entry → (old new : List TermCount) → Type 0

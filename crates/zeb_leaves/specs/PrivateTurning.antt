@@ -1,5 +1,5 @@
 -- What only the contracts of private functions speak of; no public clause reaches it: the pieces of a run at the front, put into one leaf.
-use Rattle.std.specs.Prelude.{◌≡◌, ◌≤◌, ℕ, ℤ, List, [], ◌∷◌, Some, None, Result, length, take, IsUtf8}
+use Rattle.std.specs.Prelude.{◌≡◌, ◌≤◌, ℕ, ℤ, List, [], ◌∷◌, Some, None, Result, OnOk, length, take, IsUtf8}
 use Rattle.std.specs.declared.cmp.Ordering.TheVariants.{Less}
 use Rattle.sqlite.specs.Order.{Row}
 use Rattle.sqlite.specs.State.{State}
@@ -15,9 +15,11 @@ use Rattle.zeb_register.specs.Covering.{Covers, leaf_key}
 use Rattle.zeb_register.specs.Formats.{packed_leaves}
 use Rattle.zeb_register.specs.RunChanges.{LacksLeave, PutsKeys}
 use Rattle.zeb_register.specs.Store.{IsStore}
+use Rattle.zeb_register.specs.Tallies.{Rises, WorksOnLeaves}
 use Rattle.zeb_register.specs.declared.faults.RegFault.{RegFault}
 use Rattle.zeb_register.specs.declared.registers.KeyChanges.{KeyChanges}
 use Rattle.zeb_register.specs.declared.registers.RegisterOf.{RegisterOf}
+use Rattle.zeb_register.specs.declared.registers.Work.{Work}
 
 -- the piece is of the register
 abbrev pub IsOfRegister : RegisterOf → KeyChanges → Type 0
@@ -54,3 +56,16 @@ BeginsFront at pieces old new result = InStore old new (λ trees. ((leaf : Row) 
 abbrev pub ReplacesFront : RegisterOf → Row → End → List KeyChanges → (old new : State) → Result ℕ RegFault → Type 0
 ReplacesFront at leaf end pieces old new result = InStore old new (λ trees.
     EndsLeaf (IsLeafIn trees at) leaf end → CoversFirst (IsLeafIn trees at) leaf pieces → PutsFront at.db.0 pieces trees new result)
+
+-- ---- what is counted
+
+-- so many leaves are counted as read, and so many as written, and nothing else
+pub record CountsLeaves (read written : ℕ) (was is : Work) : Type 0 where
+  pub reads_terms : is.dict_read ≡ was.dict_read
+  pub writes_terms : is.dict_written ≡ was.dict_written
+  pub reads_leaves : Rises read was.block_read is.block_read
+  pub writes_leaves : Rises written was.block_written is.block_written
+
+-- accepted inside a transaction on a store, a call counts what so many changes do
+abbrev pub CountsChanges : {A : Type 0} → ℕ → (old new : State) → Result A RegFault → Work → Work → Type 0
+CountsChanges changes old new result was is = InStore old new (λ trees. OnOk result (WorksOnLeaves changes trees new.now.trees was is))

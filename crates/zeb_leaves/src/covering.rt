@@ -41,7 +41,7 @@ fn leaf_of_term<S: Alter>(
 }
 
 /// The greatest leaf of the terms below this one.
-fn leaf_of_terms_below<S: Alter>(
+pub(crate) fn leaf_of_terms_below<S: Alter>(
     conn: &mut Connection<S>,
     at: RegisterOf,
     term: &str,

@@ -1,6 +1,6 @@
 //! The leaf that covers a block of a term, and the one behind it, inside a transaction.
 
-ghost use Rattle.std.specs.Prelude.{◌≡◌, ◌≢◌, ◌<◌, ◌++◌, ◌∷◌, ◌^◌, [], None, Err, IfErr, IfOk};
+ghost use Rattle.std.specs.Prelude.{◌≡◌, ◌≢◌, ◌<◌, ◌++◌, ◌∷◌, ◌^◌, [], None, Some, Err, IfErr, IfOk, IsTrue};
 ghost use Rattle.std.specs.Option.{option_map};
 ghost use Rattle.sqlite.specs.Held.{state};
 ghost use Rattle.zeb_leaf.specs.declared.spans.BlockKey.{BlockKey as KeyOfBlock};
@@ -11,8 +11,9 @@ ghost use Rattle.zeb_leaves.specs.PrivateTermReads.{IsRowFrom};
 ghost use Rattle.zeb_register.specs.Answers.{Answers, IfDamaged};
 ghost use Rattle.zeb_register.specs.Calls.{Inside, OnlyReads};
 ghost use Rattle.zeb_register.specs.Clauses.{InStore, TellsInside};
-ghost use Rattle.zeb_register.specs.Covering.{leaf_key};
+ghost use Rattle.zeb_register.specs.Covering.{IsUpTo, leaf_key};
 
+use crate::own_entries::is_below;
 use crate::spans::own_key;
 use crate::statements_inside::{
     leaf_of_term_from, leaf_of_term_inside, leaf_of_terms_below_inside, leaf_of_terms_from,
@@ -24,8 +25,37 @@ use zeb_leaf::BlockKey;
 use zeb_register::for_layouts::text_above;
 use zeb_register::{RegFault, RegisterOf};
 
-/// The leaf that covers a block of a term. `None` where each leaf is above them, or there is none.
-fn covering_leaf<S: Alter>(
+/// Whether the own key of a leaf isn't above a key; so, too, where there is no leaf.
+fn is_up_to(found: &Option<Row>, key: BlockKey) -> bool
+    ensures { IsTrue result → (leaf : _) → found.now ≡ Some leaf
+        → IsUpTo (leaf_key key.entry.term.now key.entry.block) leaf }
+{
+    match found {
+        Some(leaf) => match own_key(leaf) {
+            Ok(own) => !is_below(key, own),
+            Err(_) => false,
+        },
+        None => true,
+    }
+}
+
+/// Whether the own key of a leaf is above a key; so, too, where there is no leaf.
+fn is_above(found: &Option<Row>, key: BlockKey) -> bool
+    ensures { IsTrue result → (leaf : _) → found.now ≡ Some leaf
+        → ¬ IsUpTo (leaf_key key.entry.term.now key.entry.block) leaf }
+{
+    match found {
+        Some(leaf) => match own_key(leaf) {
+            Ok(own) => is_below(key, own),
+            Err(_) => false,
+        },
+        None => true,
+    }
+}
+
+/// The leaf that covers a block of a term: it is looked for among those of the term, and then among those of the terms below. `None` where each
+/// leaf is above the block, or there is none.
+fn covering_by_term<S: Alter>(
     tx: &mut Transaction<'_, S>,
     at: RegisterOf,
     term: &str,
@@ -47,6 +77,36 @@ fn covering_leaf<S: Alter>(
     }
 }
 
+/// The leaf that covers a block of a term. `None` where each leaf is above them, or there is none.
+fn covering_leaf<S: Alter>(
+    alloc: Global,
+    tx: &mut Transaction<'_, S>,
+    at: RegisterOf,
+    term: &str,
+    block: u64,
+) -> Result<Option<Row>, RegFault>
+    requires { block < 2 ^ 56 }
+    ensures same { tx.new.conn.ghost_name ≡ tx.old.conn.ghost_name }
+    ensures call { Inside (state S.Store tx.old.conn.now) (state S.Store tx.new.conn.now) result
+        (λ _. OnlyReads) }
+    ensures covers { TellsInside (state S.Store tx.old.conn.now) (state S.Store tx.new.conn.now)
+        result
+        (λ trees found. IsCovering (IsLeafIn trees at) (leaf_key term.now block) found) }
+    ensures honest { result ≢ Err RegFault.Damaged }
+{
+    let end = text_above(alloc, term)?;
+    let key = BlockKey {
+        term: term.as_bytes(),
+        block,
+    };
+    // Few terms have leaves of their own. So the greatest leaf of the terms up to this one mostly covers it, and it is read alone.
+    let last = leaf_of_terms_below_inside(tx, at, end.as_str())?;
+    if is_up_to(&last, key) {
+        return Ok(last);
+    }
+    covering_by_term(tx, at, term, block)
+}
+
 /// No leaf. `Damaged` where the register has one.
 fn no_leaf<S: Alter>(tx: &mut Transaction<'_, S>, at: RegisterOf) -> Result<Option<Row>, RegFault>
     ensures same { tx.new.conn.ghost_name ≡ tx.old.conn.ghost_name }
@@ -64,6 +124,7 @@ fn no_leaf<S: Alter>(tx: &mut Transaction<'_, S>, at: RegisterOf) -> Result<Opti
 
 /// The leaf that covers a block of a term; `None` where the register has no leaf. `Damaged` just where it has one, and none covers them.
 pub(crate) fn leaf_inside<S: Alter>(
+    alloc: Global,
     tx: &mut Transaction<'_, S>,
     at: RegisterOf,
     term: &str,
@@ -78,7 +139,7 @@ pub(crate) fn leaf_inside<S: Alter>(
         (IfDamaged (IsUncovered (IsLeafIn trees at) (leaf_key term.now block)))
         (λ found. IsLeafAt (IsLeafIn trees at) (leaf_key term.now block) found) result) }
 {
-    match covering_leaf(tx, at, term, block)? {
+    match covering_leaf(alloc, tx, at, term, block)? {
         Some(leaf) => Ok(Some(leaf)),
         None => no_leaf(tx, at),
     }
@@ -102,8 +163,9 @@ fn leaf_of_terms_above<S: Alter>(
     leaf_of_terms_from(tx, at, first.as_str())
 }
 
-/// The leaf with the least own key above a block of a term; `None` where no leaf is above them. It is never refused as `Damaged`.
-pub(crate) fn leaf_behind<S: Alter>(
+/// The leaf with the least own key above a block of a term: it is looked for among those of the term, and then among those of the terms above.
+/// `None` where no leaf is above the block.
+fn behind_by_term<S: Alter>(
     alloc: Global,
     tx: &mut Transaction<'_, S>,
     at: RegisterOf,
@@ -124,6 +186,35 @@ pub(crate) fn leaf_behind<S: Alter>(
         Some(leaf) => Ok(Some(leaf)),
         None => leaf_of_terms_above(alloc, tx, at, term),
     }
+}
+
+/// The leaf with the least own key above a block of a term; `None` where no leaf is above them. It is never refused as `Damaged`.
+pub(crate) fn leaf_behind<S: Alter>(
+    alloc: Global,
+    tx: &mut Transaction<'_, S>,
+    at: RegisterOf,
+    term: &str,
+    block: u64,
+) -> Result<Option<Row>, RegFault>
+    requires { block < 2 ^ 56 }
+    ensures same { tx.new.conn.ghost_name ≡ tx.old.conn.ghost_name }
+    ensures call { Inside (state S.Store tx.old.conn.now) (state S.Store tx.new.conn.now) result
+        (λ _. OnlyReads) }
+    ensures finds { TellsInside (state S.Store tx.old.conn.now) (state S.Store tx.new.conn.now)
+        result
+        (λ trees found. IsNextBehind (IsLeafIn trees at) (leaf_key term.now block) found) }
+    ensures honest { result ≢ Err RegFault.Damaged }
+{
+    let key = BlockKey {
+        term: term.as_bytes(),
+        block,
+    };
+    // As in `covering_leaf`: the least leaf of the terms from this one on is mostly above the block.
+    let next = leaf_of_terms_from(tx, at, term)?;
+    if is_above(&next, key) {
+        return Ok(next);
+    }
+    behind_by_term(alloc, tx, at, term, block)
 }
 
 /// The own key of the leaf behind another one, where there is one: the end of the keys that the other covers. It takes no memory: it is refused

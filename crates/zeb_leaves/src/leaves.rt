@@ -17,7 +17,9 @@ use zeb_register::{
     Totals, Work,
 };
 
-/// The layout with one row of `blocks` for many neighbouring keys, a leaf, and no row of `postings` or `dict`. It counts no work.
+/// The layout with one row of `blocks` for many neighbouring keys, a leaf, and no row of `postings` or `dict`.
+///
+/// Of a change it counts the leaves that are read for it, and those that are written. The calls that read lists, terms and totals count nothing.
 #[derive(Clone, Copy, Debug, PartialEq, Eq)]
 pub struct Leaves;
 
@@ -37,22 +39,22 @@ impl Layout for Leaves {
 
     fn key_changes<S: Alter>(
         tx: &mut Transaction<'_, S>,
-        _work: &mut Work,
+        work: &mut Work,
         db: DatabaseId,
         key: &Key,
         changes: &[RecordChange<'_>],
     ) -> Result<(), RegFault> {
-        key_changes(tx, db, key, changes)
+        key_changes(tx, work, db, key, changes)
     }
 
     /// Each leaf is read once and written once for all changes that it covers, of 4,096 blocks at most.
     fn run_changes<S: Alter>(
         tx: &mut Transaction<'_, S>,
-        _work: &mut Work,
+        work: &mut Work,
         db: DatabaseId,
         run: &[KeyChanges<'_>],
     ) -> Result<(), RegFault> {
-        run_changes(tx, db, run)
+        run_changes(tx, work, db, run)
     }
 
     fn database_take<S: Alter>(

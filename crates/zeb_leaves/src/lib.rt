@@ -17,6 +17,7 @@ mod last_terms;
 mod leaves;
 mod near_rows;
 mod near_terms;
+mod only_leaf;
 mod own_entries;
 mod pieces;
 mod replacing;

@@ -10,9 +10,9 @@ ghost use Rattle.zeb_register.specs.Clauses.{IsReasoned};
 ghost use Rattle.zeb_register.specs.Formats.{packed_leaves};
 ghost use Rattle.zeb_register.specs.Terms.{TellsBefore, TellsFrom};
 
-use crate::covering::leaf_at;
 use crate::first_terms::first_within;
 use crate::last_terms::last_within;
+use crate::only_leaf::leaf_from;
 use crate::statements::some_row;
 use sqlite::{Alter, Connection, Row};
 use std::alloc::Global;
@@ -27,8 +27,17 @@ pub(crate) enum Side {
     Below,
 }
 
-/// The leaves that are read first.
-const FEW: u32 = 4;
+/// A leaf has many terms. So many are expected of each, and no leaf more than is likely needed is read at first.
+const LEAF_TERMS: u64 = 64;
+
+/// How many leaves are read first for so many terms.
+fn few_leaves(n: u64) -> u32
+    ensures { 1 ≤ result }
+{
+    u32::try_from(n / LEAF_TERMS)
+        .unwrap_or(u32::MAX)
+        .saturating_add(1)
+}
 
 /// The `n` terms of the side that are nearest to the start, by at most `limit` leaves there. `None` where more leaves have to be read.
 fn terms_within<S: Alter>(
@@ -67,7 +76,7 @@ fn terms_beside<S: Alter>(
     ensures tells { TellsBeside at start.now n side.now (state S.Store conn.old)
         (state S.Store conn.new) result }
 {
-    let mut limit = FEW;
+    let mut limit = few_leaves(n);
     'turns: for _turn in 0..u32::BITS {
         if let Some(counts) = terms_within(alloc, conn, at, side, start, n, limit)? {
             return Ok(counts);
@@ -110,7 +119,7 @@ pub fn terms_from<S: Alter>(
     if n == 0 {
         return no_terms(alloc, conn, at);
     }
-    match leaf_at(conn, at, start, 0)? {
+    match leaf_from(alloc, conn, at, start)? {
         Some(leaf) => terms_beside(alloc, conn, at, &Side::From(leaf), start, n),
         None => Ok(Vec::new(alloc)),
     }

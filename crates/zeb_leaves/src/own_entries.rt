@@ -1,19 +1,21 @@
 //! The entries that a leaf has of the keys from one on and below another.
 
-ghost use Rattle.std.specs.Prelude.{◌≡◌, ◌≢◌};
+ghost use Rattle.std.specs.Prelude.{◌≡◌, ◌≢◌, ◌++◌, ◌∷◌, [], List, MatchOption, OnOk, filter};
 ghost use Rattle.std.specs.Option.{option_map};
 ghost use Rattle.std.specs.Ordering.{is_lt};
+ghost use Rattle.zeb_leaf.specs.Answers.{entry_of};
 ghost use Rattle.zeb_leaf.specs.Spans.{key_cmp};
+ghost use Rattle.zeb_leaf.specs.Walks.{IsStuck, Steps};
+ghost use Rattle.zeb_leaf.specs.declared.entries.Entry.{Entry as LeafEntry};
 ghost use Rattle.zeb_leaf.specs.declared.spans.BlockKey.{BlockKey as KeyOfBlock};
-ghost use Rattle.zeb_register.specs.Covering.{ShowsEntries};
 ghost use Rattle.zeb_leaves.specs.PrivateSpans.{ShowsNone};
-ghost use Rattle.zeb_leaves.specs.PrivateTermReads.{ShowsOwn, is_own};
+ghost use Rattle.zeb_leaves.specs.PrivateTermReads.{AreEntries, ShowsOwn, is_own};
 ghost use Rattle.zeb_register.specs.Answers.{Answers, IfDamaged};
 
 use crate::spans::{leaf_bytes, told_of_leaf};
 use sqlite::Row;
-use std::alloc::Global;
-use zeb_leaf::{BlockKey, Entry, read_leaf};
+use std::alloc::{AllocError, Global};
+use zeb_leaf::{BlockKey, Entry, Held, LeafReader, copy_entry};
 use zeb_register::RegFault;
 
 /// Whether a key is below another one.
@@ -27,14 +29,15 @@ pub(crate) fn is_below(key: BlockKey, other: BlockKey) -> bool
         .is_lt()
 }
 
-/// Whether an entry's key isn't below `from`, and is below the end, where there is one.
-fn is_own_entry(entry: &Entry, from: BlockKey, end: Option<BlockKey>) -> bool
+/// Whether the key of an entry of this term isn't below `from`, and is below the end, where there is one.
+pub(crate) fn is_own_entry(term: &[u8], held: Held, from: BlockKey, end: Option<BlockKey>) -> bool
     ensures { result ≡ is_own from.entry.term.now from.entry.block
-        (option_map (λ (k : KeyOfBlock). (k.term.now, k.block)) end.entry) entry.now }
+        (option_map (λ (k : KeyOfBlock). (k.term.now, k.block)) end.entry)
+        (entry_of term.now held.entry) }
 {
     let key = BlockKey {
-        term: entry.term.as_slice(),
-        block: entry.block,
+        term,
+        block: held.block,
     };
     match end {
         Some(end) => !is_below(key, from) && is_below(key, end),
@@ -42,19 +45,57 @@ fn is_own_entry(entry: &Entry, from: BlockKey, end: Option<BlockKey>) -> bool
     }
 }
 
-/// The entries of a row: none where it has no bytes. It is refused where the bytes are no leaf, or its own term is no text.
-fn row_entries(alloc: Global, row: &Row) -> Result<Vec<Entry>, RegFault>
-    ensures { Answers (λ fault. (fault ≢ RegFault.Store) × IfDamaged (ShowsNone row.now) fault)
-        (λ entries. ShowsEntries row.now entries.items) result }
+/// The next entry of a walk over a leaf: its term is the walk's then.
+pub(crate) fn next_entry<'a>(reader: &mut LeafReader<'a>) -> Result<Option<Held<'a>>, RegFault>
+    ensures { Answers (λ fault. (fault ≢ RegFault.Store) × IfDamaged (IsStuck reader.old) fault)
+        (λ found. MatchOption found ((reader.old.left ≡ []) × (reader.new ≡ reader.old))
+        (λ held. Steps reader.old (entry_of reader.new.place.term held) reader.new)) result }
 {
-    let bytes = leaf_bytes(row)?;
-    if bytes.is_empty() {
-        return Ok(Vec::new(alloc));
-    }
-    read_leaf(alloc, bytes).map_err(told_of_leaf)
+    reader.next().map_err(told_of_leaf)
 }
 
-/// The entries of a row from the first key on and below the end, where there is one.
+/// Puts an entry of this term behind the others, if its key isn't below `from` and is below the end, where there is one.
+fn push_if_own(
+    alloc: Global,
+    own: &mut Vec<Entry>,
+    term: &[u8],
+    held: Held,
+    from: BlockKey,
+    end: Option<BlockKey>,
+) -> Result<(), AllocError>
+    ensures { OnOk result (own.new.items ≡ own.old.items ++ filter (is_own from.entry.term.now
+        from.entry.block (option_map (λ (k : KeyOfBlock). (k.term.now, k.block)) end.entry))
+        (entry_of term.now held.entry ∷ [])) }
+{
+    if is_own_entry(term, held, from, end) {
+        own.push(copy_entry(alloc, term, held)?)?;
+    }
+    Ok(())
+}
+
+/// The entries that bytes have from the first key on and below the end, where there is one. No bytes have none.
+fn entries_in(
+    alloc: Global,
+    bytes: &[u8],
+    from: BlockKey,
+    end: Option<BlockKey>,
+) -> Result<Vec<Entry>, RegFault>
+    ensures { Answers (λ fault. (fault ≢ RegFault.Store)
+        × IfDamaged ((list : List LeafEntry) → ¬ AreEntries bytes.now list) fault)
+        (λ own. (list : List LeafEntry) × AreEntries bytes.now list
+        × (own.items ≡ filter (is_own from.entry.term.now from.entry.block
+        (option_map (λ (k : KeyOfBlock). (k.term.now, k.block)) end.entry)) list)) result }
+{
+    let mut reader = LeafReader::new(alloc, bytes);
+    let mut own = Vec::new(alloc);
+    while let Some(held) = next_entry(&mut reader)? {
+        push_if_own(alloc, &mut own, reader.term(), held, from, end)?;
+    }
+    Ok(own)
+}
+
+/// The entries of a row from the first key on and below the end, where there is one: none where the row has no bytes. It is refused where
+/// the bytes are no leaf, or its own term is no text.
 pub(crate) fn own_entries(
     alloc: Global,
     row: &Row,
@@ -66,7 +107,6 @@ pub(crate) fn own_entries(
         (option_map (λ (k : KeyOfBlock). (k.term.now, k.block)) end.entry) row.now own.items)
         result }
 {
-    let mut entries = row_entries(alloc, row)?;
-    entries.retain(|entry| is_own_entry(entry, from, end));
-    Ok(entries)
+    let bytes = leaf_bytes(row)?;
+    entries_in(alloc, bytes, from, end)
 }

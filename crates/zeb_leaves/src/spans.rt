@@ -1,6 +1,8 @@
 //! The leaves that cover the blocks of neighbouring terms, and what they have of these.
 
-ghost use Rattle.std.specs.Prelude.{◌≡◌, ◌≢◌, ◌↔◌, ◌++◌, ◌∷◌, [], ℕ, List, Err, IfErr, IfOk, IsTrue};
+ghost use Rattle.std.specs.Prelude.{◌≡◌, ◌≢◌, ◌↔◌, ◌++◌, ◌∷◌, [], ℕ, List, true, Err, IfErr, IfOk, IsTrue};
+ghost use Rattle.std.specs.Cmp.Lexicographic.{slice_cmp};
+ghost use Rattle.std.specs.Ordering.{is_lt, nat_cmp};
 ghost use Rattle.sqlite.specs.Held.{state};
 ghost use Rattle.sqlite.specs.Order.{column};
 ghost use Rattle.sqlite.specs.State.{IsUnchanged};
@@ -15,6 +17,7 @@ ghost use Rattle.zeb_register.specs.Clauses.{IsReasoned, OnStore, Tells};
 ghost use Rattle.zeb_register.specs.Sql.{IsListOf};
 
 use crate::covering::leaf_at;
+use crate::only_leaf::only_leaf;
 use crate::statements::rows_between;
 use sqlite::types::ValueRef;
 use sqlite::{Alter, Connection, Row};
@@ -44,9 +47,8 @@ fn span_from<S: Alter>(
     Ok(rows)
 }
 
-/// The leaves that cover the blocks of the terms from the first text on and below the end, which is the least text above `last`: none where
-/// the register has none. The first may stand there twice. `Damaged` just where it has one, and none covers the first text's first block.
-pub(crate) fn span_leaves<S: Alter>(
+/// The same as [`span_leaves`], where more than one leaf may have these terms.
+fn many_leaves<S: Alter>(
     alloc: Global,
     conn: &mut Connection<S>,
     at: RegisterOf,
@@ -65,6 +67,32 @@ pub(crate) fn span_leaves<S: Alter>(
         Some(leaf) => span_from(conn, at, first, end, leaf),
         None => Ok(Vec::new(alloc)),
     }
+}
+
+/// The leaves that cover the blocks of the terms from the first text on and below the end, which is the least text above `last`: none where
+/// the register has none. The first may stand there twice. `Damaged` just where it has one, and none covers the first text's first block.
+pub(crate) fn span_leaves<S: Alter>(
+    alloc: Global,
+    conn: &mut Connection<S>,
+    at: RegisterOf,
+    first: &str,
+    end: &str,
+) -> Result<Vec<Row>, RegFault>
+    requires { is_lt (slice_cmp nat_cmp first.now end.now) ≡ true }
+    ensures call { Reading (state S.Store conn.old) (state S.Store conn.new) result
+        (λ _. IsUnchanged) }
+    ensures finds { OnStore (state S.Store conn.old) (state S.Store conn.new) (λ trees. Answers
+        (IfDamaged (IsUncovered (IsLeafIn trees at) (leaf_key first.now 0)))
+        (λ rows. (last : List ℕ) → end.now ≡ last ++ 0 ∷ []
+        → AreSpanLeaves (IsLeafIn trees at) first.now last rows.items) result) }
+    ensures refused { IsReasoned (state S.Store conn.old) (state S.Store conn.new) result }
+{
+    let Some(leaf) = only_leaf(conn, at, first, end)? else {
+        return many_leaves(alloc, conn, at, first, end);
+    };
+    let mut rows = Vec::new(alloc);
+    rows.push(leaf)?;
+    Ok(rows)
 }
 
 /// The bytes of the text at this place of a row, as they lie there. They take no memory: they are refused as `Damaged` alone, where there
@@ -186,7 +214,8 @@ pub(crate) fn spans_in<'a>(
     first: &'a [u8],
     end: &[u8],
 ) -> Result<Vec<Held<'a>>, RegFault>
-    ensures { Answers (λ fault. (fault ≢ RegFault.Store) × IfDamaged (SomeShowsNoKey rows.now) fault)
+    ensures { Answers (λ fault. (fault ≢ RegFault.Store) × IfDamaged
+        (SomeShowsNoKey rows.now) fault)
         (λ held. ShowAllSpans end.now first.now rows.now held.items) result }
 {
     match rows.split_first() {

@@ -7,6 +7,7 @@ ghost use Rattle.sqlite.specs.State.{IsUnchanged};
 ghost use Rattle.zeb_leaf.specs.declared.spans.BlockKey.{BlockKey as KeyOfBlock};
 ghost use Rattle.zeb_leaves.specs.PrivateTermReads.{CountAll, CountsIn, HideAllOwns, HideOwns, HidesOwn};
 ghost use Rattle.zeb_leaves.specs.PrivateTermReads.{IsNoText, ShowAllOwns, ShowOwns, ShowsOwn, SomeBad};
+ghost use Rattle.zeb_leaves.specs.PrivateTermReads.{entry_with_records};
 ghost use Rattle.zeb_register.specs.Answers.{Answers, IfDamaged};
 ghost use Rattle.zeb_register.specs.Calls.{Reading};
 ghost use Rattle.zeb_register.specs.Formats.{packed_leaves};
@@ -40,7 +41,29 @@ pub(crate) fn is_term(term: &Term, bytes: &[u8]) -> bool
     term.as_str().as_bytes() == bytes
 }
 
-/// Counts the records of an entry. No term of the entries behind it comes before the last of those that are counted.
+/// Counts so many records of a term. No term that is counted behind it comes before it.
+pub(crate) fn count_records(
+    alloc: Global,
+    counts: &mut Vec<TermCount>,
+    term: &[u8],
+    records: u64,
+) -> Result<(), RegFault>
+    ensures { Answers (λ fault. (fault ≢ RegFault.Store) × IfDamaged (¬ IsUtf8 term.now) fault)
+        (λ _. CountsIn (entry_with_records term.now records) counts.old.items counts.new.items)
+        result }
+{
+    if let Some(last) = counts.last_mut() {
+        if is_term(&last.term, term) {
+            last.records = records_with(last.records, records)?;
+            return Ok(());
+        }
+    }
+    let term = term_of(alloc, term)?;
+    counts.push(TermCount { term, records })?;
+    Ok(())
+}
+
+/// Counts the records of an entry.
 pub(crate) fn count_entry(
     alloc: Global,
     counts: &mut Vec<TermCount>,
@@ -49,18 +72,7 @@ pub(crate) fn count_entry(
     ensures { Answers (λ fault. (fault ≢ RegFault.Store) × IfDamaged (IsNoText entry.now) fault)
         (λ _. CountsIn entry.now counts.old.items counts.new.items) result }
 {
-    if let Some(last) = counts.last_mut() {
-        if is_term(&last.term, entry.term.as_slice()) {
-            last.records = records_with(last.records, entry.records)?;
-            return Ok(());
-        }
-    }
-    let term = term_of(alloc, entry.term.as_slice())?;
-    counts.push(TermCount {
-        term,
-        records: entry.records,
-    })?;
-    Ok(())
+    count_records(alloc, counts, entry.term.as_slice(), entry.records)
 }
 
 /// Counts the records of entries, one after the other.

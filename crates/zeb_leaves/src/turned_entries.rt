@@ -1,11 +1,12 @@
 //! What becomes of the entries of a leaf where pieces of a run are changed: each piece's entry is read, turned and spelled anew.
 
-ghost use Rattle.std.specs.Prelude.{◌≢◌, ◌↔◌, List, IsTrue, IfOk, MatchOption};
+ghost use Rattle.std.specs.Prelude.{◌≡◌, ◌≢◌, List, IfOk, MatchOption};
 ghost use Rattle.std.specs.List.{AllByRecursion};
 ghost use Rattle.std.specs.List.Sorted.{IsStrictlySortedBy};
 ghost use Rattle.sqlite_rules.specs.Lists.{Has};
 ghost use Rattle.zeb_blocks.specs.Blocks.{LiesIn};
 ghost use Rattle.zeb_leaf.specs.Order.{entry_cmp};
+ghost use Rattle.zeb_leaf.specs.Spans.{key_cmp};
 ghost use Rattle.zeb_leaf.specs.declared.entries.Entry.{Entry};
 ghost use Rattle.zeb_leaves.specs.PrivatePieces.{HasPostings, IsPiece, LackTurn, LacksTurn, TurnAllEntries, TurnsEntries, block_of};
 ghost use Rattle.zeb_register.specs.Answers.{Answers, IfDamaged};
@@ -18,31 +19,35 @@ ghost use Rattle.zeb_register.specs.UnitChanges.{IsStorableChange, KeyUnits, Tur
 use crate::pieces::first_block;
 use crate::said_postings::{push_said, records_in};
 use std::alloc::{AllocError, Global};
+use std::cmp::Ordering;
 use zeb_blocks::{Posting, spell};
 use zeb_leaf::{BlockChange, BlockKey, Bytes, Entry, Held, NewBlock};
 use zeb_register::for_layouts::postings_changed;
 use zeb_register::{KeyChanges, RecordChange, RegFault};
 
-/// Whether an entry is that of a block of a term.
-fn is_at(entry: &Entry, key: BlockKey) -> bool
-    ensures { IsTrue result ↔ IsAt key.entry.term.now key.entry.block entry.now }
+/// How an entry lies to a key.
+fn place(entry: &Entry, key: BlockKey) -> Ordering
+    ensures { result ≡ key_cmp entry.now.term entry.now.block key.entry.term.now key.entry.block }
 {
-    entry.block == key.block && entry.term.as_slice() == key.term
+    entry
+        .term
+        .as_slice()
+        .cmp(key.term)
+        .then(entry.block.cmp(&key.block))
 }
 
 /// The entry of a block of a term, where there is one.
 fn entry_at<'a>(entries: &'a [Entry], key: BlockKey) -> Option<&'a Entry>
+    requires { IsStrictlySortedBy entry_cmp entries.now }
     ensures { MatchOption result
         ((e : Entry) → Has entries.now e → ¬ IsAt key.entry.term.now key.entry.block e)
         (λ found. Has entries.now found.now
         × IsAt key.entry.term.now key.entry.block found.now) }
 {
-    for entry in entries {
-        if is_at(entry, key) {
-            return Some(entry);
-        }
+    match entries.binary_search_by(|entry| place(entry, key)) {
+        Ok(at) => Some(&entries[at]),
+        Err(_) => None,
     }
-    None
 }
 
 /// The postings that entries say of a block of a term: none where it has no entry.

@@ -6,11 +6,13 @@ ghost use Rattle.std.specs.Option.{option_map};
 ghost use Rattle.sqlite.specs.Held.{state};
 ghost use Rattle.zeb_leaf.specs.declared.spans.BlockKey.{BlockKey as KeyOfBlock};
 ghost use Rattle.zeb_leaves.specs.PrivatePieces.{ArePieces, AreStorable};
-ghost use Rattle.zeb_leaves.specs.PrivateTurning.{BeginsFront, IsBelow, IsOfRegister};
-ghost use Rattle.zeb_leaves.specs.PrivateTurning.{IsTextOf, ReplacesFront, TurnsFront};
+ghost use Rattle.zeb_leaves.specs.PrivateTurning.{BeginsFront, CountsChanges, CountsLeaves, IsBelow};
+ghost use Rattle.zeb_leaves.specs.PrivateTurning.{IsOfRegister, IsTextOf, ReplacesFront, TurnsFront};
 ghost use Rattle.zeb_register.specs.Calls.{GoesOn, Inside};
+ghost use Rattle.zeb_register.specs.Clauses.{InStore};
 ghost use Rattle.zeb_register.specs.Formats.{packed_leaves};
-ghost use Rattle.zeb_register.specs.RunChanges.{ChangesKeys, IsRun};
+ghost use Rattle.zeb_register.specs.RunChanges.{ChangesKeys, IsRun, changes_in};
+ghost use Rattle.zeb_register.specs.Tallies.{WorksOnLeaves};
 ghost use Rattle.zeb_register.specs.UnitChanges.{ChangesKey, NumbersRise};
 
 use crate::inside::{end_at, leaf_behind, leaf_inside};
@@ -23,8 +25,8 @@ use sqlite::{Alter, Row, Transaction};
 use std::alloc::Global;
 use zeb_keys::Key;
 use zeb_leaf::{BlockKey, Filling, merge};
-use zeb_register::for_layouts::{check_changes, nothing_inside};
-use zeb_register::{DatabaseId, KeyChanges, RecordChange, RegFault, RegisterOf};
+use zeb_register::for_layouts::{check_changes, counted, counts_are_numbers, nothing_inside};
+use zeb_register::{DatabaseId, KeyChanges, RecordChange, RegFault, RegisterOf, Work};
 
 /// So many pieces are put into a leaf at once with the first one: their entries are held together.
 const MORE_AT_ONCE: usize = 4_095;
@@ -69,10 +71,20 @@ fn count_covered(pieces: &[KeyChanges<'_>], at: RegisterOf, end: Option<BlockKey
     pieces.len()
 }
 
-/// Puts the pieces at the front that are of the register, which has no leaf, into its first leaves; returns how many these are.
+/// Counts so many leaves as read, and so many as written.
+fn count_leaves(work: &mut Work, read: usize, written: usize)
+    ensures { CountsLeaves read written work.old work.new }
+{
+    work.block_read = counted(work.block_read, read);
+    work.block_written = counted(work.block_written, written);
+}
+
+/// Puts the pieces at the front that are of the register, which has no leaf, into its first leaves, and counts these; returns how many
+/// pieces it puts.
 fn register_begun<S: Alter>(
     alloc: Global,
     tx: &mut Transaction<'_, S>,
+    work: &mut Work,
     at: RegisterOf,
     pieces: &[KeyChanges<'_>],
 ) -> Result<usize, RegFault>
@@ -84,21 +96,25 @@ fn register_begun<S: Alter>(
         (λ _. GoesOn) }
     ensures turned { BeginsFront at pieces.now (state S.Store tx.old.conn.now)
         (state S.Store tx.new.conn.now) result }
+    ensures work { CountsChanges 1 (state S.Store tx.old.conn.now)
+        (state S.Store tx.new.conn.now) result work.old work.new }
     ensures further { IfOk result (λ count. (1 ≤ count) × (count ≤ length pieces.now)) }
 {
     let count = 1 + count_covered(&pieces[1..], at, None);
     let changes = piece_changes(alloc, &[], &pieces[..count])?;
-    let entries = merge(alloc, &[], changes)?;
+    let entries = merge(alloc, Vec::new(alloc), changes)?;
     let first = LeafKey { term: "", block: 0 };
-    entries_put(alloc, tx, at, first, false, &entries, Filling::Full)?;
+    let written = entries_put(alloc, tx, at, first, false, &entries, Filling::Full)?;
+    count_leaves(work, 0, written);
     Ok(count)
 }
 
 /// Puts the pieces at the front that a leaf covers, from that of the first on, into it; returns how many these are. The end is the own key of the
-/// leaf behind it. Leaves are filled where nothing stands behind them, and else halved.
+/// leaf behind it. Leaves are filled where nothing stands behind them, and else halved. It counts the leaf as read, and each that is written.
 fn leaf_turned<S: Alter>(
     alloc: Global,
     tx: &mut Transaction<'_, S>,
+    work: &mut Work,
     at: RegisterOf,
     leaf: &Row,
     end: Option<BlockKey<'_>>,
@@ -113,13 +129,15 @@ fn leaf_turned<S: Alter>(
     ensures turned { ReplacesFront at leaf.now
         (option_map (λ (k : KeyOfBlock). (k.term.now, k.block)) end.entry) pieces.now
         (state S.Store tx.old.conn.now) (state S.Store tx.new.conn.now) result }
+    ensures work { CountsChanges 1 (state S.Store tx.old.conn.now)
+        (state S.Store tx.new.conn.now) result work.old work.new }
     ensures further { IfOk result (λ count. (1 ≤ count) × (count ≤ length pieces.now)) }
 {
     let count = 1 + count_covered(&pieces[1..], at, end);
     let own = own_key(leaf)?;
     let entries = own_entries(alloc, leaf, own, end)?;
     let changes = piece_changes(alloc, &entries, &pieces[..count])?;
-    let merged = merge(alloc, &entries, changes)?;
+    let merged = merge(alloc, entries, changes)?;
     let key = LeafKey {
         term: text_of(own.term),
         block: own.block,
@@ -129,7 +147,8 @@ fn leaf_turned<S: Alter>(
     } else {
         Filling::Even
     };
-    entries_put(alloc, tx, at, key, true, &merged, filling)?;
+    let written = entries_put(alloc, tx, at, key, true, &merged, filling)?;
+    count_leaves(work, 1, written);
     Ok(count)
 }
 
@@ -140,6 +159,7 @@ fn leaf_turned<S: Alter>(
 fn front_turned<S: Alter>(
     alloc: Global,
     tx: &mut Transaction<'_, S>,
+    work: &mut Work,
     db: DatabaseId,
     pieces: &[KeyChanges<'_>],
 ) -> Result<usize, RegFault>
@@ -150,6 +170,8 @@ fn front_turned<S: Alter>(
         (λ _. GoesOn) }
     ensures turned { TurnsFront db.0 pieces.now (state S.Store tx.old.conn.now)
         (state S.Store tx.new.conn.now) result }
+    ensures work { CountsChanges 1 (state S.Store tx.old.conn.now)
+        (state S.Store tx.new.conn.now) result work.old work.new }
     ensures further { IfOk result (λ count. (1 ≤ count) × (count ≤ length pieces.now)) }
 {
     let first = pieces[0];
@@ -160,18 +182,19 @@ fn front_turned<S: Alter>(
     };
     let term = first.key.term.as_str();
     let block = first_block(first.changes);
-    let Some(leaf) = leaf_inside(tx, at, term, block)? else {
-        return register_begun(alloc, tx, at, pieces);
+    let Some(leaf) = leaf_inside(alloc, tx, at, term, block)? else {
+        return register_begun(alloc, tx, work, at, pieces);
     };
     let behind = leaf_behind(alloc, tx, at, term, block)?;
     let end = end_at(behind.as_ref())?;
-    leaf_turned(alloc, tx, at, &leaf, end, pieces)
+    leaf_turned(alloc, tx, work, at, &leaf, end, pieces)
 }
 
 /// Puts all pieces, leaf by leaf.
 fn pieces_turned<S: Alter>(
     alloc: Global,
     tx: &mut Transaction<'_, S>,
+    work: &mut Work,
     db: DatabaseId,
     pieces: &[KeyChanges<'_>],
 ) -> Result<(), RegFault>
@@ -181,10 +204,13 @@ fn pieces_turned<S: Alter>(
         (λ _ a b. IsTrue a.is_open → GoesOn a b) }
     ensures units { ChangesKeys packed_leaves db.0 pieces.now (state S.Store tx.old.conn.now)
         (state S.Store tx.new.conn.now) result }
+    ensures work { CountsChanges (length pieces.now) (state S.Store tx.old.conn.now)
+        (state S.Store tx.new.conn.now) result work.old work.new }
 {
     let mut done = 0;
     while done < pieces.len() {
-        done += front_turned(alloc, tx, db, &pieces[done..])?;
+        done += front_turned(alloc, tx, work, db, &pieces[done..])?;
+        counts_are_numbers(work);
     }
     Ok(())
 }
@@ -201,12 +227,13 @@ fn check_run(run: &[KeyChanges<'_>]) -> Result<(), RegFault>
 }
 
 /// Puts the changes of a run of keys, each where its `old` stood. Each leaf is read once and written once for all changes that it covers, of
-/// 4,096 blocks at most.
+/// 4,096 blocks at most. It counts as many as are read and written.
 ///
 /// `Damaged` where a record has other places than its `old`, and where what a leaf says of a changed block can't be read. `Store` also where a
 /// change can't be stored. Keys may be changed then that stand before the one that is refused.
 pub fn run_changes<S: Alter>(
     tx: &mut Transaction<'_, S>,
+    work: &mut Work,
     db: DatabaseId,
     run: &[KeyChanges<'_>],
 ) -> Result<(), RegFault>
@@ -216,12 +243,15 @@ pub fn run_changes<S: Alter>(
         (λ _. GoesOn) }
     ensures units { ChangesKeys packed_leaves db.0 run.now (state S.Store tx.old.conn.now)
         (state S.Store tx.new.conn.now) result }
+    ensures work { InStore (state S.Store tx.old.conn.now) (state S.Store tx.new.conn.now)
+        (λ trees. OnOk result (WorksOnLeaves (changes_in run.now) trees
+        (state S.Store tx.new.conn.now).now.trees work.old work.new)) }
 {
     // A closed connection is refused also where there is no change.
     let alloc = nothing_inside(tx)?;
     check_run(run)?;
     let pieces = pieces_of(alloc, run)?;
-    pieces_turned(alloc, tx, db, &pieces)
+    pieces_turned(alloc, tx, work, db, &pieces)
 }
 
 /// Puts the changes of one key, each where its `old` stood, as `run_changes` does.
@@ -230,6 +260,7 @@ pub fn run_changes<S: Alter>(
 /// change can't be stored.
 pub fn key_changes<S: Alter>(
     tx: &mut Transaction<'_, S>,
+    work: &mut Work,
     db: DatabaseId,
     key: &Key,
     changes: &[RecordChange<'_>],
@@ -240,6 +271,9 @@ pub fn key_changes<S: Alter>(
         (λ _. GoesOn) }
     ensures units { ChangesKey packed_leaves db.0 key.now changes.now
         (state S.Store tx.old.conn.now) (state S.Store tx.new.conn.now) result }
+    ensures work { InStore (state S.Store tx.old.conn.now) (state S.Store tx.new.conn.now)
+        (λ trees. OnOk result (WorksOnLeaves (length changes.now) trees
+        (state S.Store tx.new.conn.now).now.trees work.old work.new)) }
 {
     // A change that no row has is told before anything else can be.
     check_changes(changes)?;
@@ -249,5 +283,5 @@ pub fn key_changes<S: Alter>(
         return Ok(());
     }
     let one = KeyChanges { key, changes };
-    run_changes(tx, db, &[one])
+    run_changes(tx, work, db, &[one])
 }

@@ -1,16 +1,20 @@
 //! Counts the terms of entries until there are enough, which is known from an entry of a further term on.
 
-ghost use Rattle.std.specs.Prelude.{◌≢◌, ◌↔◌, IsTrue};
+ghost use Rattle.std.specs.Prelude.{◌≢◌, ◌↔◌, ◌∷◌, [], List, IsTrue, IsUtf8, filter};
 ghost use Rattle.std.specs.Option.{option_map};
+ghost use Rattle.zeb_leaf.specs.Answers.{entry_of};
+ghost use Rattle.zeb_leaf.specs.declared.entries.Entry.{Entry as LeafEntry};
 ghost use Rattle.zeb_leaf.specs.declared.spans.BlockKey.{BlockKey as KeyOfBlock};
 ghost use Rattle.zeb_leaves.specs.PrivateNearTerms.{AreEnough, CountUntil, CountsRow, HidesRow, MeetNoText};
+ghost use Rattle.zeb_leaves.specs.PrivateTermReads.{AreEntries, is_own};
 ghost use Rattle.zeb_register.specs.Answers.{Answers, IfDamaged};
 
-use crate::own_entries::own_entries;
-use crate::terms::{count_entry, is_term};
+use crate::own_entries::{is_own_entry, next_entry};
+use crate::spans::leaf_bytes;
+use crate::terms::{count_entry, count_records, is_term};
 use sqlite::Row;
 use std::alloc::Global;
-use zeb_leaf::{BlockKey, Entry};
+use zeb_leaf::{BlockKey, Entry, Held, LeafReader};
 use zeb_register::{RegFault, TermCount};
 
 /// Whether `n` terms are counted, and the last of them hasn't these bytes.
@@ -43,6 +47,59 @@ pub(crate) fn entries_until(
     Ok(false)
 }
 
+/// Counts an entry of this term, if its key isn't below `from` and is below the end, where there is one, and if there aren't enough terms before
+/// it. Tells whether there are.
+fn own_until(
+    alloc: Global,
+    counts: &mut Vec<TermCount>,
+    term: &[u8],
+    held: Held,
+    from: BlockKey,
+    end: Option<BlockKey>,
+    n: u64,
+) -> Result<bool, RegFault>
+    ensures { Answers (λ fault. (fault ≢ RegFault.Store) × IfDamaged (¬ IsUtf8 term.now) fault)
+        (λ enough. CountUntil n (filter (is_own from.entry.term.now from.entry.block
+        (option_map (λ (k : KeyOfBlock). (k.term.now, k.block)) end.entry))
+        (entry_of term.now held.entry ∷ [])) counts.old.items counts.new.items enough) result }
+{
+    if !is_own_entry(term, held, from, end) {
+        return Ok(false);
+    }
+    if are_enough(counts, n, term) {
+        return Ok(true);
+    }
+    count_records(alloc, counts, term, held.records)?;
+    Ok(false)
+}
+
+/// Counts the entries that bytes have from the first key on and below the end, where there is one, until there are enough terms. What stands
+/// behind these is read too, but nothing of it is kept.
+fn bytes_until(
+    alloc: Global,
+    counts: &mut Vec<TermCount>,
+    bytes: &[u8],
+    from: BlockKey,
+    end: Option<BlockKey>,
+    n: u64,
+) -> Result<bool, RegFault>
+    ensures { Answers (λ fault. (fault ≢ RegFault.Store)
+        × IfDamaged ((list : List LeafEntry) → ¬ AreEntries bytes.now list) fault)
+        (λ enough. (list : List LeafEntry) × AreEntries bytes.now list
+        × CountUntil n (filter (is_own from.entry.term.now from.entry.block
+        (option_map (λ (k : KeyOfBlock). (k.term.now, k.block)) end.entry)) list)
+        counts.old.items counts.new.items enough) result }
+{
+    let mut reader = LeafReader::new(alloc, bytes);
+    let mut enough = false;
+    while let Some(held) = next_entry(&mut reader)? {
+        if !enough {
+            enough = own_until(alloc, counts, reader.term(), held, from, end, n)?;
+        }
+    }
+    Ok(enough)
+}
+
 /// Counts the entries that a row has from the first key on and below the end, where there is one, until there are enough terms.
 pub(crate) fn row_until(
     alloc: Global,
@@ -60,6 +117,6 @@ pub(crate) fn row_until(
         (option_map (λ (k : KeyOfBlock). (k.term.now, k.block)) end.entry) row.now
         counts.old.items counts.new.items enough) result }
 {
-    let own = own_entries(alloc, row, from, end)?;
-    entries_until(alloc, counts, &own, n)
+    let bytes = leaf_bytes(row)?;
+    bytes_until(alloc, counts, bytes, from, end, n)
 }

@@ -1,13 +1,14 @@
 //! Leaves that are written: one in the place of a leaf or as the first of a register, and others behind it.
 
-ghost use Rattle.std.specs.Prelude.{IsUtf8, ◌≡◌, ◌≢◌, pos, [], Err, IsTrue};
+ghost use Rattle.std.specs.Prelude.{IsUtf8, ◌≡◌, ◌≢◌, pos, [], length, Err, IsTrue};
 ghost use Rattle.std.specs.List.{AllByRecursion};
 ghost use Rattle.sqlite.specs.Held.{state};
 ghost use Rattle.std.specs.List.Sorted.{IsStrictlySortedBy};
 ghost use Rattle.zeb_leaf.specs.Order.{IsEntry, entry_cmp};
 ghost use Rattle.zeb_leaf.specs.declared.parting.NewLeaf.{NewLeaf};
 ghost use Rattle.zeb_leaves.specs.PrivateLeafWrites.{GainsLeaves, IfToldPuts, IfToldPutsEntries};
-ghost use Rattle.zeb_leaves.specs.PrivateLeafWrites.{IsLeafWith, leaf_columns, new_row};
+ghost use Rattle.zeb_leaves.specs.PrivateLeafWrites.{IsLeafWith, MakesLeaves, TellsWritten};
+ghost use Rattle.zeb_leaves.specs.PrivateLeafWrites.{coming, leaf_columns, new_row};
 ghost use Rattle.zeb_register.specs.Calls.{GoesOn, Inside};
 ghost use Rattle.zeb_register.specs.Clauses.{ChangesTable, Writes};
 ghost use Rattle.zeb_register.specs.PrivateRowStatements.{Gains, Renews};
@@ -42,6 +43,8 @@ fn leaf_add<S: Alter>(
     ensures same { tx.new.conn.ghost_name ≡ tx.old.conn.ghost_name }
     ensures call { Writes blocks_tree (Gains (leaf_columns at term.now number bytes.now))
         (state S.Store tx.old.conn.now) (state S.Store tx.new.conn.now) result }
+    ensures rows { MakesLeaves 1 (state S.Store tx.old.conn.now) (state S.Store tx.new.conn.now)
+        result }
 {
     let db = at.db.column();
     let reg = u32::from(at.register.code());
@@ -60,6 +63,8 @@ fn leaf_set<S: Alter>(
     ensures call { Writes blocks_tree (Renews (IsLeafWith at term.now number)
         (leaf_columns at term.now number bytes.now))
         (state S.Store tx.old.conn.now) (state S.Store tx.new.conn.now) result }
+    ensures rows { MakesLeaves 0 (state S.Store tx.old.conn.now) (state S.Store tx.new.conn.now)
+        result }
 {
     let db = at.db.column();
     let reg = u32::from(at.register.code());
@@ -87,6 +92,8 @@ fn new_leaf_add<S: Alter>(
     ensures same { tx.new.conn.ghost_name ≡ tx.old.conn.ghost_name }
     ensures call { Writes blocks_tree (Gains (new_row at leaf.now))
         (state S.Store tx.old.conn.now) (state S.Store tx.new.conn.now) result }
+    ensures rows { MakesLeaves 1 (state S.Store tx.old.conn.now) (state S.Store tx.new.conn.now)
+        result }
     ensures honest { result ≢ Err RegFault.Damaged }
 {
     let term = text_of(leaf.term.as_slice());
@@ -108,6 +115,8 @@ fn new_leaves_add<S: Alter>(
     ensures put { ChangesTable blocks_tree
         (state S.Store tx.old.conn.now) (state S.Store tx.new.conn.now) result
         (λ _. GainsLeaves at leaves.now) }
+    ensures rows { MakesLeaves (length leaves.now) (state S.Store tx.old.conn.now)
+        (state S.Store tx.new.conn.now) result }
     ensures honest { result ≢ Err RegFault.Damaged }
 {
     for leaf in leaves {
@@ -128,6 +137,8 @@ fn leaf_put<S: Alter>(
     ensures same { tx.new.conn.ghost_name ≡ tx.old.conn.ghost_name }
     ensures call { Writes blocks_tree (IfToldPuts is_there at term.now (pos block) bytes.now [])
         (state S.Store tx.old.conn.now) (state S.Store tx.new.conn.now) result }
+    ensures rows { MakesLeaves (coming is_there) (state S.Store tx.old.conn.now)
+        (state S.Store tx.new.conn.now) result }
     ensures honest { result ≢ Err RegFault.Damaged }
 {
     let number = stored(block)?;
@@ -140,7 +151,7 @@ fn leaf_put<S: Alter>(
 }
 
 /// Puts a leaf with this key and these bytes in the place of that with the key, and new leaves beside it. It is told whether there is one
-/// with the key.
+/// with the key. Returns how many leaves are written.
 fn leaves_put<S: Alter>(
     tx: &mut Transaction<'_, S>,
     at: RegisterOf,
@@ -149,7 +160,7 @@ fn leaves_put<S: Alter>(
     bytes: &[u8],
     is_there: bool,
     leaves: &[NewLeaf],
-) -> Result<(), RegFault>
+) -> Result<usize, RegFault>
     requires { AllByRecursion (λ (leaf : NewLeaf). IsUtf8 leaf.term) leaves.now }
     ensures same { tx.new.conn.ghost_name ≡ tx.old.conn.ghost_name }
     ensures call { Inside (state S.Store tx.old.conn.now) (state S.Store tx.new.conn.now) result
@@ -157,14 +168,18 @@ fn leaves_put<S: Alter>(
     ensures put { ChangesTable blocks_tree
         (state S.Store tx.old.conn.now) (state S.Store tx.new.conn.now) result
         (λ _. IfToldPuts is_there at term.now (pos block) bytes.now leaves.now) }
+    ensures rows { TellsWritten is_there (state S.Store tx.old.conn.now)
+        (state S.Store tx.new.conn.now) result }
     ensures honest { result ≢ Err RegFault.Damaged }
 {
     leaf_put(tx, at, term, block, bytes, is_there)?;
-    new_leaves_add(tx, at, leaves)
+    new_leaves_add(tx, at, leaves)?;
+    Ok(1 + leaves.len())
 }
 
 /// Puts leaves with these entries in the place of the leaf with this key, which has to be told whether it is there. The first of them has the
-/// key as its own, and has no bytes where there are no entries; each other has the key of its first entry. No other row is changed.
+/// key as its own, and has no bytes where there are no entries; each other has the key of its first entry. No other row is changed. Returns
+/// how many leaves are written.
 pub(crate) fn entries_put<S: Alter>(
     alloc: Global,
     tx: &mut Transaction<'_, S>,
@@ -173,7 +188,7 @@ pub(crate) fn entries_put<S: Alter>(
     is_there: bool,
     entries: &[Entry],
     filling: Filling,
-) -> Result<(), RegFault>
+) -> Result<usize, RegFault>
     requires rising { IsStrictlySortedBy entry_cmp entries.now }
     requires each { AllByRecursion IsEntry entries.now }
     ensures same { tx.new.conn.ghost_name ≡ tx.old.conn.ghost_name }
@@ -182,6 +197,8 @@ pub(crate) fn entries_put<S: Alter>(
     ensures put { ChangesTable blocks_tree
         (state S.Store tx.old.conn.now) (state S.Store tx.new.conn.now) result
         (λ _. IfToldPutsEntries is_there at key.entry.term.now key.entry.block entries.now) }
+    ensures rows { TellsWritten is_there (state S.Store tx.old.conn.now)
+        (state S.Store tx.new.conn.now) result }
     ensures honest { result ≢ Err RegFault.Damaged }
 {
     let leaves = cut(alloc, entries, filling)?;

@@ -16,4 +16,14 @@ pub mod HeldTurns
 pub mod UnitRuns
 pub mod KeyCounts
 pub mod KeyPuts
+pub mod ManyRows
+pub mod ManyBlocks
+pub mod NewValues
+pub mod KnownKeys
+pub mod HeldTables
+pub mod BegunKeys
+pub mod BegunBlocks
+pub mod HeldKeys
+pub mod HeldRuns
+pub mod HeldPuts
 pub mod Cited

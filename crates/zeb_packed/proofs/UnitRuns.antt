@@ -69,7 +69,7 @@ lacks_fewer db key These Those (change ∷ changes) trees fewer lacks = (
   lacks_fewer db key (λ b. These b × (change.sysno / 256 < b)) (λ b. Those b × (change.sysno / 256 < b)) changes trees (λ b is. (fewer b is.0, is.1)) lacks.1,
 )
 
-lacks_so : (db : ℤ) (key : Key) (These : ℕ → Type 0) (changes : List RecordChange) (old new : Trees) → ((block : ℕ) → These block → LacksBlock db key block old → LacksBlock db key block new) → LacksNewBlocks These db key changes old
+pub lacks_so : (db : ℤ) (key : Key) (These : ℕ → Type 0) (changes : List RecordChange) (old new : Trees) → ((block : ℕ) → These block → LacksBlock db key block old → LacksBlock db key block new) → LacksNewBlocks These db key changes old
     → LacksNewBlocks These db key changes new
 lacks_so db key These [] old new so lacks = tt
 lacks_so db key These (change ∷ changes) old new so lacks = (
@@ -118,7 +118,7 @@ module _ (db : ℤ) (key : Key) (block : ℕ) (rest : List RecordChange) (trees 
 
 -- ---- changes by rising numbers of records
 
-first_least : (x : RecordChange) (xs : List RecordChange) → NumbersRise (x ∷ xs) → (c : RecordChange) → Has xs c → x.sysno ≤ c.sysno
+pub first_least : (x : RecordChange) (xs : List RecordChange) → NumbersRise (x ∷ xs) → (c : RecordChange) → Has xs c → x.sysno ≤ c.sysno
 first_least x [] rise c here = absurd here
 first_least x (y ∷ xs) rise c (inl same) = subst (λ (z : RecordChange). x.sysno ≤ z.sysno) (sym same) (rise 0 1 x (omega arith) (omega arith))
 first_least x (y ∷ xs) rise c (inr later) =

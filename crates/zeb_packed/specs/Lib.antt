@@ -1,3 +1,4 @@
 pub mod PrivatePackedRows
 pub mod PrivatePackedChanges
 pub mod PrivateUnitCalls
+pub mod PrivateNewRows

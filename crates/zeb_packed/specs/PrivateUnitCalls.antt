@@ -1,6 +1,6 @@
 -- What only the contracts of private functions speak of; no public clause reaches it.
 -- Calls that put changes of one block into its row.
-use Rattle.std.specs.Prelude.{◌≡◌, ◌/◌, ◌<◌, ℕ, ℤ, List, [], ◌∷◌, Result, Err}
+use Rattle.std.specs.Prelude.{◌≡◌, ◌/◌, ◌<◌, ℕ, ℤ, List, [], ◌∷◌, IsTrue, Result, Err}
 use Rattle.sqlite.specs.State.{State}
 use Rattle.zeb_keys.specs.declared.keys.Key.{Key}
 use Rattle.zeb_register.specs.declared.faults.RegFault.{RegFault}
@@ -17,7 +17,7 @@ use Rattle.zeb_register.specs.Store.{IsStore}
 use Rattle.zeb_register.specs.Answers.{Answers}
 use Rattle.zeb_register.specs.Content.{places_in}
 use Rattle.zeb_packed.specs.PrivatePackedChanges.{PutsBlock}
-use Rattle.zeb_register.specs.PackedUnits.{BlockReads, ReadsAs}
+use Rattle.zeb_register.specs.PackedUnits.{BlockReads, CountsAs, ReadsAs}
 use Rattle.zeb_register.specs.Formats.{packed_blocks}
 use Rattle.zeb_register.specs.PrivateUnits.{units_of}
 use Rattle.zeb_register.specs.UnitChanges.{IsBlockAmong, IsOwnBlock, IsRefusedAs, IsTouched, KeepsBut, KeyUnits, LacksBlock, PutsUnits, TurnsUnits}
@@ -69,6 +69,11 @@ pub record AllowsBlocks (db : ℤ) (key : Key) (changes : List RecordChange) (Th
 abbrev pub ChangesUnits : {A : Type 0} → ℤ → Key → List RecordChange → (old new : State) → Result A RegFault → Type 0
 ChangesUnits db key changes old new result = InStore old new (λ trees.
     Answers (IsRefusedAs packed_blocks db key changes trees) (λ done. IsStore new × PutsUnits packed_blocks db key changes trees new.now.trees) result)
+
+-- the same on an open connection, where so many records have the key before
+abbrev pub ChangesKnown : {A : Type 0} → ℤ → Key → List RecordChange → (records : ℕ) → (old new : State) → Result A RegFault → Type 0
+ChangesKnown db key changes records old new result = IsTrue old.is_open → InStore old new (λ trees. CountsAs trees db key records
+    → Answers (IsRefusedAs packed_blocks db key changes trees) (λ done. IsStore new × PutsUnits packed_blocks db key changes trees new.now.trees) result)
 
 -- ---- calls on one row
 

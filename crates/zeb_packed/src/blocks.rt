@@ -1,6 +1,7 @@
 //! The layout of packed blocks.
 
-use crate::packed::{counted, counts_in, key_postings, limit_of};
+use crate::held_runs::run_made;
+use crate::packed::{counts_in, key_postings, limit_of};
 use crate::packed_between::blocks_between;
 use crate::packed_runs::changes_made;
 use crate::packed_totals::term_postings;
@@ -9,9 +10,10 @@ use sqlite::{Alter, Connection, Transaction};
 use std::alloc::Global;
 use zeb_blocks::Posting;
 use zeb_keys::Key;
-use zeb_register::for_layouts::{blocks_agree, database_drop_whole};
+use zeb_register::for_layouts::{blocks_agree, counted, database_drop_whole};
 use zeb_register::{
-    DatabaseId, Expected, Layout, RecordChange, RegFault, RegisterOf, TermCount, Totals, Work,
+    DatabaseId, Expected, KeyChanges, Layout, RecordChange, RegFault, RegisterOf, TermCount,
+    Totals, Work,
 };
 
 /// The layout with one row of `blocks` for each key and each 256 system numbers in which it has a posting, one row of `dict` for each key,
@@ -50,6 +52,17 @@ impl Layout for Blocks {
         changes: &[RecordChange<'_>],
     ) -> Result<(), RegFault> {
         changes_made(tx, work, db, key, changes)
+    }
+
+    /// `Damaged` as `key_changes` of one of the keys. A key without a row of `dict` is not looked for in `blocks`: its rows are put behind those
+    /// of the others, many at once.
+    fn run_changes<S: Alter>(
+        tx: &mut Transaction<'_, S>,
+        work: &mut Work,
+        db: DatabaseId,
+        run: &[KeyChanges<'_>],
+    ) -> Result<(), RegFault> {
+        run_made(tx, work, db, run)
     }
 
     fn database_take<S: Alter>(

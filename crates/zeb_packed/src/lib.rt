@@ -5,6 +5,9 @@
 #![tactic(auto)]
 
 mod blocks;
+mod held_rows;
+mod held_runs;
+mod new_rows;
 mod packed;
 mod packed_between;
 mod packed_changes;

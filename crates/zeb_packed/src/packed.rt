@@ -18,26 +18,18 @@ ghost use Rattle.sqlite.specs.Held.{state};
 ghost use Rattle.sqlite.specs.State.{IsUnchanged};
 ghost use Rattle.zeb_register.specs.Calls.{Reading};
 ghost use Rattle.zeb_register.specs.Clauses.{IsReasoned, OnStore, Tells};
-ghost use Rattle.zeb_register.specs.Tallies.{Rises, Works};
+ghost use Rattle.zeb_register.specs.Tallies.{Works};
 
 use crate::statements::packed::block_rows;
 use sqlite::{Alter, Connection, Row};
 use std::alloc::Global;
 use zeb_blocks::{Damaged, Posting, push_block};
 use zeb_keys::{Key, Term};
-use zeb_register::for_layouts::{read, read_bytes, read_number};
+use zeb_register::for_layouts::{counted, read, read_bytes, read_number};
 use zeb_register::{DatabaseId, RegFault, RegisterOf, TermCount, Work};
 
 /// How many records a database has at most, since each has a number of 1 to this.
 pub(crate) const MOST_RECORDS: u64 = 999_999_999;
-
-/// A count with so many rows more; it stays at its greatest value.
-pub(crate) fn counted(count: u64, rows: usize) -> u64
-    ensures rises { Rises rows count result }
-    ensures keeps { count ≤ result }
-{
-    count.saturating_add(rows as u64)
-}
 
 /// The postings of a key, by its units. `work` counts the rows of `blocks` that are read.
 pub(crate) fn key_postings<S: Alter>(

@@ -15,12 +15,12 @@ ghost use Rattle.zeb_register.specs.Formats.{packed_blocks};
 ghost use Rattle.zeb_register.specs.Tallies.{Works};
 ghost use Rattle.zeb_register.specs.Units.{HasMalformedBetween, ListsBetween};
 
-use crate::packed::{add_spelled, counted};
+use crate::packed::add_spelled;
 use crate::statements::between::block_rows_between;
 use sqlite::{Alter, Connection, Row};
 use std::alloc::Global;
 use zeb_blocks::Posting;
-use zeb_register::for_layouts::{read_bytes, read_number, text_above};
+use zeb_register::for_layouts::{counted, read_bytes, read_number, text_above};
 use zeb_register::{RegFault, RegisterOf, Work};
 
 /// The postings of the terms from `first` to `last`, by their units. `work` counts the rows of `blocks` that are read.

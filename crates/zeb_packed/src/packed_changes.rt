@@ -212,7 +212,7 @@ pub(crate) fn block_begin<S: Alter>(
 }
 
 /// Whether a rule of the tables refused a statement.
-fn breaks_rule(error: &Error) -> bool
+pub(crate) fn breaks_rule(error: &Error) -> bool
     ensures broken { result ≡ true → (rule : Constraint)
         × (error.now ≡ SqliteFailure (ConstraintViolation rule)) }
     ensures unbroken { result ≡ false → (rule : Constraint)
@@ -225,7 +225,7 @@ fn breaks_rule(error: &Error) -> bool
 }
 
 /// `Damaged` where the key has a row for the block.
-fn block_absent<S: Alter>(
+pub(crate) fn block_absent<S: Alter>(
     tx: &mut Transaction<'_, S>,
     at: KeyOf<'_>,
     number: i64,

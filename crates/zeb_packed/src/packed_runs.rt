@@ -1,26 +1,28 @@
 //! A key's places changed in many records, in packed registers: the row of a block is read and written once for the records of it that
 //! stand next to each other, and the row of `dict` once for all. A block that the key can have no row for is only written.
 
-ghost use Rattle.std.specs.Prelude.{IsTrue, ◌≡◌, ◌<◌, ◌≤◌, ◌^◌, ◌∷◌, List, length, take, IfOk, OnOk};
+ghost use Rattle.std.specs.Prelude.{IsTrue, IsUtf8, ◌≡◌, ◌<◌, ◌≤◌, ◌^◌, ◌∷◌, List, drop, length, take, IfOk, OnOk};
 ghost use Rattle.std.specs.List.{AllByRecursion};
 ghost use Rattle.sqlite.specs.Held.{state};
+ghost use Rattle.sqlite.specs.State.{Survives};
 ghost use Rattle.zeb_register.specs.Calls.{GoesOn, Inside};
 ghost use Rattle.zeb_register.specs.Clauses.{ChangesTable, InStore};
 ghost use Rattle.zeb_register.specs.Formats.{packed_blocks};
 ghost use Rattle.zeb_register.specs.PrivatePackedRows.{IsInBlock};
 ghost use Rattle.zeb_register.specs.Store.{blocks_tree};
 ghost use Rattle.zeb_register.specs.Tallies.{Works};
-ghost use Rattle.zeb_packed.specs.PrivateUnitCalls.{AllowsBlocks, ChangesUnits, IsHonestRun, PutsRun, TurnsBlocks};
+ghost use Rattle.zeb_packed.specs.PrivateNewRows.{GoesOnOpen};
+ghost use Rattle.zeb_packed.specs.PrivatePackedChanges.{IsClearFrom};
+ghost use Rattle.zeb_packed.specs.PrivateUnitCalls.{AllowsBlocks, ChangesKnown, ChangesUnits, IsHonestRun, PutsRun, TurnsBlocks};
 ghost use Rattle.zeb_register.specs.UnitChanges.{ChangesKey, IsStorableChange, NumbersRise};
 
-use crate::packed::counted;
 use crate::packed_changes::{Known, block_begin, block_list, block_write, dict_write, key_known};
 use crate::packed_parts::Held;
 use sqlite::{Alter, Transaction};
 use std::alloc::Global;
 use zeb_blocks::BLOCK_RECORDS;
 use zeb_keys::Key;
-use zeb_register::for_layouts::{check_changes, nothing_inside};
+use zeb_register::for_layouts::{check_changes, counted, nothing_inside};
 use zeb_register::{DatabaseId, RecordChange, RegFault, Work};
 
 /// Puts changes of a key into its rows, and counts a row of each table, read and written, for each. Without a change no row is read.
@@ -52,7 +54,7 @@ pub(crate) fn changes_made<S: Alter>(
 }
 
 /// Counts so many rows of `dict` and so many of `blocks`, read and written.
-fn count_rows(work: &mut Work, rows: usize)
+pub(crate) fn count_rows(work: &mut Work, rows: usize)
     ensures { Works rows rows rows rows work.old work.new }
 {
     work.dict_read = counted(work.dict_read, rows);
@@ -77,6 +79,29 @@ fn changes_put<S: Alter>(
         (state S.Store tx.old.conn.now) (state S.Store tx.new.conn.now) result }
 {
     let known = key_known(tx, db, key)?;
+    known_put(tx, db, key, known, changes)
+}
+
+/// Puts changes into the rows of a key of which so much is known: those of its blocks, and then that of `dict`.
+pub(crate) fn known_put<S: Alter>(
+    tx: &mut Transaction<'_, S>,
+    db: DatabaseId,
+    key: &Key,
+    known: Known,
+    changes: &[RecordChange<'_>],
+) -> Result<(), RegFault>
+    requires text { IsUtf8 key.now.term }
+    requires stored { AllByRecursion IsStorableChange changes.now }
+    requires rising { NumbersRise changes.now }
+    requires known { (known.records ≤ 999999999) × IsClearFrom known }
+    ensures same { tx.new.conn.ghost_name ≡ tx.old.conn.ghost_name }
+    ensures call { GoesOnOpen (state S.Store tx.old.conn.now) (state S.Store tx.new.conn.now)
+        result }
+    ensures crash { Survives (state S.Store tx.old.conn.now) (state S.Store tx.new.conn.now)
+        (λ _. ⊥) }
+    ensures units { ChangesKnown db.0 key.now changes.now known.records
+        (state S.Store tx.old.conn.now) (state S.Store tx.new.conn.now) result }
+{
     let after = runs_put(tx, db, key, known, changes)?;
     dict_write(tx, db, key, after, known.records != 0)
 }
@@ -116,11 +141,13 @@ fn runs_put<S: Alter>(
 }
 
 /// How many changes there are before the first that is not of a record of the block.
-fn run_length(changes: &[RecordChange<'_>], block: u64) -> usize
+pub(crate) fn run_length(changes: &[RecordChange<'_>], block: u64) -> usize
     ensures within { result ≤ length changes.now }
     ensures inside { AllByRecursion (IsInBlock block) (take result changes.now) }
     ensures some { (first : _) (behind : List _) → changes.now ≡ first ∷ behind
         → IsInBlock block first → 1 ≤ result }
+    ensures whole { (next : _) (behind : List _) → drop result changes.now ≡ next ∷ behind
+        → ¬ IsInBlock block next }
 {
     for (at, change) in changes.iter().enumerate() {
         if change.sysno / BLOCK_RECORDS != block {

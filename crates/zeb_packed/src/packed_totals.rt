@@ -15,11 +15,10 @@ ghost use Rattle.zeb_register.specs.PrivatePackedRows.{AreSpelled};
 ghost use Rattle.zeb_register.specs.Tallies.{Rises};
 ghost use Rattle.zeb_register.specs.Units.{ListsUnits};
 
-use crate::packed::counted;
 use crate::statements::packed::block_rows;
 use sqlite::{Alter, Connection, Row};
 use zeb_blocks::Postings;
-use zeb_register::for_layouts::{read_bytes, read_number};
+use zeb_register::for_layouts::{counted, read_bytes, read_number};
 use zeb_register::{RegFault, RegisterOf, Work};
 
 /// How many postings a term has. `Damaged` where a row of its blocks spells none. `work` counts these rows.

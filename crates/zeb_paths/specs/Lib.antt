@@ -2,6 +2,7 @@ pub mod Causes
 pub mod Closing
 pub mod Opened
 pub mod Told
+pub mod Unread
 pub mod Walks
 pub mod PrivateCauses
 pub mod PrivateClosings

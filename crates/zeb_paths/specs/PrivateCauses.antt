@@ -1,7 +1,7 @@
 -- What only the contracts of private functions speak of; no public clause reaches it.
 -- Why a file isn't opened of which SQLite's kit says no more than that it can't be, and whether a store may stand at a path (this program's own).
-use Rattle.std.specs.Prelude.{◌≡◌, ◌≢◌, ◌⊎◌, ℕ, Bool, false, true, Result, Ok, Err, if◌then◌else◌, nat_lt}
-use Rattle.std.specs.Fs.{IsDir, IsFile, file_type, metadata_len}
+use Rattle.std.specs.Prelude.{◌≡◌, ◌≢◌, Bool, false, true, Result, Ok, Err}
+use Rattle.std.specs.Fs.{IsDir, IsFile, file_type}
 use Rattle.std.specs.IoError.{error_kind}
 use Rattle.std.specs.Result.{IsErrAnd, IsOkAnd}
 use Rattle.std.specs.declared.fs.attrs.Metadata.{Metadata}
@@ -10,31 +10,8 @@ use Rattle.std.specs.declared.io.ErrorKind.{ErrorKind}
 use Rattle.std.specs.declared.io.ErrorKind.TheVariants as system
 use Rattle.zeb_paths.specs.Causes.{path_cause_of, store_cause_of}
 use Rattle.zeb_paths.specs.declared.causes.PathCause.{PathCause}
-use Rattle.zeb_paths.specs.declared.causes.PathCause.TheVariants as path
-use Rattle.zeb_paths.specs.declared.paths.Asked.{Asked}
-use Rattle.zeb_paths.specs.declared.paths.Asked.TheVariants as asked
 use Rattle.zeb_paths.specs.declared.causes.StoreCause.{StoreCause}
 use Rattle.zeb_paths.specs.declared.causes.StoreCause.TheVariants as store
-
--- why a folder isn't read that can be
-abbrev pub readable_folder : Asked → PathCause
-readable_folder asked.Step = path.TooDeep
-readable_folder other = path.Folder
-
--- Why a file of so many bytes isn't read that can be: it is too long, or no text. One that is neither could not be read before.
-abbrev pub readable_file : Asked → ℕ → PathCause
-readable_file asked.Text n = if nat_lt 1048576 n then path.TooLong else path.NoText
-readable_file asked.Step n = if nat_lt 16777216 n then path.TooLong else path.Failed
-readable_file asked.Bytes n = path.Failed
-
--- This is told of a path that isn't read, where this is found there: why it can't be looked at; or why what stands there can't be read; or else
--- what it is.
-abbrev pub IsUnreadBy : Asked → Result Metadata Error → PathCause → Type 0
-IsUnreadBy wanted (Err error) cause = cause ≡ path_cause_of (error_kind error)
-IsUnreadBy wanted (Ok found) cause =
-    ((error : Error) × (cause ≡ path_cause_of (error_kind error)))
-    ⊎ ((IsDir (file_type found) → cause ≡ readable_folder wanted) × (IsFile (file_type found) → cause ≡ readable_file wanted (metadata_len found))
-    × (¬ IsDir (file_type found) → ¬ IsFile (file_type found) → cause ≡ path.Neither))
 
 -- the cause that a look gives, or that of the call that fails in it
 abbrev pub read_cause : Result PathCause Error → PathCause

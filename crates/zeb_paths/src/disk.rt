@@ -1,6 +1,6 @@
 //! The paths of the file system.
 
-ghost use Rattle.std.specs.Prelude.{◌≡◌, ◌≢◌, ◌↔◌, ⊤, [], Err, None, Ok, Some, IfErr, IfOk, IsSome, true};
+ghost use Rattle.std.specs.Prelude.{◌≡◌, ◌≢◌, ◌↔◌, ⊤, [], Err, None, Ok, Some, IfErr, IfOk, IsSome, IsSomeAnd, true};
 ghost use Rattle.std.specs.Fs.{IsDir, IsFile, file_type};
 ghost use Rattle.std.specs.IoError.{error_kind};
 ghost use Rattle.std.specs.Io.{ReadsAtMost};
@@ -10,8 +10,9 @@ ghost use Rattle.sqlite_store.specs.FileStore.{faults, is_shielded, recovers, vi
 ghost use Rattle.sqlite_trees.specs.View.{IsQuiet};
 ghost use Rattle.zeb_paths.specs.Causes.{path_cause_of};
 ghost use Rattle.zeb_paths.specs.Closing.{HasReason, IsCauseMet, IsLeft};
-ghost use Rattle.zeb_paths.specs.Opened.{IsWellOpened};
+ghost use Rattle.zeb_paths.specs.Opened.{IsPlainPath, IsWellOpened};
 ghost use Rattle.zeb_paths.specs.PrivateClosings.{IsClosedBy};
+ghost use Rattle.zeb_paths.specs.Unread.{IsUnreadBy};
 ghost use Rattle.zeb_paths.specs.declared.disk.Progress.TheVariants.{Ended};
 
 use crate::causes::{Closed, PathCause, StoreCause};
@@ -55,9 +56,12 @@ impl<'a> Disk<'a> {
 
 /// What stands where these metadata are found, or why neither a file nor a folder is.
 fn kind_of(found: io::Result<Metadata>) -> Result<PathKind, PathCause>
-    ensures folder { IfOk found (λ metadata. IsDir (file_type metadata) ↔ (result ≡ Ok PathKind.Folder)) }
-    ensures file { IfOk found (λ metadata. IsFile (file_type metadata) ↔ (result ≡ Ok PathKind.File)) }
-    ensures other { IfOk found (λ metadata. ¬ IsDir (file_type metadata) → ¬ IsFile (file_type metadata)
+    ensures folder { IfOk found (λ metadata. IsDir (file_type metadata) ↔
+        (result ≡ Ok PathKind.Folder)) }
+    ensures file { IfOk found (λ metadata. IsFile (file_type metadata) ↔
+        (result ≡ Ok PathKind.File)) }
+    ensures other { IfOk found (λ metadata. ¬ IsDir (file_type metadata) → ¬ IsFile
+        (file_type metadata)
         → result ≡ Err PathCause.Neither) }
     ensures fault { IfErr found (λ error. result ≡ Err (path_cause_of (error_kind error))) }
 {
@@ -125,9 +129,11 @@ impl<'a> Paths for Disk<'a> {
 
     ghost lists = { λ _ _. None };
 
-    ghost explains = { λ _ _ cause. IsSome cause };
+    ghost explains = { λ _ _ asked cause.
+        IsSomeAnd cause (λ why. (found : _) × IsUnreadBy asked found why) };
 
-    ghost opens = { λ _ _ _ store. HasCleanDisk (file_state store) → IsWellOpened (file_state store) };
+    ghost opens = { λ _ _ path store. IsPlainPath path
+        × (HasCleanDisk (file_state store) → IsWellOpened (file_state store)) };
 
     ghost refuses = { λ _ _ _ cause. IsSome cause };
 

@@ -8,8 +8,9 @@ ghost use Rattle.std.specs.Fs.{IsDir, IsFile, file_type};
 ghost use Rattle.std.specs.IoError.{error_kind};
 ghost use Rattle.std.specs.declared.io.ErrorKind.TheVariants as system;
 ghost use Rattle.zeb_paths.specs.Causes.{sqlite_cause_of};
-ghost use Rattle.zeb_paths.specs.PrivateCauses as spec;
-ghost use Rattle.zeb_paths.specs.PrivateCauses.{IsFree, IsLookedUp, IsUnmade, IsUnreadBy, is_looked_up, log_cause_of, read_cause, told_by_look};
+ghost use Rattle.zeb_paths.specs.Unread as spec;
+ghost use Rattle.zeb_paths.specs.Unread.{IsUnreadBy};
+ghost use Rattle.zeb_paths.specs.PrivateCauses.{IsFree, IsLookedUp, IsUnmade, is_looked_up, log_cause_of, read_cause, told_by_look};
 
 use crate::causes::{PathCause, StoreCause};
 use crate::paths::Asked;

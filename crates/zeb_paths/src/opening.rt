@@ -4,7 +4,7 @@ ghost use Rattle.std.specs.Prelude.{◌≡◌, ◌≤◌, false, IfOk, IsTrue};
 ghost use Rattle.sqlite.specs.Files.{file_state};
 ghost use Rattle.sqlite.specs.State.{HasCleanDisk};
 ghost use Rattle.sqlite_std_file.specs.File.{file_is_usable};
-ghost use Rattle.zeb_paths.specs.Opened.{IsWellOpened};
+ghost use Rattle.zeb_paths.specs.Opened.{IsPlainPath, IsWellOpened};
 ghost use Rattle.zeb_paths.specs.PrivateOpenings.{sqlite_error_of};
 
 use sqlite::{Connection, Error, ErrorCode, FileFrom, FileStore, Files, Options, Start};
@@ -22,8 +22,8 @@ const PAGE_BYTES: u64 = 4096;
 /// How many pages that were read are kept in memory at least, as many as the kit keeps by itself.
 const LEAST_PAGES: u64 = 2_000;
 
-/// How many are kept at most, 33 MB of them: many more take as much memory as the register's file, and save little.
-const MOST_PAGES: u64 = 8_000;
+/// How many are kept at most, 16 MB of them: more take as much memory as the register's file, and save little.
+const MOST_PAGES: u64 = 4_000;
 
 /// Opens the store at a path as the kit does by itself, but for how many of its pages it keeps in memory. It is made where nothing stands
 /// there. `start` stands for what its files hold.
@@ -35,6 +35,7 @@ pub(crate) fn open_store<S: Start>(
     ensures idle { IfOk result (λ connection. connection.in_transaction ≡ false) }
     ensures given { IfOk result (λ connection. HasCleanDisk (file_state connection)
         → IsWellOpened (file_state connection)) }
+    ensures plain { IfOk result (λ _. IsPlainPath path.now) }
 {
     let options = options_for(rt, path)?;
     let files = open_files(rt, path, start)?;
@@ -48,6 +49,7 @@ pub(crate) fn open_store<S: Start>(
 fn open_files<S: Start>(rt: &HostRuntime, path: &str, start: S) -> Result<Files<FileFrom<S>>, Error>
     ensures log { IfOk result (λ files. IsTrue (file_is_usable S.Start files.log)) }
     ensures db { IfOk result (λ files. IsTrue (file_is_usable S.Start files.db)) }
+    ensures plain { IfOk result (λ _. IsPlainPath path.now) }
 {
     if path == ":memory:" || path.starts_with("file:") {
         return Err(CANNOT_OPEN);
@@ -81,7 +83,7 @@ fn options_for(rt: &HostRuntime, path: &str) -> Result<Options, Error> {
 /// How many pages of the store at a path are kept in memory: all that its file has, where it has neither few nor many. An opening looks
 /// each row up in its indexes, so it reads a page again each time that it isn't kept any more.
 fn pages_kept(rt: &HostRuntime, path: &str) -> usize
-    ensures { (2000 ≤ result) × (result ≤ 8000) }
+    ensures { (2000 ≤ result) × (result ≤ 4000) }
 {
     let bytes = fs::metadata(rt, path).map_or(0, |found| found.len());
     (bytes / PAGE_BYTES).clamp(LEAST_PAGES, MOST_PAGES) as usize

@@ -10,6 +10,7 @@ ghost use Rattle.zeb_paths.specs.declared.causes.Closed.{Closed};
 ghost use Rattle.zeb_paths.specs.declared.causes.PathCause.{PathCause};
 ghost use Rattle.zeb_paths.specs.declared.causes.PathCause.TheVariants.{Memory as Starved};
 ghost use Rattle.zeb_paths.specs.declared.causes.StoreCause.{StoreCause};
+ghost use Rattle.zeb_paths.specs.declared.paths.Asked.{Asked};
 ghost use Rattle.zeb_paths.specs.declared.paths.PathKind.{PathKind};
 
 use crate::causes::{Closed, PathCause, StoreCause};
@@ -59,8 +60,8 @@ pub trait Paths {
     /// The names in the folder at a path, where the paths tell them: in any order, a name perhaps twice. One that is empty can't be given.
     ghost lists: { Self → List ℕ → Option (List (List ℕ)) };
 
-    /// What may be told of why the path isn't read.
-    ghost explains: { Self → List ℕ → Option PathCause → Type 0 };
+    /// What may be told of why the path isn't read that was asked for so.
+    ghost explains: { Self → List ℕ → Asked → Option PathCause → Type 0 };
 
     /// Which connections the store at a path may be opened by, and what the paths are then: the first are those before it.
     ghost opens: { Self → Self → List ℕ → Held Self.Store → Type 0 };
@@ -84,13 +85,16 @@ pub trait Paths {
     /// What stands at a path, or why neither a file nor a folder is found there. Links are followed. Where the paths tell the bytes
     /// of a file, it is a file.
     fn kind(&self, path: &str) -> Result<PathKind, PathCause>
-        ensures file { (bytes : List ℕ) → tells self.now path.now ≡ Some bytes → result ≡ Ok PathKind.File }
+        ensures file { (bytes : List ℕ) → tells self.now path.now ≡ Some bytes
+            → result ≡ Ok PathKind.File }
         ensures stands { IfSome (stands self.now path.now) (λ told. result ≡ told) };
 
     /// The names in a folder, in any order and each once, or why they aren't given: also where one of them isn't UTF-8.
     fn names(&self, alloc: Global, path: &str) -> Result<Vec<String>, PathCause>
-        ensures given { IfOk result (λ names. IfSome (lists self.now path.now) (λ told. AreNames told (map string_bytes names.items))) }
-        ensures refused { IfErr result (λ cause. IfSome (lists self.now path.now) (λ told. (cause ≡ Starved) ⊎ Contains told [])) };
+        ensures given { IfOk result (λ names. IfSome (lists self.now path.now)
+            (λ told. AreNames told (map string_bytes names.items))) }
+        ensures refused { IfErr result (λ cause. IfSome (lists self.now path.now) (λ told.
+            (cause ≡ Starved) ⊎ Contains told [])) };
 
     /// The bytes of the file at a path. The file is opened at the first read and closed at its end; where it
     /// can't be opened, that read fails. Where the paths tell the bytes, no read fails.
@@ -102,7 +106,7 @@ pub trait Paths {
 
     /// Why the path isn't read, where the paths tell that: what is met where it is looked at anew.
     fn why_unread(&self, path: &str, asked: Asked) -> Option<PathCause>
-        ensures { explains self.now path.now result };
+        ensures { explains self.now path.now asked result };
 
     /// Whether a store may stand at a path: not where nothing stands there and one could be made in its folder.
     fn has_store(&self, path: &str) -> bool

@@ -94,7 +94,8 @@ fn is_known(names: &[String], name: &str) -> bool
 
 /// Adds a name, unless it is there.
 fn add_name(alloc: Global, names: &mut Vec<String>, name: &str) -> Result<(), AllocError>
-    ensures { IfOk result (λ _. Adds name.now (map string_bytes names.old.items) (map string_bytes names.new.items)) }
+    ensures { IfOk result (λ _. Adds name.now (map string_bytes names.old.items)
+        (map string_bytes names.new.items)) }
 {
     if !is_known(names, name) {
         names.push(String::from_str(alloc, name)?)?;
@@ -111,7 +112,8 @@ fn add_name_of(
 ) -> Result<(), PathCause>
     ensures added { IfOk result (λ _. AddsAny (name_below folder.now file.now.path.now)
         (map string_bytes names.old.items) (map string_bytes names.new.items)) }
-    ensures refused { IfErr result (λ cause. (cause ≡ Starved) ⊎ (name_below folder.now file.now.path.now ≡ Some [])) }
+    ensures refused { IfErr result (λ cause. (cause ≡ Starved) ⊎
+        (name_below folder.now file.now.path.now ≡ Some [])) }
 {
     match file.name_below(folder) {
         Some(name) if name.is_empty() => Err(PathCause::Forbidden),
@@ -134,7 +136,7 @@ impl<'a, S: Alter + Drop> Paths for Shelf<'a, S> {
 
     ghost lists = { λ shelf path. Some (names_in shelf.files.now path) };
 
-    ghost explains = { λ _ _ cause. cause ≡ None };
+    ghost explains = { λ _ _ _ cause. cause ≡ None };
 
     ghost opens = { λ shelf _ _ connection. shelf.store ≡ Some connection };
 

@@ -3,7 +3,7 @@
 ghost use Rattle.std.specs.Prelude.{◌≡◌};
 
 use std::cell::Cell;
-use std::io::{IsTerminal, Write};
+use std::io::Write;
 
 /// The byte that a record ends with.
 const RECORD_END: u8 = 0x1d;
@@ -21,15 +21,12 @@ pub struct Tally<'a> {
 }
 
 impl<'a> Tally<'a> {
-    /// A tally of no record yet. It counts and shows nothing where standard error is no terminal.
-    pub fn new(rt: &'a HostRuntime) -> Tally<'a>
-        ensures { result.rt ≡ rt.entry }
+    /// A tally of no record yet. It counts and shows nothing where it isn't to, as where standard error is no terminal.
+    pub fn new(rt: &'a HostRuntime, shows: bool) -> Tally<'a>
+        ensures { (result.rt ≡ rt.entry) × (result.shows ≡ shows) }
     {
-        Tally {
-            rt,
-            shows: rt.stderr().is_terminal(),
-            count: Cell::new(0),
-        }
+        let count = Cell::new(0);
+        Tally { rt, shows, count }
     }
 
     /// Counts the records that end in these bytes.

@@ -83,7 +83,8 @@ impl<'a, P: Paths> Walk<'a, P> {
     /// A walk over these paths, from left to right.
     pub fn new(alloc: Global, paths: &'a P, named: &[String]) -> Result<Walk<'a, P>, AllocError>
         ensures paths { IfOk result (λ walk. walk.paths ≡ paths.entry) }
-        ensures left { IfOk result (λ walk. paths_left walk.steps.items ≡ map string_bytes named.now) }
+        ensures left { IfOk result
+            (λ walk. paths_left walk.steps.items ≡ map string_bytes named.now) }
         ensures levels { IfOk result (λ walk. dues_left walk.steps.items
             ≡ map (λ path. due (string_bytes path) 1) named.now) }
     {
@@ -105,7 +106,8 @@ impl<'a, P: Paths> Walk<'a, P> {
     pub fn next_file(&mut self) -> Result<Option<String>, WalkFault>
         ensures paths { self.new.paths ≡ self.old.paths }
         ensures walks { WalksOn (telling (P.tells self.old.paths.now) (P.stands self.old.paths.now)
-            (P.lists self.old.paths.now)) (dues_left self.old.steps.items) result (dues_left self.new.steps.items) }
+            (P.lists self.old.paths.now)) (dues_left self.old.steps.items) result
+            (dues_left self.new.steps.items) }
         // So a loop over a walk ends.
         ensures lighter { IfOk result (λ found. IfSome found (λ _.
             walk_weight self.new.steps.items < walk_weight self.old.steps.items)) }
@@ -123,7 +125,8 @@ impl<'a, P: Paths> Walk<'a, P> {
     fn look(&mut self) -> Result<Seen, WalkFault>
         ensures paths { self.new.paths ≡ self.old.paths }
         ensures sees { Sees (telling (P.tells self.old.paths.now) (P.stands self.old.paths.now)
-            (P.lists self.old.paths.now)) (dues_left self.old.steps.items) result (dues_left self.new.steps.items) }
+            (P.lists self.old.paths.now)) (dues_left self.old.steps.items) result
+            (dues_left self.new.steps.items) }
         ensures lighter { IfOk result (IsLighter self.old.steps.items self.new.steps.items) }
     {
         let Some(step) = self.steps.pop() else {
@@ -152,7 +155,9 @@ impl<'a, P: Paths> Walk<'a, P> {
             (P.lists self.old.paths.now)) (string_bytes folder.path) names
             × (dues_left self.new.steps.items
             ≡ dues_in (due_of folder) names ++ dues_left self.old.steps.items)) }
-        ensures lighter { IfOk result (λ _. walk_weight self.new.steps.items < walk_weight self.old.steps.items + step_weight folder) }
+        ensures lighter { IfOk result
+            (λ _. walk_weight self.new.steps.items < walk_weight self.old.steps.items + step_weight
+            folder) }
     {
         let mut names = match self.paths.names(self.alloc, folder.path.as_str()) {
             Ok(names) => names,

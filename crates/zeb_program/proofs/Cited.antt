@@ -51,8 +51,8 @@ pub use Rattle.zeb_program.specs.Lines.{first_line, after_first_line, is_lf}
 pub use Rattle.zeb_program.specs.OverTables.{AnalysesOver, CommandOver, LeavesAlone, LineOver, PathOver, PathsLast, PathsLeave, PathsOver, SaysOver, ServesOver, TaskOver, LinesOver}
 pub use Rattle.zeb_program.specs.PathChanges.{AreFilesTold, IsLineTold, HasPath, NamesPath}
 pub use Rattle.zeb_program.specs.PrivateLines.{whole_first_line}
-pub use Rattle.zeb_program.specs.PrivateWarnings.{unmarked_in, IsServedFor, warned_in}
-pub use Rattle.zeb_program.specs.Warnings.{unmarked_by, unmarked_from, unmarked_of, MayWarn, WarnsOf, warning_bytes, warning_of}
+pub use Rattle.zeb_program.specs.PrivateWarnings.{IsServedFor, warned_in}
+pub use Rattle.zeb_program.specs.Warnings.{records_in, unmarked_by, unmarked_from, unmarked_of, MayWarn, WarnsOf, warning_bytes, warning_of}
 pub use Rattle.zeb_program.specs.Says.{SaysText, Says}
 pub use Rattle.zeb_program.specs.Scripts.{BeginsRegister, after_lines, DividesAt, HasNoDivider, line_at, IsDivider}
 pub use Rattle.zeb_program.specs.Serving.{AnswersFrom, LeadsOn, Stops}

@@ -1,16 +1,16 @@
 -- The lines of a failure, one below the other.
-use Rattle.std.proofs.Common.{◌≡◌, ℕ, List, ◌++◌, refl, subst, sym}
+use Rattle.std.proofs.Common.{◌≡◌, ◌∙◌, ℕ, Bool, true, false, List, ◌++◌, refl, subst, sym}
 use Rattle.std.specs.Prelude.{Option, Some, None, String}
 use Rattle.std.specs.declared.alloc.Global.{Global}
 use Rattle.std.specs.Option.{option_map}
-use Rattle.std.specs.Io.KnownBytes.{Appends}
+use Rattle.std.specs.Io.KnownBytes.{Appends, Keeps}
 use Rattle.std.proofs.KnownBytes.{Appends-nil, Appends-trans}
 use Rattle.zeb_paths.specs.declared.causes.StoreCause.{StoreCause}
 use Rattle.zeb_program.specs.declared.failures.Cause.{Cause}
 use Rattle.zeb_program.specs.declared.failures.Cause.TheVariants.{Store}
 use Rattle.zeb_program.specs.declared.faults.Fault.{Fault}
 use Rattle.zeb_program.specs.Answers.{Writes}
-use Rattle.zeb_program.specs.FaultLines.{IsCauseOf, TellsCaused, TellsFault, TellsPlaced, register_lines, cause_lines, unclosed_line, unclosed_lines}
+use Rattle.zeb_program.specs.FaultLines.{IsCauseOf, TellsCaused, TellsFault, TellsPlaced, register_lines, cause_lines}
 use Rattle.zeb_program.specs.declared.statuses.Status.{Status}
 
 pub failure_lines : (old mid new : Option (List ℕ)) (why : Fault) (status : Status) (cause : Option Cause) → Writes old mid (λ line. TellsFault why line status) → IsCauseOf why cause
@@ -30,7 +30,15 @@ no_cause cause old is = subst (λ it. Appends old old (cause_lines it)) (sym is)
 pub one_cause : (cause : Option Cause) (this : Cause) (old new : Option (List ℕ)) → cause ≡ Some this → Appends old new (cause_lines (Some this)) → Appends old new (cause_lines cause)
 one_cause cause this old new is wrote = subst (λ it. Appends old new (cause_lines it)) (sym is) wrote
 
-pub unclosed_so : (met : Option StoreCause) (cause : Option Cause) (old mid new : Option (List ℕ)) → cause ≡ option_map Store met → Appends old mid unclosed_line → Appends mid new (cause_lines cause)
-    → Appends old new (unclosed_lines met)
-unclosed_so met cause old mid new is wrote more =
-    Appends-trans old mid new unclosed_line (cause_lines (option_map Store met)) wrote (subst (λ it. Appends mid new (cause_lines it)) is more)
+-- a line, and below it why the store failed
+pub line_so : (line : List ℕ) (met : Option StoreCause) (cause : Option Cause) (old mid new : Option (List ℕ)) → cause ≡ option_map Store met → Appends old mid line → Appends mid new (cause_lines cause)
+    → Appends old new (line ++ cause_lines (option_map Store met))
+line_so line met cause old mid new is wrote more =
+    Appends-trans old mid new line (cause_lines (option_map Store met)) wrote (subst (λ it. Appends mid new (cause_lines it)) is more)
+
+-- what is told of how a store was closed
+pub log_told : (whole : Bool) (old new : Option (List ℕ)) (lines : List ℕ) → whole ≡ false → Appends old new lines → (whole ≡ true → Keeps old new) × (whole ≡ false → Appends old new lines)
+log_told whole old new lines is wrote = (λ other. absurd (false_is_not_true (sym is ∙ other)), λ _. wrote)
+  where
+    false_is_not_true : false ≡ true → ⊥
+    false_is_not_true same = cc same

@@ -7,6 +7,7 @@ pub mod FailureLemmas
 pub mod FileLemmas
 pub mod LineInputLemmas
 pub mod LineLemmas
+pub mod LineStopLemmas
 pub mod MemoryLemmas
 pub mod NumberLemmas
 pub mod OpenedStores

@@ -13,7 +13,14 @@ use Rattle.zeb_program.specs.declared.tasks.Task.{Task}
 use Rattle.zeb_program.specs.declared.tasks.Task.TheVariants.{Ask, Change, Analyse}
 use Rattle.zeb_program.specs.FaultLines.{TellsFault}
 use Rattle.zeb_program.specs.PrivateFaults.{IsUnread, IsUnreadAt}
-use Rattle.zeb_program.specs.FaultAnswers.{GivesAnswer, NamesUnder, NamesUntold}
+use Rattle.zeb_program.specs.FaultAnswers.{GivesAnswer, IsUnreadable, NamesUntold, Reaches}
+use Rattle.zeb_program.specs.OverTables.{AreFilesOf, ChangesOver, IsAnalysisOver}
+use Rattle.zeb_program.specs.PrivateAnalyses.{ReadsFiles}
+use Rattle.zeb_program.specs.WalkedFiles.{FindsFiles}
+use Rattle.zeb_program.specs.declared.analyses.AnalysedFiles.{AnalysedFiles}
+use Rattle.zeb_change.specs.declared.refusals.Refusal.TheVariants.{Memory as OutOfMemory}
+use Rattle.zeb_paths.specs.Walks.{Tells}
+use Rattle.std.specs.Prelude.{◌⊎◌}
 
 -- where nothing is done nothing changes
 pub still : (s : State) → ChangesNothing s s
@@ -73,35 +80,40 @@ damaged : (r : Result Reply Refusal) → given r ≡ Err (fault.Refused Damaged)
 damaged (Ok reply) is = absurd (cc is)
 damaged (Err refusal) is = cc is
 
-module _ (told : List ℕ → Option (List ℕ)) (format : Format) (profile : List Directive) (kind : Kind) (limits : Limits) (name : List ℕ) (paths : List (List ℕ)) (s : State) where
+-- files that are told, where a walk gives just the named paths
+pub told_either : (at : Tells) (paths files : List (List ℕ)) → AreFilesOf at paths paths files → AreTold at.bytes paths files
+told_either at paths files (inl known) = known
+told_either at paths files (inr known) = known
+
+module _ (at : Tells) (format : Format) (profile : List Directive) (kind : Kind) (limits : Limits) (name : List ℕ) (paths walked : List (List ℕ)) (s : State) where
   -- the readers of the files were given to the register
   pub changed_over : {R : Type 0} (remaining : R → Option (List ℕ)) (has_failed : R → Bool) (before after : List R) (r : Result Reply Refusal)
-      → ((files : List (List ℕ)) → AreTold told paths files → (map remaining before ≡ map Some files) × NoneFailed has_failed after)
+      → ((files : List (List ℕ)) → AreFilesOf at paths walked files → (map remaining before ≡ map Some files) × NoneFailed has_failed after)
       → GoesByTexts (version_of format) profile s r
       → ((texts : List (List ℕ)) → map remaining before ≡ map Some texts → NoneFailed has_failed after → ChangesReady (version_of format) profile kind limits name texts s r)
       → (r ≡ Err Damaged → (held : Holdings) → ¬ Keeps s held)
-      → PathsOver told format profile kind limits name paths s (given r)
+      → PathsOver at format profile kind limits name paths walked s (given r)
   changed_over remaining has_failed before after r all ready elder honest = record {
     ready = inr (gives (GoesByTexts (version_of format) profile s) r ready);
     changes = λ files known. let tell = all files known in gives (ChangesReady (version_of format) profile kind limits name files s) r (elder files tell.0 tell.1);
-    untold = given_untold told r;
+    untold = given_untold at.bytes r;
     honest = λ is. honest (damaged r is);
   }
 
   -- a path couldn't be read, or memory ran out in the program itself
-  pub unread_over : (why : Fault) → IsUnread why → NamesUntold told why → ((files : List (List ℕ)) → AreTold told paths files → why ≡ fault.Memory) → PathsOver told format profile kind limits name paths s (Err why)
+  unread_over : (why : Fault) → IsUnread why → NamesUntold at.bytes why → ((files : List (List ℕ)) → AreFilesOf at paths walked files → why ≡ fault.Memory) → PathsOver at format profile kind limits name paths walked s (Err why)
   unread_over (fault.Unreadable path) unread untold memory = record { ready = inl tt; untold = untold; changes = λ files known. absurd (cc (memory files known)); honest = λ is. absurd (cc is) }
   unread_over fault.Memory unread untold memory = record { ready = inr tt; untold = tt; changes = λ files known. tt; honest = λ is. absurd (cc is) }
   unread_over _ unread untold memory = absurd unread
 
 -- what is left of the tables
-module _ (told : List ℕ → Option (List ℕ)) (c : Conditions) (kind : Kind) (name : List ℕ) (paths : List (List ℕ)) (old new : State) where
+module _ (at : Tells) (c : Conditions) (kind : Kind) (name : List ℕ) (paths walked : List (List ℕ)) (old new : State) where
   -- and by a crash
   pub changed_last : {R : Type 0} (remaining : R → Option (List ℕ)) (has_failed : R → Bool) (before after : List R) (r : Result Reply Refusal)
-      → ((files : List (List ℕ)) → AreTold told paths files → (map remaining before ≡ map Some files) × NoneFailed has_failed after)
+      → ((files : List (List ℕ)) → AreFilesOf at paths walked files → (map remaining before ≡ map Some files) × NoneFailed has_failed after)
       → Survives old new (λ db. (texts : List (List ℕ)) → map remaining before ≡ map Some texts → NoneFailed has_failed after → CommitsBy (TakesFiles c kind name texts) old db)
       → ((texts : List (List ℕ)) → map remaining before ≡ map Some texts → NoneFailed has_failed after → Endures (TakesFiles c kind name texts) old new r)
-      → IsDurable new → IfErr r (EnduresRefusal old new) → PathsLast told c kind name paths old new (given r)
+      → IsDurable new → IfErr r (EnduresRefusal old new) → PathsLast at c kind name paths walked old new (given r)
   changed_last remaining has_failed before after r all survives crash durable endures = record {
     survives = survives_weaker old new _ _ (λ _ db commits files known. let tell = all files known in commits files tell.0 tell.1) survives;
     crash = λ files known. let tell = all files known in gives (Endures (TakesFiles c kind name files) old new) r (crash files tell.0 tell.1);
@@ -111,12 +123,12 @@ module _ (told : List ℕ → Option (List ℕ)) (c : Conditions) (kind : Kind) 
 
   -- the readers of the files were given to the register
   pub changed_leaves : {R : Type 0} (remaining : R → Option (List ℕ)) (has_failed : R → Bool) (before after : List R) (r : Result Reply Refusal)
-      → ((files : List (List ℕ)) → AreTold told paths files → (map remaining before ≡ map Some files) × NoneFailed has_failed after)
+      → ((files : List (List ℕ)) → AreFilesOf at paths walked files → (map remaining before ≡ map Some files) × NoneFailed has_failed after)
       → OnErr r (ChangesNothing old new)
       → ((texts : List (List ℕ)) → map remaining before ≡ map Some texts → NoneFailed has_failed after → ServesBy (TakesFiles c kind name texts) old new r)
       → LeavesWhole c.version c.profile kind name old new r
       → ((texts : List (List ℕ)) → map remaining before ≡ map Some texts → LosesNamed c.profile name texts old new r)
-      → PathsLast told c kind name paths old new (given r) → PathsLeave told c kind name paths old new (given r)
+      → PathsLast at c kind name paths walked old new (given r) → PathsLeave at c kind name paths walked old new (given r)
   changed_leaves remaining has_failed before after r all nothing serves loses named lasts = record {
     refused = given_refused (ChangesNothing old new) r nothing;
     loses = inr (gives (LeavesWhole c.version c.profile kind name old new) r loses);
@@ -128,16 +140,16 @@ module _ (told : List ℕ → Option (List ℕ)) (c : Conditions) (kind : Kind) 
   }
 
 -- a path couldn't be read, or memory ran out in the program itself
-module _ (told : List ℕ → Option (List ℕ)) (c : Conditions) (kind : Kind) (name : List ℕ) (paths : List (List ℕ)) (s : State) where
-  unread_last : (why : Fault) → ((files : List (List ℕ)) → AreTold told paths files → why ≡ fault.Memory) → PathsLast told c kind name paths s s (Err why)
+module _ (at : Tells) (c : Conditions) (kind : Kind) (name : List ℕ) (paths walked : List (List ℕ)) (s : State) where
+  unread_last : (why : Fault) → ((files : List (List ℕ)) → AreFilesOf at paths walked files → why ≡ fault.Memory) → PathsLast at c kind name paths walked s s (Err why)
   unread_last why memory = record {
-    survives = survives_still s (λ db. (files : List (List ℕ)) → AreTold told paths files → CommitsBy (TakesFiles c kind name files) s db);
+    survives = survives_still s (λ db. (files : List (List ℕ)) → AreFilesOf at paths walked files → CommitsBy (TakesFiles c kind name files) s db);
     crash = λ files known. subst (λ it. GivesAnswer (Endures (TakesFiles c kind name files) s s) (Err it)) (sym (memory files known)) tt;
     accepted = tt;
     refused = λ _ db left. left;
   }
 
-  pub unread_leaves : (why : Fault) → IsUnread why → ((files : List (List ℕ)) → AreTold told paths files → why ≡ fault.Memory) → PathsLeave told c kind name paths s s (Err why)
+  unread_leaves : (why : Fault) → IsUnread why → ((files : List (List ℕ)) → AreFilesOf at paths walked files → why ≡ fault.Memory) → PathsLeave at c kind name paths walked s s (Err why)
   unread_leaves (fault.Unreadable path) unread memory = record {
     refused = still s;
     loses = inl tt;
@@ -155,49 +167,76 @@ module _ (told : List ℕ → Option (List ℕ)) (c : Conditions) (kind : Kind) 
   unread_leaves (fault.Profile file why) unread memory = absurd unread
   unread_leaves (fault.Refused refusal) unread memory = absurd unread
 
+-- both, of the files that a walk gives
+pub changed_paths : (at : Tells) (format : Format) (c : Conditions) (kind : Kind) (name : List ℕ) (paths walked : List (List ℕ)) (old new : State) (r : Result Reply Refusal) → FindsFiles at paths walked
+    → PathsOver at format c.profile kind c.limits name paths walked old (given r) → PathsLeave at c kind name paths walked old new (given r) → ChangesOver at format c kind name paths old new (given r)
+changed_paths at format c kind name paths walked old new r found over leaves = record {
+  walked = walked;
+  found = inr (gives (λ answer. FindsFiles at paths walked) r found);
+  over = over;
+  leaves = leaves;
+}
+
+-- a path couldn't be read, or memory ran out in the program itself
+pub unread_paths : (at : Tells) (format : Format) (c : Conditions) (kind : Kind) (name : List ℕ) (paths : List (List ℕ)) (s : State) (why : Fault) → IsUnread why → NamesUntold at.bytes why
+    → ((files : List (List ℕ)) → AreTold at.bytes paths files → why ≡ fault.Memory) → ChangesOver at format c kind name paths s s (Err why)
+unread_paths at format c kind name paths s why unread untold memory = record {
+  walked = paths;
+  found = lost why unread;
+  over = unread_over at format c.profile kind c.limits name paths paths s why unread untold never;
+  leaves = unread_leaves at c kind name paths paths s why unread never;
+}
+  where
+    never : (files : List (List ℕ)) → AreFilesOf at paths paths files → why ≡ fault.Memory
+    never files known = memory files (told_either at paths files known)
+
+    lost : (it : Fault) → IsUnread it → IsUnreadable (Err it) ⊎ GivesAnswer (λ answer. FindsFiles at paths paths) (Err it)
+    lost (fault.Unreadable path) is = inl tt
+    lost fault.Memory is = inr tt
+    lost (fault.Profile file why) is = absurd is
+    lost (fault.Refused refusal) is = absurd is
+
 -- ---- an analysis by paths
 
-module _ (told : List ℕ → Option (List ℕ)) (profile : List Directive) (limit : ℕ) (paths : List (List ℕ)) (texts : List (List ℕ)) (short : AreShort texts)
-    (these : (files : List (List ℕ)) → AreTold told paths files → texts ≡ files) where
+module _ (at : Tells) (profile : List Directive) (limit : ℕ) (paths : List (List ℕ)) (analysed : AnalysedFiles) (read : ReadsFiles at profile limit paths analysed) where
+  over_texts : (answer : Result Reply Refusal) → IsAnalysed profile limit read.texts (answer_of answer) ⊎ (answer ≡ Err OutOfMemory) → IsAnalysisOver at profile limit paths answer
+  over_texts answer is = record { texts = read.texts; analysed = is; short = read.short; these = read.these; walked = read.walked; found = read.found; read = read.read }
+
   -- the reply has the analyses of these texts
-  pub analysed_over : (reply : Reply) → IsAnalysed profile limit texts (answer_of (Ok reply)) → AnalysesOver told profile limit paths (Ok reply)
-  analysed_over reply is = inr (record { texts = texts; analysed = inl is; short = short; these = these })
+  pub analysed_over : (reply : Reply) → IsAnalysed profile limit read.texts (answer_of (Ok reply)) → AnalysesOver at profile limit paths (Ok reply)
+  analysed_over reply is = inr (over_texts (Ok reply) (inl is))
 
   -- one of their records is refused, or memory ran out
-  pub unshown_over : (why : Refusal) → HasLines profile limit texts (Err why) → AnalysesOver told profile limit paths (Err (fault.Refused why))
-  unshown_over why (inl is) = inr (record { texts = texts; analysed = inl is; short = short; these = these })
-  unshown_over why (inr is) = inr (record { texts = texts; analysed = inr (ap Err is); short = short; these = these })
+  pub unshown_over : (why : Refusal) → HasLines profile limit read.texts (Err why) → AnalysesOver at profile limit paths (Err (fault.Refused why))
+  unshown_over why (inl is) = inr (over_texts (Err why) (inl is))
+  unshown_over why (inr is) = inr (over_texts (Err why) (inr (ap Err is)))
 
-module _ (told : List ℕ → Option (List ℕ)) (profile : List Directive) (limit : ℕ) (paths : List (List ℕ)) where
+module _ (at : Tells) (profile : List Directive) (limit : ℕ) (paths : List (List ℕ)) where
   -- a path couldn't be read, or memory ran out in the program itself
-  pub unanalysed_over : (why : Fault) → IsUnreadAt told why → AnalysesOver told profile limit paths (Err why)
+  pub unanalysed_over : (why : Fault) → IsUnreadAt at.bytes why → AnalysesOver at profile limit paths (Err why)
   unanalysed_over (fault.Unreadable path) unread = inl unread
   unanalysed_over fault.Memory unread = inr tt
   unanalysed_over _ unread = absurd unread
 
 -- ---- a task
 
-module _ (told : List ℕ → Option (List ℕ)) (format : Format) (c : Conditions) (task : Task) (old new : State) (r : Result Reply Fault) where
-  pub asked_task_over : (order : Command) → task ≡ Ask order → GivesAnswer (ServesOver format c order old new) r → OnErr r (ChangesNothing old new) → TaskOver told format c task old new r
-  asked_task_over order is serves nothing = subst (λ t. TaskOver told format c t old new r) (sym is) (record { answer = serves; refused = nothing; reads = λ reads. absurd reads })
+module _ (at : Tells) (format : Format) (c : Conditions) (task : Task) (old new : State) (r : Result Reply Fault) where
+  pub asked_task_over : (order : Command) → task ≡ Ask order → GivesAnswer (ServesOver format c order old new) r → OnErr r (ChangesNothing old new) → TaskOver at format c task old new r
+  asked_task_over order is serves nothing = subst (λ t. TaskOver at format c t old new r) (sym is) (record { answer = serves; refused = nothing; reads = λ reads. absurd reads })
 
   -- the paths as a slice are those of the task
   pub changed_task_over : (kind : Kind) (database : DbName) (paths : Vec (String Global) Global) (named : List (String Global)) → task ≡ Change kind database paths → named ≡ paths.items
-      → PathsOver told format c.profile kind c.limits (name_bytes database) (map string_bytes named) old r
-      → PathsLeave told c kind (name_bytes database) (map string_bytes named) old new r → TaskOver told format c task old new r
-  changed_task_over kind database paths named is same over leaves = subst (λ t. TaskOver told format c t old new r) (sym is) (record {
-    answer = (
-      subst (λ items. PathsOver told format c.profile kind c.limits (name_bytes database) (map string_bytes items) old r) same over,
-      subst (λ items. PathsLeave told c kind (name_bytes database) (map string_bytes items) old new r) same leaves,
-    );
-    refused = leaves.refused;
+      → ChangesOver at format c kind (name_bytes database) (map string_bytes named) old new r → TaskOver at format c task old new r
+  changed_task_over kind database paths named is same over = subst (λ t. TaskOver at format c t old new r) (sym is) (record {
+    answer = subst (λ items. ChangesOver at format c kind (name_bytes database) (map string_bytes items) old new r) same over;
+    refused = over.leaves.refused;
     reads = λ reads. absurd reads;
   })
 
   pub analysed_task_over : (paths : Vec (String Global) Global) (named : List (String Global)) → task ≡ Analyse paths → named ≡ paths.items
-      → AnalysesOver told c.profile c.limits.records (map string_bytes named) r → new ≡ old → TaskOver told format c task old new r
-  analysed_task_over paths named is same over left = subst (λ t. TaskOver told format c t old new r) (sym is) (record {
-    answer = subst (λ items. AnalysesOver told c.profile c.limits.records (map string_bytes items) r) same over;
+      → AnalysesOver at c.profile c.limits.records (map string_bytes named) r → new ≡ old → TaskOver at format c task old new r
+  analysed_task_over paths named is same over left = subst (λ t. TaskOver at format c t old new r) (sym is) (record {
+    answer = subst (λ items. AnalysesOver at c.profile c.limits.records (map string_bytes items) r) same over;
     refused = refused r;
     reads = λ _. subst (LeavesAlone old) (sym left) (alone old);
   })
@@ -211,42 +250,41 @@ module _ (told : List ℕ → Option (List ℕ)) (format : Format) (c : Conditio
 
 -- ---- a change by one path
 
-module _ (told : List ℕ → Option (List ℕ)) (format : Format) (c : Conditions) (change : PathChange) (old new : State) (wrote writes : Option (List ℕ)) (failed : Bool) (Clean : Type 0) (named : List (String Global)) where
-  named_over : (result : Result Reply Fault) → named ≡ change.path ∷ [] → PathsOver told format c.profile change.kind c.limits (name_bytes change.database) (map string_bytes named) old result
-      → PathsOver told format c.profile change.kind c.limits (name_bytes change.database) (string_bytes change.path ∷ []) old result
-  named_over result is over = subst (λ paths. PathsOver told format c.profile change.kind c.limits (name_bytes change.database) paths old result) (ap (map string_bytes) is) over
+module _ (at : Tells) (format : Format) (c : Conditions) (change : PathChange) (old new : State) (wrote writes : Option (List ℕ)) (failed : Bool) (Clean : Type 0) (named : List (String Global)) where
+  -- what is said of the path as a slice
+  named_over : (result : Result Reply Fault) → named ≡ change.path ∷ [] → ChangesOver at format c change.kind (name_bytes change.database) (map string_bytes named) old new result
+      → ChangesOver at format c change.kind (name_bytes change.database) (string_bytes change.path ∷ []) old new result
+  named_over result is over = subst (λ paths. ChangesOver at format c change.kind (name_bytes change.database) paths old new result) (ap (map string_bytes) is) over
 
-  leaves_path : (result : Result Reply Fault) → named ≡ change.path ∷ [] → PathsLeave told c change.kind (name_bytes change.database) (map string_bytes named) old new result
-      → PathsLeave told c change.kind (name_bytes change.database) (string_bytes change.path ∷ []) old new result
-  leaves_path result is leaves = subst (λ paths. PathsLeave told c change.kind (name_bytes change.database) paths old new result) (ap (map string_bytes) is) leaves
+  named_reaches : (result : Result Reply Fault) → named ≡ change.path ∷ [] → Reaches at ⊥ (map string_bytes named) result → Reaches at ⊥ (string_bytes change.path ∷ []) result
+  named_reaches result is reaches = subst (λ paths. Reaches at ⊥ paths result) (ap (map string_bytes) is) reaches
 
-  named_under : (why : Fault) → named ≡ change.path ∷ [] → NamesUnder (map string_bytes named) why → NamesUnder (string_bytes change.path ∷ []) why
-  named_under why is under = subst (λ paths. NamesUnder paths why) (ap (map string_bytes) is) under
-
-  pub replied_path : (reply : Reply) (bytes : List ℕ) → named ≡ change.path ∷ [] → (Clean → PathsOver told format c.profile change.kind c.limits (name_bytes change.database) (map string_bytes named) old (Ok reply))
-      → (Clean → PathsLeave told c change.kind (name_bytes change.database) (map string_bytes named) old new (Ok reply))
+  pub replied_path : (reply : Reply) (bytes : List ℕ) → named ≡ change.path ∷ [] → Reaches at ⊥ (map string_bytes named) (Ok reply)
+      → (Clean → ChangesOver at format c change.kind (name_bytes change.database) (map string_bytes named) old new (Ok reply))
       → bytes ≡ reply_text reply → (failed ≡ false → Appends wrote writes bytes)
-      → failed ≡ false → Clean → Writes wrote writes (λ given. PathOver told format c change old given Answered new)
-  replied_path reply bytes one over leaves is grew sound clean = (bytes, (Ok reply, (is, refl), tt, named_over (Ok reply) one (over clean), leaves_path (Ok reply) one (leaves clean)), grew sound)
+      → failed ≡ false → Clean → Writes wrote writes (λ given. PathOver at format c change old given Answered new)
+  replied_path reply bytes one reaches over is grew sound clean =
+      let result : Result Reply Fault = Ok reply in
+      (bytes, (result, (is, refl), named_reaches result one reaches, named_over result one (over clean)), grew sound)
 
-  pub refused_path : (why : Fault) (r : Result Status AllocError) → named ≡ change.path ∷ [] → NamesUnder (map string_bytes named) why → (Clean → PathsOver told format c.profile change.kind c.limits (name_bytes change.database) (map string_bytes named) old (Err why))
-      → (Clean → PathsLeave told c change.kind (name_bytes change.database) (map string_bytes named) old new (Err why))
+  pub refused_path : (why : Fault) (r : Result Status AllocError) → named ≡ change.path ∷ [] → Reaches {T = Reply} at ⊥ (map string_bytes named) (Err why)
+      → (Clean → ChangesOver at format c change.kind (name_bytes change.database) (map string_bytes named) old new (Err why))
       → IfOk r (λ status. failed ≡ false → Writes wrote writes (λ line. TellsFault why line status))
-      → IfOk r (λ status. failed ≡ false → Clean → Writes wrote writes (λ bytes. PathOver told format c change old bytes status new))
-  refused_path why (Err e) one under over leaves tells = tt
-  refused_path why (Ok status) one under over leaves tells = λ sound clean.
+      → IfOk r (λ status. failed ≡ false → Clean → Writes wrote writes (λ bytes. PathOver at format c change old bytes status new))
+  refused_path why (Err e) one reaches over tells = tt
+  refused_path why (Ok status) one reaches over tells = λ sound clean.
       let w = tells sound in
       let result : Result Reply Fault = Err why in
-      (w.0, (result, w.1, named_under why one under, named_over result one (over clean), leaves_path result one (leaves clean)), w.2)
+      (w.0, (result, w.1, named_reaches result one reaches, named_over result one (over clean)), w.2)
 
 -- ---- a line
 
 -- what is said of a line that says this
-pub said_over : {S : Type 0} (g : Ghosts S) (told : List ℕ → Option (List ℕ)) (format : Format) (c : Conditions) (number : ℕ) (text : List ℕ) (line : Line) (old new : Held S) (wrote writes : Option (List ℕ)) (failed : Bool) (Clean : Type 0) (r : Result Status AllocError)
+pub said_over : {S : Type 0} (g : Ghosts S) (at : Tells) (format : Format) (c : Conditions) (number : ℕ) (text : List ℕ) (line : Line) (old new : Held S) (wrote writes : Option (List ℕ)) (failed : Bool) (Clean : Type 0) (r : Result Status AllocError)
     → Says text line
-    → IfOk r (λ status. failed ≡ false → Clean → Writes wrote writes (λ bytes. SaysOver told format c number line (state g old) bytes status (state g new)))
-    → IfOk r (λ status. failed ≡ false → Clean → Writes wrote writes (λ bytes. LineOver g told format c number text old bytes status new))
-said_over g told format c number text line old new wrote writes failed Clean (Err e) says h = h
-said_over g told format c number text line old new wrote writes failed Clean (Ok status) says h = λ sound clean.
+    → IfOk r (λ status. failed ≡ false → Clean → Writes wrote writes (λ bytes. SaysOver at format c number line (state g old) bytes status (state g new)))
+    → IfOk r (λ status. failed ≡ false → Clean → Writes wrote writes (λ bytes. LineOver g at format c number text old bytes status new))
+said_over g at format c number text line old new wrote writes failed Clean (Err e) says h = h
+said_over g at format c number text line old new wrote writes failed Clean (Ok status) says h = λ sound clean.
     let w = h sound clean in
     (w.0, (line, says, w.1), w.2)

@@ -1,21 +1,21 @@
 -- How far the files at some paths have come, of which readers or contents are made.
 use Rattle.std.proofs.Common.{◌≡◌, ◌≢◌, ◌≤◌, ◌∙◌, ◌-◌, ◌+◌, inl, inr, Bool, true, false, ℕ, List, [], ◌∷◌, ◌++◌, Vec, ap, append_assoc, arith, length, map, refl, subst, sym}
-use Rattle.std.specs.Prelude.{◌⊎◌, ◌||◌, Contains, IfErr, IfOk, IfSome, Option, Some, None, Result, Ok, Err, String, if◌then◌else◌, string_bytes}
+use Rattle.std.specs.Prelude.{◌⊎◌, ◌||◌, IfErr, IfOk, IfSome, Option, Some, None, Result, Ok, Err, String, if◌then◌else◌, string_bytes}
 use Rattle.std.specs.declared.alloc.AllocError.{AllocError}
 use Rattle.std.specs.declared.alloc.Global.{Global}
 use Rattle.std.proofs.lemmas.List.{append-nil, map-append}
-use Rattle.std.proofs.lemmas.List.Elements.{Contains-append_right}
 use Rattle.zeb_change.specs.Reading.{NoneFailed, StayAble}
+use Rattle.zeb_program.specs.OverTables.{AreFilesOf}
 use Rattle.zeb_program.specs.PrivateFiles.{IsGiven, ReadsBelow, ReadsContent, sure_bytes}
+use Rattle.zeb_program.specs.TaskAnswers.{AreTold}
 use Rattle.zeb_program.specs.WalkedFiles.{FindsNthFile, WalksFrom, WalksOver}
 use Rattle.zeb_program.specs.Inputs.{AreShort, IsShort}
-use Rattle.zeb_paths.specs.Walks.{AreUnder, Due, GivesFile, IsFaultUntold, Tells, WalksOn, due}
-use Rattle.zeb_paths.proofs.WalkLemmas.{stays_under}
+use Rattle.zeb_paths.specs.Walks.{Due, GivesFile, IsFaultUntold, Tells, WalksOn, due}
 use Rattle.zeb_paths.specs.declared.walk.WalkFault.{WalkFault}
 use Rattle.zeb_paths.specs.declared.walk.WalkFault.TheVariants as walk
 use Rattle.zeb_program.specs.declared.faults.Fault.{Fault}
 use Rattle.zeb_program.specs.declared.faults.Fault.TheVariants as reason
-use Rattle.zeb_program.specs.FaultAnswers.{NamesMet, NamesUnder, NamesUntold}
+use Rattle.zeb_program.specs.FaultAnswers.{NamesMet, NamesUntold}
 use Rattle.zeb_program.specs.PrivateFaults.{IsUnfound, IsUnread, IsUnreadAt, fault_of}
 
 -- what has been made has the bytes of the first of these files, and the paths that are left lead to the others
@@ -93,7 +93,7 @@ walk_more at named files left later given from on = walk_on at (map (λ path. du
 
 -- the readers of the first files are there, and these paths are left
 abbrev pub ReadsSoFar : {R : Type 0} → (R → Option (List ℕ)) → Tells → List (List ℕ) → List R → List Due → Type 0
-ReadsSoFar remaining at named readers left = (files : List (List ℕ)) × WalksFrom at named files left × (map remaining readers ≡ map at.bytes files)
+ReadsSoFar sure at named readers left = (files : List (List ℕ)) × WalksFrom at named files left × (map sure readers ≡ map at.bytes files)
 
 pub reads_start : {R : Type 0} (remaining : R → Option (List ℕ)) (at : Tells) (named : List (String Global)) (readers : List R) (left : List Due) → readers ≡ []
     → left ≡ map (λ path. due (string_bytes path) 1) named → ReadsSoFar remaining at (map string_bytes named) readers left
@@ -110,7 +110,13 @@ reads_more remaining at named readers more left later given one (files, from, by
 
 pub reads_all : {R : Type 0} (remaining : R → Option (List ℕ)) (at : Tells) (named : List (List ℕ)) (readers : List R) (left later : List Due) → ReadsSoFar remaining at named readers left → WalksOn at left (Ok None) later
     → ReadsBelow remaining at named readers
-reads_all remaining at named readers left later (files, from, same) on = record { files = files; left = left; later = later; walks = from; ends = on; bytes = same }
+reads_all remaining at named readers left later (files, from, same) on = record { files = files; found = (left, later, from, on); bytes = same }
+
+-- the bytes that the readers of a change's files are sure to give
+pub sure_given : {R : Type 0} (sure : R → Option (List ℕ)) (at : Tells) (paths walked : List (List ℕ)) (readers : List R) (files : List (List ℕ)) → ((files : List (List ℕ)) → AreTold at.bytes paths files → map sure readers ≡ map Some files)
+    → map sure readers ≡ map at.bytes walked → AreFilesOf at paths walked files → map sure readers ≡ map Some files
+sure_given sure at paths walked readers files told same (inl known) = told files known
+sure_given sure at paths walked readers files told same (inr known) = same ∙ known
 
 pub count_before : (n nth number : ℕ) → n + 1 ≡ nth → number ≤ nth → (nth ≤ 1) ⊎ (nth ≤ number) → n ≡ number - 1
 count_before n nth number is far (inl first) = omega (arith, is, far, first)
@@ -129,6 +135,17 @@ module _ {R : Type 0} (remaining : R → Option (List ℕ)) (may_fail has_failed
   pub sure_of : (reader : R) (file : List ℕ) → remaining reader ≡ Some file → may_fail reader ≡ false → has_failed reader ≡ false
       → sure_bytes remaining may_fail has_failed reader ≡ Some file
   sure_of reader file is able sound = rw (able, sound) is
+
+  none_sure : (may failed : Bool) (told : Option (List ℕ)) → told ≡ None → (if may || failed then None else told) ≡ None
+  none_sure true failed told is = refl
+  none_sure false true told is = refl
+  none_sure false false told is = is
+
+  -- a reader is sure to give just the bytes that are told of its file
+  pub sure_or_none : (reader : R) (told : Option (List ℕ)) → remaining reader ≡ told → ((file : List ℕ) → told ≡ Some file → may_fail reader ≡ false) → has_failed reader ≡ false
+      → sure_bytes remaining may_fail has_failed reader ≡ told
+  sure_or_none reader None is able sound = none_sure (may_fail reader) (has_failed reader) (remaining reader) is
+  sure_or_none reader (Some file) is able sound = sure_of reader file is (able file refl) sound
 
   one_sure : (may failed : Bool) (told : Option (List ℕ)) (file : List ℕ) → (if may || failed then None else told) ≡ Some file → (may ≡ false) × (failed ≡ false) × (told ≡ Some file)
   one_sure true failed told file e = absurd cc
@@ -219,32 +236,6 @@ content_unread tells path (reason.Refused refusal) reads = absurd reads
 content_unread tells path reason.Memory reads = tt
 
 -- ---- paths that can't be read
-
-all_in : (front rest : List (List ℕ)) → AreUnder (front ++ rest) rest
-all_in front [] = tt
-all_in front (path ∷ rest) =
-    let here : Contains (front ++ path ∷ rest) path = Contains-append_right front (path ∷ rest) path (0, omega arith, refl) in
-    ((path, here, inl refl), subst (λ named. AreUnder named rest) (append_assoc front (path ∷ []) rest) (all_in (front ++ path ∷ []) rest))
-
-dues_paths : (named : List (List ℕ)) → map (λ here. here.path) (map (λ path. due path 1) named) ≡ named
-dues_paths [] = refl
-dues_paths (path ∷ named) = ap (λ rest. path ∷ rest) (dues_paths named)
-
-over_under : (at : Tells) (named : List (List ℕ)) (first : List Due) (files : List (List ℕ)) (left : List Due) → WalksOver at first files left → AreUnder named (map (λ here. here.path) first) → AreUnder named (map (λ here. here.path) left)
-over_under at named first [] left over all = subst (λ dues. AreUnder named (map (λ here. here.path) dues)) (sym over) all
-over_under at named first (file ∷ files) left over all = over_under at named over.1 files left over.4 (stays_under at named first over.1 (Ok (Some over.0)) over.2 all).1
-
--- what a walk leaves
-from_under : (at : Tells) (named files : List (List ℕ)) (left : List Due) → WalksFrom at named files left → AreUnder named (map (λ here. here.path) left)
-from_under at named files left from = over_under at named (map (λ path. due path 1) named) files left from (subst (AreUnder named) (sym (dues_paths named)) (all_in [] named))
-
--- a path that a walk comes to is one of those that it is of, or stands below one
-pub met_under : (at : Tells) (Whole : Type 0) (named : List (List ℕ)) (why : Fault) → NamesMet at Whole named why → NamesUnder named why
-met_under at Whole named (reason.Unreadable path) (inl (files, left, later, from, on)) = (stays_under at named left later (Err (walk.Unreadable path)) on (from_under at named files left from)).0
-met_under at Whole named (reason.Unreadable path) (inr (whole, (files, left, later, from, on))) = (stays_under at named left later (Ok (Some path)) on (from_under at named files left from)).0
-met_under at Whole named (reason.Profile file fault) met = tt
-met_under at Whole named (reason.Refused refusal) met = tt
-met_under at Whole named reason.Memory met = tt
 
 -- a walk that can't go on
 stopped_fault : (at : Tells) (Whole : Type 0) (named files : List (List ℕ)) (left later : List Due) (why : WalkFault) (given : Fault) → given ≡ fault_of why → WalksFrom at named files left → WalksOn at left (Err why) later → NamesMet at Whole named given

@@ -1,5 +1,5 @@
 -- The answers of a script, at each of its ends.
-use Rattle.zeb_program.proofs.Cited.{◌≡◌, ◌≤◌, ℕ, Bool, false, List, [], ◌∷◌, ◌++◌, inl, inr, refl, sym, ap, subst, ◌∙◌, arith, Option, Some, None, Result, Ok, Err, IfOk, IfNone, IfSome, IsOk, OnErr, string_bytes, string_len, IsUtf8-string_bytes, AllocError, Appends, Keeps, Held, Ghosts, State, Conditions, nothing_yet, Refusal, refusal_text, Directive, IsInput, DividesAt, HasNoDivider, Writes, AnswersBatch, AnswersPart, Format, LinesOver, LeadsOn, Stops, Status, EndsWith, fault_status, refusal_status, status_code, Answered, Failed}
+use Rattle.zeb_program.proofs.Cited.{◌≡◌, ◌≤◌, ℕ, Bool, false, List, [], ◌∷◌, ◌++◌, inl, inr, refl, sym, ap, subst, ◌∙◌, arith, Option, Some, None, Result, Ok, Err, IfOk, IfNone, IfSome, IsOk, OnErr, string_bytes, string_len, IsUtf8-string_bytes, AllocError, Appends, Keeps, Held, Ghosts, State, Conditions, nothing_yet, Refusal, refusal_text, Directive, IsInput, DividesAt, HasNoDivider, Writes, AnswersBatch, Format, LinesOver, LeadsOn, Status, EndsWith, fault_status, refusal_status, status_code, Answered, Failed}
 use Rattle.std.specs.declared.string.String.{String}
 use Rattle.zeb_program.specs.declared.input.TheConstants.{GREATEST_INPUT}
 use Rattle.zeb_image.specs.Image.{Keeps as Holding}
@@ -8,10 +8,13 @@ use Rattle.zeb_profile.specs.Outcomes.{FailsPlaced}
 use Rattle.zeb_profile.specs.Profiles.{profile_of}
 use Rattle.zeb_program.specs.declared.script.Batch.{Batch}
 use Rattle.zeb_program.specs.FaultAnswers.{IsOpeningFailure}
-use Rattle.zeb_program.specs.Doing.{RunsText}
-use Rattle.zeb_program.specs.ScriptAnswers.{AnswersScript, EndsEarly, EndsScript, unreadable, faulty, alone, ran, stopped, silent, AreScriptConditions, AnswersOpened, AnswersStopped, RunsFromNothing, IsUnopened, IsProfileOf, fault_line}
-use Rattle.zeb_program.specs.FixedLines.{unreadable_line, refusal_line}
+use Rattle.zeb_paths.specs.Walks.{Tells}
+use Rattle.sqlite.specs.Held.{state}
+use Rattle.zeb_program.specs.Doing.{RunsText, StopsPart}
+use Rattle.zeb_program.specs.ScriptAnswers.{AnswersScript, EndsEarly, EndsScript, unreadable, faulty, alone, ran, stopped, silent, AreScriptConditions, AnswersOpened, AnswersStopped, RunsFromNothing, IsUnopened, IsProfileOf, MayStarve, fault_line}
+use Rattle.zeb_program.specs.FixedLines.{starved_line, unreadable_line, refusal_line}
 use Rattle.zeb_program.proofs.AnswerLemmas.{Appends-nil}
+use Rattle.std.proofs.KnownBytes.{Keeps-refl, Keeps-trans}
 
 unopened : (refusal : Refusal) (bytes : List ℕ) (status : Status) → IsOpeningFailure refusal → (bytes ≡ refusal_line refusal) × (status ≡ refusal_status refusal) → IsUnopened bytes status
 unopened refusal bytes status (inl is) said = (inl (said.0 ∙ ap refusal_line is), said.1 ∙ ap refusal_status is)
@@ -39,14 +42,15 @@ pub opened_batch : (tells : List ℕ → Option (List ℕ)) (directives : List D
 opened_batch tells directives wrote writes n batch failed (Err e) h = h
 opened_batch tells directives wrote writes n batch failed (Ok status) h = λ sound. inl (h sound)
 
-pub stopped_batch : (tells : List ℕ → Option (List ℕ)) (c : Conditions) (directives : List Directive) (old : State) (wrote writes : Option (List ℕ)) (n : ℕ) (batch : List ℕ) (failed : Bool) (Clean : Type 0) (r : Result Status AllocError)
-    → AreScriptConditions directives c → Holding old nothing_yet → Clean
-    → OnErr r (failed ≡ false → Clean → Stops old wrote writes (AnswersPart tells c n batch))
-    → OnErr r (failed ≡ false → AnswersStopped tells directives n batch wrote writes)
-stopped_batch tells c directives old wrote writes n batch failed Clean (Ok status) under keeps clean h = h
-stopped_batch tells c directives old wrote writes n batch failed Clean (Err e) under keeps clean h = λ sound.
-    let w = h sound clean (Some nothing_yet) keeps in
-    inl (w.0, (c, under, w.1), w.2)
+pub stopped_batch : {S : Type 0} (g : Ghosts S) (at : Tells) (format : Format) (c : Conditions) (directives : List Directive) (old new : Held S) (wrote writes : Option (List ℕ)) (n : ℕ) (batch : List ℕ) (failed : Bool) (Clean : Type 0) (r : Result Status AllocError)
+    → AreScriptConditions directives c → Holding (state g old) nothing_yet → Clean
+    → OnErr r (failed ≡ false → Clean → StopsPart g at format c n batch wrote writes old new)
+    → OnErr r (failed ≡ false → AnswersStopped at.bytes directives n batch wrote writes)
+stopped_batch g at format c directives old new wrote writes n batch failed Clean (Ok status) under keeps clean h = tt
+stopped_batch g at format c directives old new wrote writes n batch failed Clean (Err e) under keeps clean h = λ sound.
+    let part = h sound clean in
+    let w = part.first.answers (Some nothing_yet) keeps in
+    inl (w.0, (c, under, (w.1.0, part.rest, w.1.1, part.some, w.1.2)), w.2)
 
 -- nothing was written
 pub silent_batch : (tells : List ℕ → Option (List ℕ)) (directives : List Directive) (n : ℕ) (batch : List ℕ) (old : Option (List ℕ)) → AnswersStopped tells directives n batch old old
@@ -115,13 +119,13 @@ Appends-kept (Some xs) (Some ys) (Some zs) bytes h kept = kept ∙ h
 pub Writes-kept : (old mid new : Option (List ℕ)) (P : List ℕ → Type 0) → Keeps mid new → Writes old mid P → Writes old new P
 Writes-kept old mid new P kept w = (w.0, w.1, Appends-kept old mid new w.0 w.2 kept)
 
-pub RunsText-kept : {S : Type 0} (g : Ghosts S) (tells : List ℕ → Option (List ℕ)) (format : Format) (c : Conditions) (n : ℕ) (batch : List ℕ) (old mid new : Option (List ℕ)) (status : Status) (first last : Held S) → Keeps mid new
-    → RunsText g tells format c n batch old mid status first last → RunsText g tells format c n batch old new status first last
-RunsText-kept g tells format c n batch old mid new status first last kept runs = record {
-  over = Writes-kept old mid new (λ bytes. LinesOver g tells format c n batch first bytes status last) kept runs.over;
+pub RunsText-kept : {S : Type 0} (g : Ghosts S) (at : Tells) (format : Format) (c : Conditions) (n : ℕ) (batch : List ℕ) (old mid new : Option (List ℕ)) (status : Status) (first last : Held S) → Keeps mid new
+    → RunsText g at format c n batch old mid status first last → RunsText g at format c n batch old new status first last
+RunsText-kept g at format c n batch old mid new status first last kept runs = record {
+  over = Writes-kept old mid new (λ bytes. LinesOver g at format c n batch first bytes status last) kept runs.over;
   answers = λ before keeps.
       let w = runs.answers before keeps in
-      (w.0, w.1, Writes-kept old mid new (λ bytes. AnswersBatch tells c n batch before bytes status w.0) kept w.2);
+      (w.0, w.1, Writes-kept old mid new (λ bytes. AnswersBatch at.bytes c n batch before bytes status w.0) kept w.2);
 }
 
 pub RunsFromNothing-kept : (tells : List ℕ → Option (List ℕ)) (directives : List Directive) (n : ℕ) (batch : List ℕ) (old mid new : Option (List ℕ)) (status : Status) → Keeps mid new
@@ -146,29 +150,37 @@ EndsEarly-kept : (tells : List ℕ → Option (List ℕ)) (text : List ℕ) (old
 EndsEarly-kept tells text old mid new kept (stopped {batch = batch} {directives = directives} {n = n} input divides given w) = stopped input divides given (AnswersStopped-kept tells directives n batch old mid new kept w)
 EndsEarly-kept tells text old mid new kept (silent w) = silent (Writes-kept old mid new (λ bytes. bytes ≡ []) kept w)
 
-EndsScript-kept : (tells : List ℕ → Option (List ℕ)) (text : List ℕ) (old mid new : Option (List ℕ)) (status : Status) → Keeps mid new → EndsScript tells text old mid status → EndsScript tells text old new status
-EndsScript-kept tells text old mid new status kept (inl answers) = inl (AnswersScript-kept tells text old mid new status kept answers)
-EndsScript-kept tells text old mid new status kept (inr ends) = inr (EndsEarly-kept tells text old mid new kept ends.0, ends.1)
+EndsScript-kept : (tells : List ℕ → Option (List ℕ)) (text : List ℕ) (old mid new fault_old fault_mid fault_new : Option (List ℕ)) (status : Status) → Keeps mid new → Keeps fault_mid fault_new
+    → EndsScript tells text old mid fault_old fault_mid status → EndsScript tells text old new fault_old fault_new status
+EndsScript-kept tells text old mid new fault_old fault_mid fault_new status kept fault_kept (inl (answers, same)) =
+    inl (AnswersScript-kept tells text old mid new status kept answers, Keeps-trans fault_old fault_mid fault_new same fault_kept)
+EndsScript-kept tells text old mid new fault_old fault_mid fault_new status kept fault_kept (inr (ends, starved, is)) =
+    inr (EndsEarly-kept tells text old mid new kept ends, Appends-kept fault_old fault_mid fault_new starved_line starved fault_kept, is)
 
 -- a script is answered where the program has an answer, and ends early where it has none
-pub ended_script : (tells : List ℕ → Option (List ℕ)) (told old new : Option (List ℕ)) (unread failed : Bool) (r : Result Status AllocError)
-    → IfOk r (λ status. unread ≡ false → failed ≡ false → IfSome told (λ text. AnswersScript tells text old new status))
-    → IfOk r (λ status. unread ≡ false → failed ≡ false → IfSome told (λ text. EndsScript tells text old new status))
-ended_script tells told old new unread failed (Err e) h = h
-ended_script tells None old new unread failed (Ok status) h = λ _ _. tt
-ended_script tells (Some text) old new unread failed (Ok status) h = λ read sound. inl (h read sound)
-
-pub early_script : (tells : List ℕ → Option (List ℕ)) (told old new : Option (List ℕ)) (unread failed : Bool) (r : Result Status AllocError)
+pub ended_script : {V : Type 0} (tells : List ℕ → Option (List ℕ)) (told old new : Option (List ℕ)) (contents : V → Option (List ℕ)) (fault_old last : V) (unread failed last_failed : Bool) (status : Status) (r : Result Status AllocError)
+    → IfOk r (λ met. unread ≡ false → failed ≡ false → IfSome told (λ text. AnswersScript tells text old new met))
     → OnErr r (unread ≡ false → failed ≡ false → IfSome told (λ text. EndsEarly tells text old new))
-    → OnErr r (unread ≡ false → failed ≡ false → IfSome told (λ text. EndsScript tells text old new Failed))
-early_script tells told old new unread failed (Ok status) h = h
-early_script tells None old new unread failed (Err e) h = λ _ _. tt
-early_script tells (Some text) old new unread failed (Err e) h = λ read sound. inr (h read sound, refl)
+    → IfOk r (λ met. (status ≡ met) × (last ≡ fault_old)) → OnErr r ((status ≡ Failed) × (last_failed ≡ false → Appends (contents fault_old) (contents last) starved_line))
+    → last_failed ≡ false → unread ≡ false → failed ≡ false → IfSome told (λ text. EndsScript tells text old new (contents fault_old) (contents last) status)
+ended_script tells None old new contents fault_old last unread failed last_failed status r answers ends same starved quiet read sound = tt
+ended_script tells (Some text) old new contents fault_old last unread failed last_failed status (Ok met) answers ends same starved quiet read sound =
+    subst (λ v. EndsScript tells text old new (contents fault_old) (contents v) status) (sym same.1)
+    (subst (λ s. EndsScript tells text old new (contents fault_old) (contents fault_old) s) (sym same.0) (inl (answers read sound, Keeps-refl (contents fault_old))))
+ended_script tells (Some text) old new contents fault_old last unread failed last_failed status (Err e) answers ends same starved quiet read sound =
+    inr (ends read sound, starved.1 quiet, starved.0)
 
--- what is passed on stays what it was
-pub kept_script : (tells : List ℕ → Option (List ℕ)) (told old mid new : Option (List ℕ)) (status : Status) → Keeps mid new → IfSome told (λ text. EndsScript tells text old mid status) → IfSome told (λ text. EndsScript tells text old new status)
-kept_script tells None old mid new status kept h = tt
-kept_script tells (Some text) old mid new status kept h = EndsScript-kept tells text old mid new status kept h
+-- whatever the input tells
+pub may_starve : {V : Type 0} (contents : V → Option (List ℕ)) (fault_old last : V) (status : Status) (r : Result Status AllocError) (last_failed : Bool) (new : Option (List ℕ))
+    → IfOk r (λ met. (status ≡ met) × (last ≡ fault_old)) → OnErr r ((status ≡ Failed) × (last_failed ≡ false → Appends (contents fault_old) (contents last) starved_line))
+    → last_failed ≡ false → Keeps (contents last) new → MayStarve (contents fault_old) new
+may_starve contents fault_old last status (Ok met) last_failed new same starved quiet kept = inl (subst (λ v. Keeps (contents v) new) same.1 kept)
+may_starve contents fault_old last status (Err e) last_failed new same starved quiet kept = inr (Appends-kept (contents fault_old) (contents last) new starved_line (starved.1 quiet) kept)
+
+pub kept_script : (tells : List ℕ → Option (List ℕ)) (told old mid new fault_old fault_mid fault_new : Option (List ℕ)) (status : Status) → Keeps mid new → Keeps fault_mid fault_new
+    → IfSome told (λ text. EndsScript tells text old mid fault_old fault_mid status) → IfSome told (λ text. EndsScript tells text old new fault_old fault_new status)
+kept_script tells None old mid new fault_old fault_mid fault_new status kept fault_kept h = tt
+kept_script tells (Some text) old mid new fault_old fault_mid fault_new status kept fault_kept h = EndsScript-kept tells text old mid new fault_old fault_mid fault_new status kept fault_kept h
 
 -- the number that a process ends with is that of the status
 pub ends_with : (told : Option (List ℕ)) (P : List ℕ → Status → Type 0) (code : ℕ) (status : Status) → code ≡ status_code status → IfSome told (λ text. P text status) → IfSome told (λ text. EndsWith code (P text))

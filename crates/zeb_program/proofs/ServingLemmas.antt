@@ -1,5 +1,5 @@
 -- How far the lines of a batch have come over a connection.
-use Rattle.zeb_program.proofs.Cited.{◌≡◌, ◌<◌, ◌+◌, ℕ, Bool, false, List, [], ◌∷◌, ◌++◌, length, refl, Option, Some, None, Result, Ok, Err, IfOk, IfSome, OnErr, String, string_bytes, Global, AllocError, Appends, State, Command, Refusal, Reply, Conditions, Holdings, refusal_text, reply_text, ServesCommand, Remark, Order, Mark, Bad, Says, first_line, after_first_line, Writes, bad_line, mark_line, IsAnswer, AnswersAsTold, AnswersBatch, AnswersPart, LeadsOn, Stops, Status, greater, refusal_status, Answered, Misused}
+use Rattle.zeb_program.proofs.Cited.{◌≡◌, ◌<◌, ◌+◌, ℕ, Bool, false, List, [], ◌∷◌, ◌++◌, length, refl, Option, Some, None, Result, Ok, Err, IfOk, IfSome, OnErr, String, string_bytes, Global, AllocError, Appends, State, Command, Refusal, Reply, Conditions, Holdings, refusal_text, reply_text, ServesCommand, Remark, Order, Mark, Bad, Says, first_line, after_first_line, Writes, bad_line, mark_line, IsAnswer, AnswersAsTold, AnswersBatch, LeadsOn, Status, greater, refusal_status, Answered, Misused}
 use Rattle.zeb_image.specs.Image.{Keeps}
 use Rattle.zeb_program.specs.PrivateServing.{Leads}
 use Rattle.zeb_program.proofs.AnswerLemmas.{Appends-nil, IsAnswered, answered_all, answered_start, answered_line, answered_lines}
@@ -82,18 +82,3 @@ pub reaches_end : (told : List ℕ → Option (List ℕ)) (c : Conditions) (old 
 reaches_end told c old now wrote writes before text n rest greatest none far first keeps =
     let here = far first keeps in
     (here.0, here.1, answered_all (AnswersAsTold told c) wrote writes before text first n rest greatest here.0 none here.2)
-
-pub reaches_stop : (told : List ℕ → Option (List ℕ)) (c : Conditions) (old now : State) (wrote writes : Option (List ℕ)) (before : ℕ) (text : List ℕ) (n : ℕ) (rest : List ℕ) (greatest : Status) → 0 < length rest
-    → Reaches told c old now wrote writes before text n rest greatest
-    → Stops old wrote writes (AnswersPart told c before text)
-reaches_stop told c old now wrote writes before text n rest greatest some far first keeps =
-    let here = far first keeps in
-    let w = answered_lines (AnswersAsTold told c) wrote writes before text first n rest greatest here.0 here.2 in
-    (w.0, (greatest, rest, here.0, some, w.1), w.2)
-
--- where memory runs out at a line, nothing is written for it
-pub reaches_failure : {T E : Type 0} (told : List ℕ → Option (List ℕ)) (c : Conditions) (old now : State) (wrote writes : Option (List ℕ)) (before : ℕ) (text : List ℕ) (n : ℕ) (rest : List ℕ) (greatest : Status) (r : Result T E) (failed : Bool) (Clean : Type 0) → 0 < length rest
-    → (failed ≡ false → Clean → Reaches told c old now wrote writes before text n rest greatest)
-    → OnErr r (failed ≡ false → Clean → Stops old wrote writes (AnswersPart told c before text))
-reaches_failure told c old now wrote writes before text n rest greatest (Ok x) failed Clean some far = tt
-reaches_failure told c old now wrote writes before text n rest greatest (Err e) failed Clean some far = λ sound clean. reaches_stop told c old now wrote writes before text n rest greatest some (far sound clean)

@@ -1,14 +1,15 @@
 -- How far the answers of a shell have come on any tables, of an input that tells its bytes.
 use Rattle.zeb_program.proofs.Cited.{◌≡◌, ◌<◌, ◌+◌, ◌∙◌, inr, ℕ, Bool, false, List, [], length, ap, refl, subst, ⊤, Option, Some, None, Result, Ok, Err, IfOk, IfSome, AllocError, Appends, Consumes, IsAtEnd, Keeps, IsUtf8, Appends-kept, Held, state, Ghosts, Conditions, Format, EachLine, Writes, bad_line, LineOver, first_line, after_first_line, whole_first_line, Bad, Status, greater, Answered, Misused}
+use Rattle.zeb_paths.specs.Walks.{Tells}
 use Rattle.zeb_program.proofs.AnswerLemmas.{IsAnswered, answered_all, answered_line, answered_start}
 use Rattle.zeb_program.proofs.OverLemmas.{alone as untouched}
 use Rattle.zeb_program.proofs.WholeLineLemmas.{after_whole, first_of_whole, left_after_line, line_is_text}
 
 -- bytes that aren't text are no command
-pub no_text_over : {S : Type 0} (g : Ghosts S) (told : List ℕ → Option (List ℕ)) (format : Format) (c : Conditions) (number : ℕ) (bytes : List ℕ) (old : Held S) (wrote writes : Option (List ℕ)) (status : Status)
+pub no_text_over : {S : Type 0} (g : Ghosts S) (at : Tells) (format : Format) (c : Conditions) (number : ℕ) (bytes : List ℕ) (old : Held S) (wrote writes : Option (List ℕ)) (status : Status)
     → ¬ IsUtf8 bytes → status ≡ Misused → Appends wrote writes (bad_line number) → after_first_line bytes ≡ []
-    → Writes wrote writes (λ written. LineOver g told format c number (first_line bytes) old written status old)
-no_text_over g told format c number bytes old wrote writes status other misused grew alone =
+    → Writes wrote writes (λ written. LineOver g at format c number (first_line bytes) old written status old)
+no_text_over g at format c number bytes old wrote writes status other misused grew alone =
     (bad_line number, (Bad, inr (λ text. other (line_is_text bytes alone text), refl), (refl, misused, untouched (state g old))), grew)
 
 module _ {X : Type 0} (Answers : ℕ → List ℕ → X → List ℕ → Status → X → Type 0) where

@@ -1,5 +1,8 @@
 -- The greater of two statuses.
-use Rattle.zeb_program.proofs.Cited.{◌≡◌, refl, greater, Status, Answered, Refused, Misused, Failed}
+use Rattle.std.specs.Prelude.{if◌then◌else◌}
+use Rattle.zeb_paths.specs.declared.causes.Closed.{Closed}
+use Rattle.zeb_program.specs.Statuses.{IsFaultStatus, closing_status}
+use Rattle.zeb_program.proofs.Cited.{◌≡◌, Bool, true, false, inl, inr, refl, greater, Status, Answered, Refused, Misused, Failed}
 use Rattle.std.specs.Ordering.{ord_max}
 use Rattle.zeb_program.specs.contracts.statuses.StatusOrd.TheImpl.{cmp-value}
 
@@ -21,3 +24,16 @@ max_greater Refused Answered = refl
 max_greater Misused Answered = refl
 max_greater Failed Answered = refl
 max_greater _ _ = refl
+
+-- behind a fault the status stays one of a fault
+pub fault_greater : (first : Status) (closed : Closed) → IsFaultStatus first → IsFaultStatus (greater first (closing_status closed))
+fault_greater first closed is = go first closed.is_whole is
+  where
+    go : (first : Status) (whole : Bool) → IsFaultStatus first → IsFaultStatus (greater first (if whole then Answered else Failed))
+    go Refused true is = inl refl
+    go Refused false is = inr refl
+    go Failed whole is = inr refl
+    go Answered whole (inl is) = absurd (cc is)
+    go Answered whole (inr is) = absurd (cc is)
+    go Misused whole (inl is) = absurd (cc is)
+    go Misused whole (inr is) = absurd (cc is)

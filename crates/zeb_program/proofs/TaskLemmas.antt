@@ -41,15 +41,15 @@ refused_command c order old new refusal serves before keeps = let served = serve
 -- ---- an analysis
 
 -- what is said of the answer to an analysis on any tables is said of it on those that keep what a register holds
-module _ (c : Conditions) (told : List ℕ → Option (List ℕ)) (paths files : List (List ℕ)) (known : AreTold told paths files) where
-  analysed : (answer : Result Reply Refusal) (before : Holdings) → IsAnalysisOver told c.profile c.limits.records paths answer → AnalysesFiles c files before answer before
+module _ (c : Conditions) (at : Tells) (paths files : List (List ℕ)) (known : AreTold at.bytes paths files) where
+  analysed : (answer : Result Reply Refusal) (before : Holdings) → IsAnalysisOver at c.profile c.limits.records paths answer → AnalysesFiles c files before answer before
   analysed answer before over = by over.analysed
     where
       by : IsAnalysed c.profile c.limits.records over.texts (answer_of answer) ⊎ (answer ≡ Err OutOfMemory) → AnalysesFiles c files before answer before
       by (inl is) = inl (subst (λ texts. IsAnalysed c.profile c.limits.records texts (answer_of answer)) (over.these files known) is, refl)
       by (inr is) = inr (subst (λ (it : Result Reply Refusal). IsFailure (answer_of it)) (sym is) (inr refl), refl)
 
-  pub analysed_files : (held : State) (r : Result Reply Fault) → AnalysesOver told c.profile c.limits.records paths r → AnswersFrom held held r (AnalysesFiles c files) ⊎ IsUnreadWhole told r
+  pub analysed_files : (held : State) (r : Result Reply Fault) → AnalysesOver at c.profile c.limits.records paths r → AnswersFrom held held r (AnalysesFiles c files) ⊎ IsUnreadWhole at.bytes r
   analysed_files held r (inl unread) = inr unread
   analysed_files held (Ok reply) (inr over) = inl (λ before keeps. (before, analysed (Ok reply) before over, keeps))
   analysed_files held (Err (fault.Refused refusal)) (inr over) = inl (λ before keeps. (before, analysed (Err refusal) before over, keeps))
@@ -89,7 +89,7 @@ met_read at Whole named fault.Memory not = tt
 
 -- a task that names no path
 pub asked_reaches : (at : Tells) (task : Task) (command : Command) (r : Result Reply Fault) → task ≡ Ask command → IfErr r (λ why. ¬ IsUnread why) → Reaches at (ReadsWhole task) (paths_of task) r
-asked_reaches at task command (Ok reply) is h = subst (λ t. FindsAll at (paths_of t)) (sym is) ([], [], [], refl, at_end)
+asked_reaches at task command (Ok reply) is h = subst (λ t. FindsAll at (paths_of t)) (sym is) ([], ([], [], refl, at_end))
 asked_reaches at task command (Err why) is h = met_read at (ReadsWhole task) (paths_of task) why h
 
 -- the paths that a task names

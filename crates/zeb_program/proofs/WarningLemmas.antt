@@ -1,7 +1,9 @@
 -- Records that don't say that they are in Unicode: what is left of a file.
-use Rattle.zeb_program.proofs.Cited.{◌≡◌, ◌∙◌, ℕ, ◌<◌, true, false, List, [], ◌∷◌, ◌++◌, Vec, length, refl, ap, subst, sym, arith, Option, Some, Result, Ok, Err, IfOk, is_some, Global, length-append, AnalysedLines, Gives, Next, at_end, a_slice, a_fault, next_of, split_of, ReadsWhole, IsServedFor, MayWarn, WarnsOf, unmarked_by, unmarked_in, warned_in, warning_of, Fault, Place, string_bytes}
+use Rattle.zeb_program.proofs.Cited.{◌≡◌, ◌∙◌, ◌+◌, ℕ, ◌<◌, true, false, List, [], ◌∷◌, ◌++◌, Vec, length, length-map, map, refl, ap, subst, sym, arith, Option, None, Some, Result, Ok, Err, IfOk, is_some, Global, length-append, AnalysedLines, Gives, Next, at_end, a_slice, a_fault, next_of, split_of, Directive, ReadsWhole, IsServedFor, MayWarn, WarnsOf, unmarked_by, warned_in, warning_of, records_in, Fault, Place, string_bytes}
 use Rattle.std.specs.Option.{option_map}
 use Rattle.std.specs.Result.{IsOkAnd}
+use Rattle.zeb_analysis.specs.Analysing.{Analysed, AreAnalysesOf, Standing, analysed, standing_from, standing_in, standing_in_all}
+use Rattle.zeb_analysis.specs.Lines.{AreLines}
 use Rattle.zeb_program.specs.TaskAnswers.{AreTold, paths_of}
 use Rattle.zeb_program.specs.declared.failures.Failure.{Failure}
 use Rattle.zeb_program.specs.declared.performing.Told.{Told}
@@ -35,6 +37,31 @@ pub none_at_fault : (text : List ℕ) (next : Next) (why : MarcFault) (kept : Li
 none_at_fault text (a_fault fault) why kept left is h = rw (split_of-next text, is) refl
 none_at_fault text _ why kept left is h = let no = h.0 in absurd (cc)
 
+-- ---- how many records are analysed
+
+-- those of a file, and of what stands behind it
+file_counted : (profile : List Directive) (file nth : ℕ) (slices : List (List ℕ)) (last : Option MarcFault) (others : List Standing) (behind : ℕ) (analyses : List Analysed)
+    → ((these : List Analysed) → AreAnalysesOf profile others these → length these ≡ behind)
+    → AreAnalysesOf profile (standing_from file nth slices last ++ others) analyses → length analyses ≡ length slices + behind
+file_counted profile file nth [] None others behind analyses rest are = omega (arith, rest analyses are)
+file_counted profile file nth [] (Some fault) others behind [] rest are = absurd are
+file_counted profile file nth [] (Some fault) others behind (analysis ∷ analyses) rest are = let no = are.0.stands in absurd (cc no)
+file_counted profile file nth (slice ∷ slices) last others behind [] rest are = absurd are
+file_counted profile file nth (slice ∷ slices) last others behind (analysis ∷ analyses) rest are =
+    omega (arith, file_counted profile file (nth + 1) slices last others behind analyses rest are.1)
+
+-- those of all files, of which the first has this number
+all_counted : (profile : List Directive) (file : ℕ) (texts : List (List ℕ)) (analyses : List Analysed) → AreAnalysesOf profile (standing_in_all file texts) analyses → length analyses ≡ records_in texts
+unfolding standing_in
+all_counted profile file [] [] are = refl
+all_counted profile file [] (analysis ∷ analyses) are = absurd are
+all_counted profile file (text ∷ texts) analyses are =
+    file_counted profile file 1 (split_of text).slices (split_of text).fault (standing_in_all (file + 1) texts) (records_in texts) analyses (all_counted profile (file + 1) texts) are
+
+-- lines are those of all records
+pub lines_counted : (names : List (List ℕ)) (profile : List Directive) (limit : ℕ) (texts : List (List ℕ)) (lines : AnalysedLines) → AreLines names profile limit texts lines → lines.records ≡ records_in texts
+lines_counted names profile limit texts lines are = are.counted ∙ sym (length-map are.analyses analysed) ∙ all_counted profile 1 texts (map analysed are.analyses) are.said.1
+
 -- ---- what a task warns of
 
 pub warned : (task : Task) (places : List Place) (records : ℕ) → ReadsWhole task → MayWarn task (warning_of places records)
@@ -47,19 +74,14 @@ pub shown_warned : (served : Result Served Fault) (lines : AnalysedLines) (unmar
 shown_warned served lines unmarked told places records is same count said =
     subst (λ it. IsOkAnd it (λ one. told ≡ warned_in one)) (sym is) (said ∙ ap (λ these. warning_of these records) same ∙ ap (warning_of unmarked.items) count)
 
--- what is warned of with an answer is what stands in it
-warned_of : (one : Served) (places : List Place) (warning : Option (List ℕ)) → warning ≡ warned_in one → unmarked_in one ≡ places → (records : ℕ) × (warning ≡ warning_of places records)
-warned_of (Replied reply) places warning is are = (0, is ∙ ap (λ these. warning_of these 0) are)
-warned_of (Shown lines unmarked) places warning is are = (lines.records, is ∙ ap (λ these. warning_of these lines.records) are)
-
 pub warns_of : (tells : List ℕ → Option (List ℕ)) (task : Task) (served : Result Served Fault) (result : Result Told Failure) → IfOk result (λ told. MayWarn task (option_map string_bytes told.warning))
     → IfOk result (λ told. IsOkAnd served (λ one. option_map string_bytes told.warning ≡ warned_in one))
-    → ((files : List (List ℕ)) → AreTold tells (paths_of task) files → IfOk served (λ one. unmarked_in one ≡ unmarked_by task files))
+    → ((files : List (List ℕ)) → AreTold tells (paths_of task) files → IfOk served (λ one. warned_in one ≡ warning_of (unmarked_by task files) (records_in files)))
     → IfOk result (λ told. WarnsOf tells task (option_map string_bytes told.warning))
 warns_of tells task served (Err failure) may is unmarked = tt
 warns_of tells task (Err fault) (Ok told) may is unmarked = absurd is
 warns_of tells task (Ok one) (Ok told) may is unmarked =
-    record { line = may; places = λ files known. warned_of one (unmarked_by task files) (option_map string_bytes told.warning) is (unmarked files known) }
+    record { line = may; places = λ files known. is ∙ unmarked files known }
 
 -- an analysis may be answered by lines
 pub served_whole : (task : Task) (r : Result Served Fault) → ReadsWhole task → IfOk r (IsServedFor task)

@@ -10,28 +10,29 @@ use Rattle.zeb_words.specs.declared.words.Act.TheVariants.{Batch, Shell}
 use Rattle.zeb_words.specs.declared.words.LayoutChoice.{LayoutChoice}
 use Rattle.zeb_words.specs.declared.words.Words.{Words}
 use Rattle.zeb_program.specs.Errands.{IsTaskOf, choice_of}
+use Rattle.zeb_program.specs.FixedLines.{starved_line}
 use Rattle.zeb_program.specs.Registers.{Places}
-use Rattle.zeb_program.specs.WordAnswers.{AnswersWords, misused, batched, served, named, EndsWords, NamesTask, StopsWords, stopped_task, stopped_batch, stopped_shell, TellsApart, TellsUsage}
-use Rattle.zeb_program.specs.WordRuns.{RunsBatch, RunsShell, StopsBatch, StopsShell}
+use Rattle.zeb_program.specs.WordAnswers.{AnswersWords, misused, batched, served, named, EndsWords, StopsWords, stopped_task, stopped_batch, stopped_shell, TellsApart, TellsUsage}
+use Rattle.zeb_program.specs.WordRuns.{RunsBatch, RunsShell, StopsBatch, StopsShell, StopsTask}
 use Rattle.zeb_program.proofs.StopLemmas.{StopsBatch-kept, StopsShell-kept}
-use Rattle.zeb_program.proofs.WordRunLemmas.{RunsBatch-kept, RunsShell-kept, TellsApart-kept}
+use Rattle.zeb_program.proofs.WordRunLemmas.{RunsBatch-kept, RunsShell-kept, TellsApart-kept, TellsLeft-kept}
 
 -- what is passed on stays what it was
 TellsUsage-kept : (why : Usage) (old mid new fault_old fault_mid fault_new : Option (List ℕ)) (status : Status) → Keeps mid new → Keeps fault_mid fault_new
     → TellsUsage why old mid fault_old fault_mid status → TellsUsage why old new fault_old fault_new status
-TellsUsage-kept usage.BadUsage old mid new fault_old fault_mid fault_new status kept fault_kept t =
+TellsUsage-kept (usage.BadUsage misuse) old mid new fault_old fault_mid fault_new status kept fault_kept t =
     (t.0, Keeps-trans old mid new t.1 kept, Appends-kept fault_old fault_mid fault_new _ t.2 fault_kept)
 TellsUsage-kept (usage.Refused text) old mid new fault_old fault_mid fault_new status kept fault_kept t =
     (t.0, Keeps-trans old mid new t.1 kept, Appends-kept fault_old fault_mid fault_new _ t.2 fault_kept)
 TellsUsage-kept (usage.Help text) old mid new fault_old fault_mid fault_new status kept fault_kept t =
     (t.0, Appends-kept old mid new _ t.1 kept, Keeps-trans fault_old fault_mid fault_new t.2 fault_kept)
 TellsUsage-kept usage.Memory old mid new fault_old fault_mid fault_new status kept fault_kept t =
-    (t.0, Keeps-trans old mid new t.1 kept, Keeps-trans fault_old fault_mid fault_new t.2 fault_kept)
+    (t.0, Keeps-trans old mid new t.1 kept, Appends-kept fault_old fault_mid fault_new _ t.2 fault_kept)
 
 AnswersWords-kept : {S : Type 0} (at : Places S) (words : List (List ℕ)) (given left : Option (List ℕ)) (unread : Bool) (old mid new fault_old fault_mid fault_new : Option (List ℕ)) (status : Status) → Keeps mid new → Keeps fault_mid fault_new
     → AnswersWords at words given left unread old mid fault_old fault_mid status → AnswersWords at words given left unread old new fault_old fault_new status
-AnswersWords-kept at words given left unread old mid new fault_old fault_mid fault_new status kept fault_kept (misused why none is tells) =
-    misused why none is (TellsUsage-kept why old mid new fault_old fault_mid fault_new status kept fault_kept tells)
+AnswersWords-kept at words given left unread old mid new fault_old fault_mid fault_new status kept fault_kept (misused why none is still left_whole tells) =
+    misused why none is still left_whole (TellsUsage-kept why old mid new fault_old fault_mid fault_new status kept fault_kept tells)
 AnswersWords-kept at words given left unread old mid new fault_old fault_mid fault_new status kept fault_kept (batched all names is runs) =
     batched all names is (RunsBatch-kept at all.config given unread old mid new fault_old fault_mid fault_new status kept fault_kept runs)
 AnswersWords-kept at words given left unread old mid new fault_old fault_mid fault_new status kept fault_kept (served all names is end runs) =
@@ -43,10 +44,15 @@ AnswersWords-kept at words given left unread old mid new fault_old fault_mid fau
 AnswersWords-kept at words given left unread old mid new fault_old fault_mid fault_new status kept fault_kept (named all task names is tells) =
     named all task names is (TellsApart-kept at (choice_of all.act) all.config task old mid new fault_old fault_mid fault_new status kept fault_kept tells)
 
+StopsTask-kept : {S : Type 0} (at : Places S) (choice : LayoutChoice) (config : String Global) (task : Task) (fault_old fault_mid fault_new : Option (List ℕ)) → Keeps fault_mid fault_new
+    → StopsTask at choice config task fault_old fault_mid → StopsTask at choice config task fault_old fault_new
+StopsTask-kept at choice config task fault_old fault_mid fault_new kept (inl (still, same)) = inl (still, Keeps-trans fault_old fault_mid fault_new same kept)
+StopsTask-kept at choice config task fault_old fault_mid fault_new kept (inr (why, closed, comes, left)) = inr (why, closed, comes, TellsLeft-kept fault_old fault_mid fault_new closed kept left)
+
 StopsWords-kept : {S : Type 0} (at : Places S) (words : List (List ℕ)) (given left old mid new fault_old fault_mid fault_new : Option (List ℕ)) → Keeps mid new → Keeps fault_mid fault_new
     → StopsWords at words given left old mid fault_old fault_mid → StopsWords at words given left old new fault_old fault_new
-StopsWords-kept at words given left old mid new fault_old fault_mid fault_new kept fault_kept (stopped_task task names same quiet) =
-    stopped_task task names (Keeps-trans old mid new same kept) (Keeps-trans fault_old fault_mid fault_new quiet fault_kept)
+StopsWords-kept at words given left old mid new fault_old fault_mid fault_new kept fault_kept (stopped_task all task names is stops same) =
+    stopped_task all task names is (StopsTask-kept at (choice_of all.act) all.config task fault_old fault_mid fault_new fault_kept stops) (Keeps-trans old mid new same kept)
 StopsWords-kept at words given left old mid new fault_old fault_mid fault_new kept fault_kept (stopped_batch all names is stops) =
     stopped_batch all names is (StopsBatch-kept at all.config given old mid new fault_old fault_mid fault_new kept fault_kept stops)
 StopsWords-kept at words given left old mid new fault_old fault_mid fault_new kept fault_kept (stopped_shell all names is stops) =
@@ -56,21 +62,20 @@ pub kept_words : {S : Type 0} (at : Places S) (words : List (List ℕ)) (given l
     → EndsWords at words given left unread old mid fault_old fault_mid status → EndsWords at words given left unread old new fault_old fault_new status
 kept_words at words given left unread old mid new fault_old fault_mid fault_new status kept fault_kept (inl answers) =
     inl (AnswersWords-kept at words given left unread old mid new fault_old fault_mid fault_new status kept fault_kept answers)
-kept_words at words given left unread old mid new fault_old fault_mid fault_new status kept fault_kept (inr stops) =
-    inr (StopsWords-kept at words given left old mid new fault_old fault_mid fault_new kept fault_kept stops.0, stops.1)
+kept_words at words given left unread old mid new fault_old fault_mid fault_new status kept fault_kept (inr (between, stops, tells, is)) =
+    inr (between, StopsWords-kept at words given left old mid new fault_old between between kept (Keeps-refl between) stops, Appends-kept between fault_mid fault_new starved_line tells fault_kept, is)
 
 -- both ways in which words end
-pub ended_words : {S : Type 0} (at : Places S) (words : List (List ℕ)) (given left : Option (List ℕ)) (unread : Bool) (old new fault_old fault_new : Option (List ℕ)) (failed fault_failed : Bool) (r : Result Status AllocError)
-    → IfOk r (λ status. failed ≡ false → fault_failed ≡ false → AnswersWords at words given left unread old new fault_old fault_new status)
-    → IfOk r (λ status. failed ≡ false → fault_failed ≡ false → EndsWords at words given left unread old new fault_old fault_new status)
-ended_words at words given left unread old new fault_old fault_new failed fault_failed (Err e) h = h
-ended_words at words given left unread old new fault_old fault_new failed fault_failed (Ok status) h = λ sound quiet. inl (h sound quiet)
-
-pub early_words : {S : Type 0} (at : Places S) (words : List (List ℕ)) (given left : Option (List ℕ)) (unread : Bool) (old new fault_old fault_new : Option (List ℕ)) (failed fault_failed : Bool) (r : Result Status AllocError)
-    → OnErr r (failed ≡ false → fault_failed ≡ false → StopsWords at words given left old new fault_old fault_new)
-    → OnErr r (failed ≡ false → fault_failed ≡ false → EndsWords at words given left unread old new fault_old fault_new Failed)
-early_words at words given left unread old new fault_old fault_new failed fault_failed (Ok status) h = h
-early_words at words given left unread old new fault_old fault_new failed fault_failed (Err e) h = λ sound quiet. inr (h sound quiet, refl)
+pub ended_words : {V : Type 0} {S : Type 0} (at : Places S) (words : List (List ℕ)) (given left : Option (List ℕ)) (unread : Bool) (old new fault_old : Option (List ℕ)) (contents : V → Option (List ℕ)) (mid last : V) (failed fault_failed last_failed : Bool) (status : Status) (r : Result Status AllocError)
+    → IfOk r (λ met. failed ≡ false → fault_failed ≡ false → AnswersWords at words given left unread old new fault_old (contents mid) met)
+    → OnErr r (failed ≡ false → fault_failed ≡ false → StopsWords at words given left old new fault_old (contents mid))
+    → IfOk r (λ met. (status ≡ met) × (last ≡ mid)) → OnErr r ((status ≡ Failed) × (last_failed ≡ false → Appends (contents mid) (contents last) starved_line))
+    → failed ≡ false → fault_failed ≡ false → last_failed ≡ false → EndsWords at words given left unread old new fault_old (contents last) status
+ended_words at words given left unread old new fault_old contents mid last failed fault_failed last_failed status (Ok met) answers stops same starved sound quiet still =
+    subst (λ v. EndsWords at words given left unread old new fault_old (contents v) status) (sym same.1)
+    (subst (λ s. EndsWords at words given left unread old new fault_old (contents mid) s) (sym same.0) (inl (answers sound quiet)))
+ended_words at words given left unread old new fault_old contents mid last failed fault_failed last_failed status (Err e) answers stops same starved sound quiet still =
+    inr (contents mid, stops sound quiet, starved.1 still, starved.0)
 
 -- a warning's line
 pub warned_once : (warning : Option (String Global)) (line : String Global) (bytes : List ℕ) (fault_old fault_new : Option (List ℕ)) → warning ≡ Some line → bytes ≡ string_bytes line
@@ -86,11 +91,6 @@ warned_never warning fault_old is = subst (λ w. Appends fault_old fault_old (wa
 same_kept : {S : Type 0} (contents : S → Option (List ℕ)) (old new : S) → new ≡ old → Keeps (contents old) (contents new)
 same_kept contents old new same = subst (λ s. Keeps (contents old) (contents s)) (sym same) (Keeps-refl (contents old))
 
--- memory ran out and nothing is written
-pub untouched : (r : Result Status AllocError) (P Q : Type 0) → P → OnErr r Q → OnErr r (P × Q)
-untouched (Ok status) P Q first second = tt
-untouched (Err e) P Q first second = (first, second)
-
 -- a task
 pub task_words : {S : Type 0} (at : Places S) (words : List (List ℕ)) (given left : Option (List ℕ)) (unread : Bool) (old new fault_old fault_new : Option (List ℕ)) (all : Words) (choice : LayoutChoice) (task : Task) (failed fault_failed : Bool) (r : Result Status AllocError)
     → NamesWords words all → IsTaskOf all.database all.act task → choice ≡ choice_of all.act
@@ -100,12 +100,12 @@ task_words at words given left unread old new fault_old fault_new all choice tas
 task_words at words given left unread old new fault_old fault_new all choice task failed fault_failed (Ok status) names is asks h = λ sound quiet.
     named all task names is (subst (λ c. TellsApart at c all.config task old new fault_old fault_new status) asks (h sound quiet))
 
-pub stopped_task_words : {S W V : Type 0} (at : Places S) (contents : W → Option (List ℕ)) (fault_contents : V → Option (List ℕ)) (words : List (List ℕ)) (given left : Option (List ℕ)) (old new : W) (fault_old fault_new : V) (task : Task) (failed fault_failed : Bool) (r : Result Status AllocError)
-    → NamesTask words task → OnErr r ((new ≡ old) × (fault_new ≡ fault_old))
-    → OnErr r (failed ≡ false → fault_failed ≡ false → StopsWords at words given left (contents old) (contents new) (fault_contents fault_old) (fault_contents fault_new))
-stopped_task_words at contents fault_contents words given left old new fault_old fault_new task failed fault_failed (Ok status) names h = tt
-stopped_task_words at contents fault_contents words given left old new fault_old fault_new task failed fault_failed (Err e) names h =
-    λ _ _. stopped_task task names (same_kept contents old new h.0) (same_kept fault_contents fault_old fault_new h.1)
+pub stopped_task_words : {S W : Type 0} (at : Places S) (contents : W → Option (List ℕ)) (words : List (List ℕ)) (given left : Option (List ℕ)) (old new : W) (fault_old fault_new : Option (List ℕ)) (all : Words) (choice : LayoutChoice) (task : Task) (failed fault_failed : Bool) (r : Result Status AllocError)
+    → NamesWords words all → IsTaskOf all.database all.act task → choice ≡ choice_of all.act → OnErr r ((new ≡ old) × (fault_failed ≡ false → StopsTask at choice all.config task fault_old fault_new))
+    → OnErr r (failed ≡ false → fault_failed ≡ false → StopsWords at words given left (contents old) (contents new) fault_old fault_new)
+stopped_task_words at contents words given left old new fault_old fault_new all choice task failed fault_failed (Ok status) names is asks h = tt
+stopped_task_words at contents words given left old new fault_old fault_new all choice task failed fault_failed (Err e) names is asks h =
+    λ _ quiet. stopped_task all task names is (subst (λ c. StopsTask at c all.config task fault_old fault_new) asks (h.1 quiet)) (same_kept contents old new h.0)
 
 -- a batch
 pub batch_words : {S : Type 0} (at : Places S) (words : List (List ℕ)) (given left : Option (List ℕ)) (unread : Bool) (old new fault_old fault_new : Option (List ℕ)) (all : Words) (failed fault_failed : Bool) (r : Result Status AllocError)

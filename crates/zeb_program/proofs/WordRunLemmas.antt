@@ -1,5 +1,5 @@
 -- What comes of words, from the profile that they name and the register in the store at its path.
-use Rattle.std.proofs.Common.{◌≡◌, ◌⊎◌, ℕ, Bool, true, false, List, inl, inr, refl, subst, sym}
+use Rattle.std.proofs.Common.{◌≡◌, ◌≢◌, ◌⊎◌, ℕ, Bool, true, false, List, inl, inr, refl, subst, sym}
 use Rattle.std.specs.Prelude.{Option, Some, None, Result, Ok, Err, IfOk, IfErr, IfSome, OnErr, String, codes, string_bytes}
 use Rattle.std.specs.declared.alloc.AllocError.{AllocError}
 use Rattle.std.specs.declared.alloc.Global.{Global}
@@ -20,14 +20,14 @@ use Rattle.zeb_profile.specs.Indexes.{store_path}
 use Rattle.zeb_paths.specs.Walks.{Tells}
 use Rattle.zeb_paths.specs.declared.causes.Closed.{Closed}
 use Rattle.zeb_paths.specs.declared.paths.OpenFailed.{OpenFailed}
-use Rattle.zeb_program.specs.declared.input.InputFault.{InputFault}
-use Rattle.zeb_program.specs.declared.input.InputFault.TheVariants.{Unreadable, Memory as Starved}
 use Rattle.zeb_paths.specs.declared.causes.StoreCause.{StoreCause}
 use Rattle.zeb_program.specs.declared.failures.Cause.{Cause}
 use Rattle.zeb_program.specs.declared.failures.Failure.{Failure}
 use Rattle.zeb_program.specs.declared.faults.Fault.{Fault}
 use Rattle.zeb_program.specs.declared.faults.Fault.TheVariants as fault
+use Rattle.zeb_program.specs.declared.performing.Performed.{Performed}
 use Rattle.zeb_program.specs.declared.performing.Told.{Told}
+use Rattle.zeb_program.specs.declared.performing.Unopened.{Unopened}
 use Rattle.zeb_program.specs.declared.tasks.Served.{Served}
 use Rattle.zeb_program.specs.declared.tasks.Served.TheVariants.{Replied, Shown}
 use Rattle.zeb_program.specs.declared.tasks.Task.{Task}
@@ -36,24 +36,28 @@ use Rattle.zeb_program.specs.Answers.{Writes}
 use Rattle.zeb_register.specs.Formats.{Format, packed_blocks}
 use Rattle.zeb_program.specs.Doing.{DoesTask, RunsText, ServesText}
 use Rattle.zeb_program.specs.FaultAnswers.{GivesAnswer, IsOpeningFailure, IsUnreadWhole, Reaches, unopened_refusal}
-use Rattle.zeb_program.specs.FaultLines.{TellsCaused, TellsPlaced, unclosed_lines}
-use Rattle.zeb_program.specs.Inputs.{IsInput}
+use Rattle.zeb_program.specs.FaultLines.{TellsCaused, left_lines, unclosed_lines}
 use Rattle.zeb_program.specs.Explanations.{Explains, ExplainsUnread, NamesRegister, refusal_cause}
 use Rattle.zeb_program.specs.PrivateFaults.{IsOpeningFault}
 use Rattle.zeb_program.specs.PrivateServing.{CarriesOut, StandsFor}
 use Rattle.zeb_program.specs.Serving.{AnswersFrom, ServesTask}
-use Rattle.zeb_program.specs.PrivateWordRuns.{ExplainsFailure, GivesClosed, GivesFor, IsOwnOr, OpensUnder, RunsIn, RunsOnNothing, ServesHeld, ServesIn, ServesOnNothing, TakesIn, TakesStore}
-use Rattle.zeb_program.specs.Registers.{ClosesStore, FailsOpening, shut, given_back, FromStore, IsForeignCause, IsGivenBack, IsLetGo, IsTakenOver, HasStore, LacksStore, kept, none, Places, nothing_met}
+use Rattle.zeb_program.specs.PrivateWordRuns.{ExplainsRun, GivesClosed, GivesFor, OpensUnder, RunsIn, RunsOnNothing, ServesHeld, ServesIn, ServesOnNothing, TakesIn, TakesStore}
+use Rattle.zeb_program.specs.Registers.{ClosesStore, FailsOpening, shut, given_back, FromStore, IsForeignCause, IsGivenBack, IsLetGo, IsTakenOver, HasStore, LacksStore, kept, none, Places, nothing_met, whole_but}
 use Rattle.zeb_program.specs.ScriptAnswers.{AnswersStopped, AreConditionsIn, AreScriptConditions, RunsFromNothing}
 use Rattle.zeb_program.specs.TaskAnswers.{AnswersOn, AnswersTask, ReadsWhole, paths_of}
 use Rattle.zeb_program.specs.WordAnswers.{TellsApart, WarnsClosed}
 use Rattle.zeb_program.specs.WordRuns.{IsText, Performs, ReadsAt, RunsBatch, batch_stopped, batch_ran, RunsLines, on_store, in_memory, no_memory, no_register, RunsShell, shell_stopped, shell_ran}
-use Rattle.zeb_program.specs.WordRuns.{ServesUnder, answered, starved, unopened, none_made, StopsOpening, StopsReading, not_opened, TellsWhy, WritesReply}
+use Rattle.zeb_program.specs.WordRuns.{ServesUnder, answered, unopened, none_made, IsOwnOr, StopsOpening, StopsReading, StopsTask, not_opened, WritesReply}
 use Rattle.zeb_words.specs.declared.words.LayoutChoice.{LayoutChoice}
 use Rattle.zeb_words.specs.declared.words.LayoutChoice.TheVariants.{Unsaid}
-use Rattle.zeb_program.specs.Closings.{TellsClosed}
+use Rattle.zeb_program.specs.Closings.{TellsClosed, TellsLeft}
+use Rattle.zeb_program.specs.ProfileFiles.{ReadsProfile}
+use Rattle.zeb_program.specs.Warnings.{WarnsOf}
+use Rattle.std.specs.Option.{option_map}
+use Rattle.zeb_program.specs.Unanswered.{TellsUnanswered}
+use Rattle.zeb_paths.specs.declared.paths.Asked.TheVariants.{Text}
 use Rattle.zeb_program.specs.declared.statuses.Status.{Status}
-use Rattle.zeb_program.specs.Statuses.{IsFaultStatus, closing_status}
+use Rattle.zeb_program.specs.Statuses.{closing_status}
 use Rattle.zeb_program.proofs.ScriptAnswerLemmas.{RunsFromNothing-kept, RunsText-kept, Writes-kept, silent_batch}
 use Rattle.zeb_program.proofs.ShellTextLemmas.{ServesText-kept}
 use Rattle.zeb_program.specs.Scripts.{BeginsRegister}
@@ -66,6 +70,14 @@ pub TellsClosed-kept : (old mid new : Option (List ℕ)) (closed : Closed) → K
 TellsClosed-kept old mid new closed stays t =
     (λ whole. Keeps-trans old mid new (t.0 whole) stays, λ part. Appends-kept old mid new (unclosed_lines closed.cause) (t.1 part) stays)
 
+pub TellsLeft-kept : (old mid new : Option (List ℕ)) (closed : Closed) → Keeps mid new → TellsLeft old mid closed → TellsLeft old new closed
+TellsLeft-kept old mid new closed stays t =
+    (λ whole. Keeps-trans old mid new (t.0 whole) stays, λ part. Appends-kept old mid new (left_lines closed.cause) (t.1 part) stays)
+
+pub TellsUnanswered-kept : (told : Option (List ℕ)) (config : String Global) (why : Fault) (cause : Option Cause) (closed : Closed) (old mid new : Option (List ℕ)) (status : Status) → Keeps mid new
+    → TellsUnanswered told config why cause closed old mid status → TellsUnanswered told config why cause closed old new status
+TellsUnanswered-kept told config why cause closed old mid new status stays t = (t.0, t.1, t.2, t.3, t.4, TellsLeft-kept t.1 mid new closed stays t.5)
+
 WritesReply-kept : {S : Type 0} (at : Places S) (choice : LayoutChoice) (config : String Global) (task : Task) (closed : Closed) (old mid new : Option (List ℕ)) → Keeps mid new → WritesReply at choice config task closed old mid → WritesReply at choice config task closed old new
 WritesReply-kept at choice config task closed old mid new stays w = (w.0, w.1, Appends-kept old mid new (reply_text w.0) w.2 stays)
 
@@ -73,8 +85,18 @@ pub TellsApart-kept : {S : Type 0} (at : Places S) (choice : LayoutChoice) (conf
     → TellsApart at choice config task old mid fault_old fault_mid status → TellsApart at choice config task old new fault_old fault_new status
 TellsApart-kept at choice config task old mid new fault_old fault_mid fault_new status stays fault_kept (inl (closed, is, writes, warned)) =
     inl (closed, is, WritesReply-kept at choice config task closed old mid new stays writes, (warned.0, warned.1, TellsClosed-kept warned.0 fault_mid fault_new closed fault_kept warned.2))
-TellsApart-kept at choice config task old mid new fault_old fault_mid fault_new status stays fault_kept (inr t) =
-    inr (t.0, Keeps-trans old mid new t.1 stays, Writes-kept fault_old fault_mid fault_new (TellsWhy at choice config task status) fault_kept t.2)
+TellsApart-kept at choice config task old mid new fault_old fault_mid fault_new status stays fault_kept (inr (same, (why, cause, closed, comes, explains, tells))) =
+    inr (
+      Keeps-trans old mid new same stays,
+      (
+        why,
+        cause,
+        closed,
+        comes,
+        explains,
+        TellsUnanswered-kept (at.sees.bytes (string_bytes config)) config why cause closed fault_old fault_mid fault_new status fault_kept tells,
+      ),
+    )
 
 -- what is said of a store's tables
 pub from_kept : {S : Type 0} (at : Places S) (choice : LayoutChoice) (format : Format) (profile : List Directive) (closed : Closed) (P Q : Held S → Held S → Type 0) → ((first last : Held S) → P first last → Q first last)
@@ -104,25 +126,26 @@ from_taken at choice format profile closed held last P takes clean does ends = r
   ends = ends;
 }
 
-RunsLines-kept : {S : Type 0} (at : Places S) (profile : List Directive) (text : List ℕ) (old mid new fault_old fault_mid fault_new : Option (List ℕ)) (status : Status) → Keeps mid new → Keeps fault_mid fault_new
-    → RunsLines at profile text old mid fault_old fault_mid status → RunsLines at profile text old new fault_old fault_new status
-RunsLines-kept at profile text old mid new fault_old fault_mid fault_new _ same fault_same (on_store format c here closed under may from closes) =
+RunsLines-kept : {S : Type 0} (at : Places S) (config : String Global) (profile : List Directive) (text : List ℕ) (old mid new fault_old fault_mid fault_new : Option (List ℕ)) (status : Status) → Keeps mid new → Keeps fault_mid fault_new
+    → RunsLines at config profile text old mid fault_old fault_mid status → RunsLines at config profile text old new fault_old fault_new status
+RunsLines-kept at config profile text old mid new fault_old fault_mid fault_new _ same fault_same (on_store format c here closed under may from closes) =
     on_store format c here closed under may
-    (from_kept at Unsaid format profile closed (RunsText at.store at.tells format c 0 text old mid here) (RunsText at.store at.tells format c 0 text old new here) (λ first last. RunsText-kept at.store at.tells format c 0 text old mid new here first last same) from)
+    (from_kept at Unsaid format profile closed (RunsText at.store at.sees format c 0 text old mid here) (RunsText at.store at.sees format c 0 text old new here) (λ first last. RunsText-kept at.store at.sees format c 0 text old mid new here first last same) from)
     (TellsClosed-kept fault_old fault_mid fault_new closed fault_same closes)
-RunsLines-kept at profile text old mid new fault_old fault_mid fault_new status same fault_same (in_memory lacks unmade quiet opened) =
-    in_memory lacks unmade (Keeps-trans fault_old fault_mid fault_new quiet fault_same) (RunsFromNothing-kept at.tells profile 0 text old mid new status same opened)
-RunsLines-kept at profile text old mid new fault_old fault_mid fault_new status same fault_same (no_memory {why = why} lacks unmade failure quiet tells) =
-    no_memory lacks unmade failure (Keeps-trans old mid new quiet same) (Writes-kept fault_old fault_mid fault_new (λ bytes. TellsCaused (fault.Refused why) None bytes status) fault_same tells)
-RunsLines-kept at profile text old mid new fault_old fault_mid fault_new status same fault_same (no_register {why = why} {met = met} may failure quiet tells) =
-    no_register may failure (Keeps-trans old mid new quiet same) (Writes-kept fault_old fault_mid fault_new (λ bytes. TellsCaused (fault.Refused why) (refusal_cause why met) bytes status) fault_same tells)
+RunsLines-kept at config profile text old mid new fault_old fault_mid fault_new status same fault_same (in_memory lacks unmade still quiet opened) =
+    in_memory lacks unmade still (Keeps-trans fault_old fault_mid fault_new quiet fault_same) (RunsFromNothing-kept at.tells profile 0 text old mid new status same opened)
+RunsLines-kept at config profile text old mid new fault_old fault_mid fault_new status same fault_same (no_memory {why = why} lacks unmade still failure quiet tells) =
+    no_memory lacks unmade still failure (Keeps-trans old mid new quiet same) (Writes-kept fault_old fault_mid fault_new (λ bytes. TellsCaused (fault.Refused why) None bytes status) fault_same tells)
+RunsLines-kept at config profile text old mid new fault_old fault_mid fault_new status same fault_same (no_register {why = why} {closed = closed} may failure quiet tells) =
+    no_register may failure (Keeps-trans old mid new quiet same)
+    (TellsUnanswered-kept (at.sees.bytes (string_bytes config)) config (fault.Refused why) (refusal_cause why closed.cause) closed fault_old fault_mid fault_new status fault_same tells)
 
 pub RunsBatch-kept : {S : Type 0} (at : Places S) (config : String Global) (given : Option (List ℕ)) (failed : Bool) (old mid new fault_old fault_mid fault_new : Option (List ℕ)) (status : Status) → Keeps mid new → Keeps fault_mid fault_new
     → RunsBatch at config given failed old mid fault_old fault_mid status → RunsBatch at config given failed old new fault_old fault_new status
-RunsBatch-kept at config given failed old mid new fault_old fault_mid fault_new status same fault_same (batch_stopped why cause is quiet tells) =
-    batch_stopped why cause is (Keeps-trans old mid new quiet same) (Writes-kept fault_old fault_mid fault_new (λ bytes. TellsCaused why cause bytes status) fault_same tells)
+RunsBatch-kept at config given failed old mid new fault_old fault_mid fault_new status same fault_same (batch_stopped why cause still is quiet tells) =
+    batch_stopped why cause still is (Keeps-trans old mid new quiet same) (Writes-kept fault_old fault_mid fault_new (λ bytes. TellsCaused why cause bytes status) fault_same tells)
 RunsBatch-kept at config given failed old mid new fault_old fault_mid fault_new status same fault_same (batch_ran profile text read is runs) =
-    batch_ran profile text read is (RunsLines-kept at profile text old mid new fault_old fault_mid fault_new status same fault_same runs)
+    batch_ran profile text read is (RunsLines-kept at config profile text old mid new fault_old fault_mid fault_new status same fault_same runs)
 
 -- what is said of an input that is told
 pub some_kept : (given : Option (List ℕ)) (P Q : List ℕ → Type 0) → ((text : List ℕ) → P text → Q text) → IfSome given P → IfSome given Q
@@ -131,22 +154,18 @@ some_kept (Some text) P Q so h = so text h
 
 pub RunsShell-kept : {S : Type 0} (at : Places S) (config : String Global) (given left : Option (List ℕ)) (failed : Bool) (old mid new fault_old fault_mid fault_new : Option (List ℕ)) (status : Status) → Keeps mid new → Keeps fault_mid fault_new
     → RunsShell at config given left failed old mid fault_old fault_mid status → RunsShell at config given left failed old new fault_old fault_new status
-RunsShell-kept at config given left failed old mid new fault_old fault_mid fault_new status same fault_same (shell_stopped why cause is unread quiet tells) =
-    shell_stopped why cause is unread (Keeps-trans old mid new quiet same) (Writes-kept fault_old fault_mid fault_new (λ bytes. TellsCaused why cause bytes status) fault_same tells)
+RunsShell-kept at config given left failed old mid new fault_old fault_mid fault_new status same fault_same (shell_stopped why cause closed is unread quiet tells) =
+    shell_stopped why cause closed is unread (Keeps-trans old mid new quiet same)
+    (TellsUnanswered-kept (at.sees.bytes (string_bytes config)) config why cause closed fault_old fault_mid fault_new status fault_same tells)
 RunsShell-kept at config given left failed old mid new fault_old fault_mid fault_new _ same fault_same (shell_ran profile format c between here closed read under from closes) =
     shell_ran profile format c between here closed read under
-    (from_kept at Unsaid format profile closed (λ first last. IfSome given (λ text. ServesText at.store at.tells format c text left failed old mid fault_old between here first last))
-    (λ first last. IfSome given (λ text. ServesText at.store at.tells format c text left failed old new fault_old between here first last))
-    (λ first last. some_kept given (λ text. ServesText at.store at.tells format c text left failed old mid fault_old between here first last) (λ text. ServesText at.store at.tells format c text left failed old new fault_old between here first last)
-    (λ text. ServesText-kept at.store at.tells format c text left failed old mid new fault_old between here first last same)) from)
+    (from_kept at Unsaid format profile closed (λ first last. IfSome given (λ text. ServesText at.store at.sees format c text left failed old mid fault_old between here first last))
+    (λ first last. IfSome given (λ text. ServesText at.store at.sees format c text left failed old new fault_old between here first last))
+    (λ first last. some_kept given (λ text. ServesText at.store at.sees format c text left failed old mid fault_old between here first last) (λ text. ServesText at.store at.sees format c text left failed old new fault_old between here first last)
+    (λ text. ServesText-kept at.store at.sees format c text left failed old mid new fault_old between here first last same)) from)
     (TellsClosed-kept between fault_mid fault_new closed fault_same closes)
 
 -- ---- a task
-
--- a task that has its own answer, or memory ran out in the program itself
-own_served : {S : Type 0} (at : Places S) (choice : LayoutChoice) (profile : List Directive) (task : Task) (closed : Closed) (own answer : Result Reply Fault) → IsOwnOr answer own → ServesUnder at choice profile task closed own → ServesUnder at choice profile task closed answer
-own_served at choice profile task closed own answer (inl is) serves = subst (ServesUnder at choice profile task closed) (sym is) serves
-own_served at choice profile task closed own answer (inr is) serves = subst (ServesUnder at choice profile task closed) (sym is) starved
 
 -- a task on the register in the store
 pub answered_kept : {S : Type 0} (at : Places S) (choice : LayoutChoice) (format : Format) (profile : List Directive) (task : Task) (tells : List ℕ → Option (List ℕ)) (c : Conditions) (held : Held S) (closed : Closed) (answer : Result Reply Fault)
@@ -154,8 +173,7 @@ pub answered_kept : {S : Type 0} (at : Places S) (choice : LayoutChoice) (format
     → ServesHeld at.store at.leaves tells at.sees format c task held closed answer → ServesUnder at choice profile task closed answer
 answered_kept at choice format profile task tells c held closed answer same may under takes serves =
     let s = subst (λ t. ServesHeld at.store at.leaves t at.sees format c task held closed answer) same serves in
-    own_served at choice profile task closed s.own answer s.is
-    (answered format c under (kept may (from_taken at choice format profile closed held s.last (DoesTask at.store at.tells at.sees format c task s.own) takes s.clean s.does s.ends)))
+    answered s.own s.is format c under (kept may (from_taken at choice format profile closed held s.last (DoesTask at.store at.tells at.sees format c task s.own) takes s.clean s.does s.ends))
 
 -- carried out in a session, which is then closed
 pub served_held : {S : Type 0} (g : Ghosts S) (leaves : Closed → S → Type 0) (tells : List ℕ → Option (List ℕ)) (at : Tells) (format : Format) (c : Conditions) (task : Task) (held last : Held S) (closed : Closed) (own answer : Result Reply Fault)
@@ -175,17 +193,20 @@ pub gives_for : (r : Result Told Failure) (P Q : Result Reply Fault → Type 0) 
 gives_for (Ok told) P Q so h = (h.0, h.1, so (Ok h.0) h.2)
 gives_for (Err failure) P Q so h = so (Err failure.fault) h
 
--- by how the register is closed
-pub gives_closed : (r : Result Told Failure) (P Q : Closed → Result Reply Fault → Type 0) (Why : Option StoreCause → Failure → Type 0) → ((closed : Closed) (answer : Result Reply Fault) → P closed answer → Q closed answer)
-    → GivesClosed r P Why → GivesClosed r Q Why
-gives_closed (Ok told) P Q Why so h = (h.0, h.1, so told.closed (Ok h.0) h.2)
-gives_closed (Err failure) P Q Why so h = (h.0, so h.0 (Err failure.fault) h.1, h.2)
+-- a failure, by another reason
+pub why_for : {A : Type 0} (r : Result A Failure) (P Q : Failure → Type 0) → ((failure : Failure) → P failure → Q failure) → IfErr r P → IfErr r Q
+why_for (Ok told) P Q so h = tt
+why_for (Err failure) P Q so h = so failure h
 
--- where it is closed so
-pub closes_for : (r : Result Told Failure) (closed : Closed) (P : Result Reply Fault → Type 0) (Q : Closed → Result Reply Fault → Type 0) (Why : Option StoreCause → Failure → Type 0) → IfOk r (λ told. told.closed ≡ closed)
-    → IfErr r (Why closed.cause) → ((answer : Result Reply Fault) → P answer → Q closed answer) → GivesFor r P → GivesClosed r Q Why
-closes_for (Ok told) closed P Q Why is why so h = (h.0, h.1, subst (λ it. Q it (Ok h.0)) (sym is) (so (Ok h.0) h.2))
-closes_for (Err failure) closed P Q Why is why so h = (closed, so (Err failure.fault) h, why)
+-- by how the register is closed
+pub gives_closed : (r : Performed) (P Q : Closed → Result Reply Fault → Type 0) (Why Then : Option StoreCause → Failure → Type 0) → ((closed : Closed) (answer : Result Reply Fault) → P closed answer → Q closed answer)
+    → ((met : Option StoreCause) (failure : Failure) → Why met failure → Then met failure) → GivesClosed r P Why → GivesClosed r Q Then
+gives_closed r P Q Why Then so then h = (gives_for r.told (P r.closed) (Q r.closed) (so r.closed) h.0, why_for r.told (Why r.closed.cause) (Then r.closed.cause) (then r.closed.cause) h.1)
+
+-- where no store was opened
+pub without_store : (P : Closed → Result Reply Fault → Type 0) (Why : Option StoreCause → Failure → Type 0) (r : Performed) (told : Result Told Failure) → r.told ≡ told → r.closed ≡ nothing_met → GivesFor told (P nothing_met) → IfErr told (Why None) → GivesClosed r P Why
+without_store P Why r told is closed gives why =
+    subst (λ it. GivesFor r.told (P it) × IfErr r.told (Why it.cause)) (sym closed) (subst (λ it. GivesFor it (P nothing_met) × IfErr it (Why None)) (sym is) (gives, why))
 
 -- what is so where a command begins a register
 pub begun_or : (A B : Type 0) (begins : Bool) → A ⊎ (begins ≡ true) → (begins ≡ true → B) → A ⊎ B
@@ -193,23 +214,20 @@ begun_or A B begins (inl a) so = inl a
 begun_or A B begins (inr is) so = inr (so is)
 
 -- a register wasn't opened
-pub unopened_register : {S : Type 0} (at : Places S) (choice : LayoutChoice) (profile : List Directive) (task : Task) (r : Result Told Failure) (failure : Failure) → HasStore at profile ⊎ (task ≡ Ask Init) → r ≡ Err failure → IsOpeningFault at profile failure.fault failure.cause
-    → GivesClosed r (ServesUnder at choice profile task) (ExplainsFailure at.sees at.explains (paths_of task))
-unopened_register at choice profile task r failure may is fails =
-    subst (λ it. GivesClosed it (ServesUnder at choice profile task) (ExplainsFailure at.sees at.explains (paths_of task))) (sym is) (go failure.fault failure.cause fails)
-  where
-    go : (why : Fault) (cause : Option Cause) → IsOpeningFault at profile why cause
-        → (closed : Closed) × ServesUnder at choice profile task closed (Err why) × Explains at.sees at.explains (paths_of task) closed.cause why cause
-    go (fault.Refused why) cause (met, failing, told) = (record { is_whole = true; cause = met }, unopened may failing, opening_explained at.sees at.explains (paths_of task) met why cause told (fails_so at profile why met failing))
-    go (fault.Profile file why) cause is = absurd is
-    go (fault.Unreadable path) cause is = absurd is
-    go fault.Memory cause is = absurd is
+pub unopened_register : {S : Type 0} (at : Places S) (choice : LayoutChoice) (profile : List Directive) (task : Task) (why : Fault) (cause : Option Cause) (closed : Closed) → HasStore at profile ⊎ (task ≡ Ask Init) → IsOpeningFault at profile why cause closed
+    → ServesUnder at choice profile task closed (Err why) × Explains at.sees at.explains (paths_of task) closed.cause why cause
+unopened_register at choice profile task (fault.Refused why) cause closed may (failing, told) =
+    (unopened may failing, opening_explained at.sees at.explains (paths_of task) closed.cause why cause told (fails_so at profile why closed failing))
+unopened_register at choice profile task (fault.Profile file why) cause closed may is = absurd is
+unopened_register at choice profile task (fault.Unreadable path) cause closed may is = absurd is
+unopened_register at choice profile task fault.Memory cause closed may is = absurd is
 
 -- a task on nothing, where no store stands
-pub on_nothing : {S : Type 0} (at : Places S) (choice : LayoutChoice) (profile : List Directive) (task : Task) (tells : List ℕ → Option (List ℕ)) (answer : Result Reply Fault) → tells ≡ at.tells → LacksStore at profile → ¬ (task ≡ Ask Init)
+pub on_nothing : {S : Type 0} (at : Places S) (choice : LayoutChoice) (profile : List Directive) (task : Task) (tells : List ℕ → Option (List ℕ)) (answer : Result Reply Fault) → tells ≡ at.tells → LacksStore at profile → ¬ (task ≡ Ask Init) → at.untouched
     → ServesOnNothing tells at.sees profile task answer → ServesUnder at choice profile task nothing_met answer
-on_nothing at choice profile task tells answer same lacks other (inl h) = answered packed_blocks h.0 h.1 (none refl lacks other refl (h.2, subst (λ t. AnswersOn t h.0 task answer nothing_yet) same h.3))
-on_nothing at choice profile task tells answer same lacks other (inr h) = subst (ServesUnder at choice profile task nothing_met) (sym h.2) (none_made lacks other h.1 refl)
+on_nothing at choice profile task tells answer same lacks other still (inl (own, is, c, under, reaches, answers)) =
+    answered own is packed_blocks c under (none refl lacks other still refl (reaches, subst (λ t. AnswersOn t c task own nothing_yet) same answers))
+on_nothing at choice profile task tells answer same lacks other still (inr (why, failure, is)) = subst (ServesUnder at choice profile task nothing_met) (sym is) (none_made lacks other still failure refl)
 
 -- what is answered on what a connection keeps is the answer on it
 given_answer : (r : Result Reply Fault) (P Q : Result Reply Refusal → Type 0) → ((answer : Result Reply Refusal) → P answer → Q answer) → GivesAnswer P r → GivesAnswer Q r
@@ -232,57 +250,80 @@ served_on told c task held last r before serves keeps files known = go (serves f
 pub served_nothing : (tells : List ℕ → Option (List ℕ)) (at : Tells) (profile : List Directive) (task : Task) (c : Conditions) (held last : State) (own answer : Result Reply Fault)
     → AreScriptConditions profile c → Holding held nothing_yet → ServesTask tells c task held last own → Reaches at (ReadsWhole task) (paths_of task) own
     → IsOwnOr answer own → ServesOnNothing tells at profile task answer
-served_nothing tells at profile task c held last own answer under keeps serves named (inl is) =
-    subst (ServesOnNothing tells at profile task) (sym is) (inl (c, under, named, served_on tells c task held last own nothing_yet serves keeps))
-served_nothing tells at profile task c held last own answer under keeps serves named (inr is) =
-    subst (ServesOnNothing tells at profile task) (sym is) (inl (c, under, tt, λ files known. inl tt))
+served_nothing tells at profile task c held last own answer under keeps serves named is =
+    inl (own, is, c, under, named, served_on tells c task held last own nothing_yet serves keeps)
 
 -- ---- what is told of a task
 
 -- of one that is answered
-pub told_done : {S : Type 0} (at : Places S) (choice : LayoutChoice) (config : String Global) (task : Task) (old new fault_old fault_new : Option (List ℕ)) (status : Status) (told : Told) (Why : Option StoreCause → Failure → Type 0)
-    → GivesClosed (Ok told) (Performs at choice config task) Why → status ≡ closing_status told.closed → Appends old new told.text.items → WarnsClosed at.tells task told.closed fault_old fault_new
+pub told_done : {S : Type 0} (at : Places S) (choice : LayoutChoice) (config : String Global) (task : Task) (old new fault_old fault_new : Option (List ℕ)) (status : Status) (r : Performed) (told : Told) (Why : Option StoreCause → Failure → Type 0)
+    → r.told ≡ Ok told → GivesClosed r (Performs at choice config task) Why → status ≡ closing_status r.closed → Appends old new told.text.items → WarnsClosed at.tells task r.closed fault_old fault_new
     → TellsApart at choice config task old new fault_old fault_new status
-told_done at choice config task old new fault_old fault_new status told Why gives closing wrote warns =
-    inl (told.closed, closing, (gives.0, gives.2, subst (Appends old new) gives.1 wrote), warns)
+told_done at choice config task old new fault_old fault_new status r told Why is gives closing wrote warns =
+    let comes = subst (λ it. GivesFor it (Performs at choice config task r.closed)) is gives.0 in
+    inl (r.closed, closing, (comes.0, comes.2, subst (Appends old new) comes.1 wrote), warns)
+
+-- it warns as is said of what is told
+pub told_warns : (tells : List ℕ → Option (List ℕ)) (task : Task) (r : Result Told Failure) (told : Told) → r ≡ Ok told → IfOk r (λ it. WarnsOf tells task (option_map string_bytes it.warning)) → WarnsOf tells task (option_map string_bytes told.warning)
+told_warns tells task r told is warns = subst (λ it. IfOk it (λ that. WarnsOf tells task (option_map string_bytes that.warning))) is warns
 
 -- the path of the register in the profile at a path of the same bytes
+renamed : (told : Option (List ℕ)) (config named : String Global) (why : Fault) → why ≢ fault.Memory → ReadsProfile told named (Err why) → (other : Fault) × (other ≢ fault.Memory) × ReadsProfile told config (Err other)
+renamed told config named (fault.Profile file why) other read = (fault.Profile config why, λ same. (let bad : fault.Profile config why ≡ fault.Memory = same in cc), (refl, read.1, read.2, read.3))
+renamed told config named (fault.Unreadable file) other read = (fault.Unreadable config, λ same. (let bad : fault.Unreadable config ≡ fault.Memory = same in cc), (refl, read.1))
+renamed told config named (fault.Refused why) other read = absurd read
+renamed told config named fault.Memory other read = absurd (other refl)
+
 named_so : (tells : List ℕ → Option (List ℕ)) (config named : String Global) (why : Fault) (register : Option (String Global)) → string_bytes named ≡ string_bytes config → NamesRegister (tells (string_bytes named)) named why register
     → NamesRegister (tells (string_bytes config)) config why register
-named_so tells config named why None same names = tt
+named_so tells config named why None same names = λ is.
+    let n = names is in
+    renamed (tells (string_bytes config)) config named n.0 n.1 (subst (λ bytes. ReadsProfile (tells bytes) named (Err n.0)) same n.2)
 named_so tells config named why (Some path) same names = subst (λ bytes. NamesRegister (tells bytes) config why (Some path)) same names
 
+pub unanswered_so : (tells : List ℕ → Option (List ℕ)) (config named : String Global) (why : Fault) (cause : Option Cause) (closed : Closed) (old new : Option (List ℕ)) (status : Status) → string_bytes named ≡ string_bytes config
+    → TellsUnanswered (tells (string_bytes named)) named why cause closed old new status → TellsUnanswered (tells (string_bytes config)) config why cause closed old new status
+unanswered_so tells config named why cause closed old new status same t =
+    (t.0, t.1, t.2, t.3, (t.4.0, (t.4.1.0, named_so tells config named why t.4.1.0 same t.4.1.1, t.4.1.2), t.4.2), t.5)
+
 -- of one that has no answer
-pub told_why : {S : Type 0} (at : Places S) (choice : LayoutChoice) (config named : String Global) (task : Task) (old fault_old fault_new : Option (List ℕ)) (failure : Failure) (failed fault_failed : Bool) (r : Result Status AllocError)
-    → string_bytes named ≡ string_bytes config → GivesClosed (Err failure) (Performs at choice config task) (ExplainsFailure at.sees at.explains (paths_of task)) → IfOk r IsFaultStatus
-    → IfOk r (λ status. fault_failed ≡ false → Writes fault_old fault_new (λ bytes. (register : Option (String Global)) × NamesRegister (at.sees.bytes (string_bytes named)) named failure.fault register
-    × TellsPlaced failure.fault failure.cause register bytes status))
-    → IfOk r (λ status. failed ≡ false → fault_failed ≡ false → TellsApart at choice config task old old fault_old fault_new status)
-told_why at choice config named task old fault_old fault_new failure failed fault_failed (Err e) same comes is tells = tt
-told_why at choice config named task old fault_old fault_new failure failed fault_failed (Ok status) same comes is tells = λ _ sound.
-    let wrote = tells sound in
-    let names = named_so at.sees.bytes config named failure.fault wrote.1.0 same wrote.1.1 in
-    inr (is, Keeps-refl old, (wrote.0, (failure.fault, failure.cause, comes.0, comes.1, comes.2, (wrote.1.0, names, wrote.1.2)), wrote.2))
+pub told_why : {S : Type 0} (at : Places S) (choice : LayoutChoice) (config named : String Global) (task : Task) (old fault_old fault_new : Option (List ℕ)) (r : Performed) (failure : Failure) (failed fault_failed : Bool) (ended : Result Status AllocError)
+    → r.told ≡ Err failure → string_bytes named ≡ string_bytes config → GivesClosed r (Performs at choice config task) (ExplainsRun at config task)
+    → IfOk ended (λ status. fault_failed ≡ false → TellsUnanswered (at.sees.bytes (string_bytes named)) named failure.fault failure.cause r.closed fault_old fault_new status)
+    → IfOk ended (λ status. failed ≡ false → fault_failed ≡ false → TellsApart at choice config task old old fault_old fault_new status)
+told_why at choice config named task old fault_old fault_new r failure failed fault_failed (Err e) is same gives tells = tt
+told_why at choice config named task old fault_old fault_new r failure failed fault_failed (Ok status) is same gives tells = λ _ sound.
+    let comes = subst (λ it. GivesFor it (Performs at choice config task r.closed)) is gives.0 in
+    let why = subst (λ it. IfErr it (ExplainsRun at config task r.closed.cause)) is gives.1 in
+    inr (Keeps-refl old, (failure.fault, failure.cause, r.closed, comes, why, unanswered_so at.sees.bytes config named failure.fault failure.cause r.closed fault_old fault_new status same (tells sound)))
+
+-- or for whose lines memory ran out
+pub stopped_told : {S : Type 0} (at : Places S) (choice : LayoutChoice) (config : String Global) (task : Task) (fault_old fault_new : Option (List ℕ)) (r : Performed) (failure : Failure) (fault_failed : Bool) (Same : Type 0) (ended : Result Status AllocError)
+    → r.told ≡ Err failure → Same → GivesClosed r (Performs at choice config task) (ExplainsRun at config task)
+    → OnErr ended (fault_failed ≡ false → TellsLeft fault_old fault_new r.closed) → OnErr ended (Same × (fault_failed ≡ false → StopsTask at choice config task fault_old fault_new))
+stopped_told at choice config task fault_old fault_new r failure fault_failed Same (Ok status) is same gives left = tt
+stopped_told at choice config task fault_old fault_new r failure fault_failed Same (Err e) is same gives left =
+    (same, λ sound. inr (failure.fault, r.closed, subst (λ it. GivesFor it (Performs at choice config task r.closed)) is gives.0, left sound))
 
 -- ---- the lines of the input
 
 -- the lines of a batch on the register in the store
-pub lines_kept : {S : Type 0} (at : Places S) (format : Format) (profile : List Directive) (text : List ℕ) (tells : List ℕ → Option (List ℕ)) (c : Conditions) (held : Held S) (n : ℕ) (old new fault_old fault_new : Option (List ℕ)) (status : Status)
-    → n ≡ 0 → tells ≡ at.tells → HasStore at profile ⊎ BeginsRegister text → AreConditionsIn format profile c → TakesIn at Unsaid format profile held
-    → RunsIn at.store at.leaves tells format c n text held old new fault_old fault_new status → RunsLines at profile text old new fault_old fault_new status
-lines_kept at format profile text tells c held n old new fault_old fault_new status first same may under takes runs =
-    let r = subst (λ t. RunsIn at.store at.leaves t format c 0 text held old new fault_old fault_new status) same (subst (λ k. RunsIn at.store at.leaves tells format c k text held old new fault_old fault_new status) first runs) in
+pub lines_kept : {S : Type 0} (at : Places S) (config : String Global) (format : Format) (profile : List Directive) (text : List ℕ) (c : Conditions) (held : Held S) (n : ℕ) (old new fault_old fault_new : Option (List ℕ)) (status : Status)
+    → n ≡ 0 → HasStore at profile ⊎ BeginsRegister text → AreConditionsIn format profile c → TakesIn at Unsaid format profile held
+    → RunsIn at.store at.leaves at.sees format c n text held old new fault_old fault_new status → RunsLines at config profile text old new fault_old fault_new status
+lines_kept at config format profile text c held n old new fault_old fault_new status first may under takes runs =
+    let r = subst (λ k. RunsIn at.store at.leaves at.sees format c k text held old new fault_old fault_new status) first runs in
     let whole = r.3 in
-    subst (RunsLines at profile text old new fault_old fault_new) (sym r.2)
-    (on_store format c r.0 r.1 under may (from_taken at Unsaid format profile r.1 held whole.last (RunsText at.store at.tells format c 0 text old new r.0) takes whole.clean whole.lines whole.ends) whole.closes)
+    subst (RunsLines at config profile text old new fault_old fault_new) (sym r.2)
+    (on_store format c r.0 r.1 under may (from_taken at Unsaid format profile r.1 held whole.last (RunsText at.store at.sees format c 0 text old new r.0) takes whole.clean whole.lines whole.ends) whole.closes)
 
-pub run_kept : {S : Type 0} (at : Places S) (format : Format) (profile : List Directive) (text : List ℕ) (tells : List ℕ → Option (List ℕ)) (c : Conditions) (held : Held S) (n : ℕ) (old new fault_old fault_new : Option (List ℕ)) (failed fault_failed : Bool) (r : Result Status AllocError)
-    → n ≡ 0 → tells ≡ at.tells → HasStore at profile ⊎ BeginsRegister text → AreConditionsIn format profile c → TakesIn at Unsaid format profile held
-    → IfOk r (λ status. failed ≡ false → fault_failed ≡ false → RunsIn at.store at.leaves tells format c n text held old new fault_old fault_new status)
-    → IfOk r (λ status. failed ≡ false → fault_failed ≡ false → RunsLines at profile text old new fault_old fault_new status)
-run_kept at format profile text tells c held n old new fault_old fault_new failed fault_failed (Err e) first same may under takes runs = tt
-run_kept at format profile text tells c held n old new fault_old fault_new failed fault_failed (Ok status) first same may under takes runs = λ sound quiet.
-    lines_kept at format profile text tells c held n old new fault_old fault_new status first same may under takes (runs sound quiet)
+pub run_kept : {S : Type 0} (at : Places S) (config : String Global) (format : Format) (profile : List Directive) (text : List ℕ) (c : Conditions) (held : Held S) (n : ℕ) (old new fault_old fault_new : Option (List ℕ)) (failed fault_failed : Bool) (r : Result Status AllocError)
+    → n ≡ 0 → HasStore at profile ⊎ BeginsRegister text → AreConditionsIn format profile c → TakesIn at Unsaid format profile held
+    → IfOk r (λ status. failed ≡ false → fault_failed ≡ false → RunsIn at.store at.leaves at.sees format c n text held old new fault_old fault_new status)
+    → IfOk r (λ status. failed ≡ false → fault_failed ≡ false → RunsLines at config profile text old new fault_old fault_new status)
+run_kept at config format profile text c held n old new fault_old fault_new failed fault_failed (Err e) first may under takes runs = tt
+run_kept at config format profile text c held n old new fault_old fault_new failed fault_failed (Ok status) first may under takes runs = λ sound quiet.
+    lines_kept at config format profile text c held n old new fault_old fault_new status first may under takes (runs sound quiet)
 
 -- on one in memory
 pub ran_on_nothing : (tells : List ℕ → Option (List ℕ)) (profile : List Directive) (n : ℕ) (text : List ℕ) (old new fault_old : Option (List ℕ)) (failed fault_failed : Bool) (r : Result Status AllocError)
@@ -306,76 +347,88 @@ pub stopped_on_nothing : (tells : List ℕ → Option (List ℕ)) (profile : Lis
 stopped_on_nothing tells profile n text old failed (Ok status) = tt
 stopped_on_nothing tells profile n text old failed (Err e) = λ _. silent_batch tells profile n text old
 
-nothing_run : {S : Type 0} (at : Places S) (profile : List Directive) (text : List ℕ) (old new fault_old fault_new : Option (List ℕ)) (status : Status) → LacksStore at profile → ¬ BeginsRegister text
-    → RunsOnNothing at.tells profile 0 text old new fault_old fault_new status → RunsLines at profile text old new fault_old fault_new status
-nothing_run at profile text old new fault_old fault_new status lacks unmade (inl ran) = in_memory lacks unmade ran.1 ran.0
-nothing_run at profile text old new fault_old fault_new status lacks unmade (inr (why, is, same, told)) = no_memory lacks unmade is same told
+nothing_run : {S : Type 0} (at : Places S) (config : String Global) (profile : List Directive) (text : List ℕ) (old new fault_old fault_new : Option (List ℕ)) (status : Status) → LacksStore at profile → ¬ BeginsRegister text → at.untouched
+    → RunsOnNothing at.tells profile 0 text old new fault_old fault_new status → RunsLines at config profile text old new fault_old fault_new status
+nothing_run at config profile text old new fault_old fault_new status lacks unmade still (inl ran) = in_memory lacks unmade still ran.1 ran.0
+nothing_run at config profile text old new fault_old fault_new status lacks unmade still (inr (why, is, same, told)) = no_memory lacks unmade still is same told
 
-pub run_none : {S : Type 0} (at : Places S) (profile : List Directive) (text : List ℕ) (n : ℕ) (old new fault_old fault_new : Option (List ℕ)) (failed fault_failed : Bool) (r : Result Status AllocError)
-    → n ≡ 0 → LacksStore at profile → ¬ BeginsRegister text → IfOk r (λ status. failed ≡ false → fault_failed ≡ false → RunsOnNothing at.tells profile n text old new fault_old fault_new status)
-    → IfOk r (λ status. failed ≡ false → fault_failed ≡ false → RunsLines at profile text old new fault_old fault_new status)
-run_none at profile text n old new fault_old fault_new failed fault_failed (Err e) first lacks unmade runs = tt
-run_none at profile text n old new fault_old fault_new failed fault_failed (Ok status) first lacks unmade runs = λ sound quiet.
-    nothing_run at profile text old new fault_old fault_new status lacks unmade (subst (λ k. RunsOnNothing at.tells profile k text old new fault_old fault_new status) first (runs sound quiet))
+pub run_none : {S : Type 0} (at : Places S) (config : String Global) (profile : List Directive) (text : List ℕ) (n : ℕ) (old new fault_old fault_new : Option (List ℕ)) (failed fault_failed : Bool) (r : Result Status AllocError)
+    → n ≡ 0 → LacksStore at profile → ¬ BeginsRegister text → at.untouched → IfOk r (λ status. failed ≡ false → fault_failed ≡ false → RunsOnNothing at.tells profile n text old new fault_old fault_new status)
+    → IfOk r (λ status. failed ≡ false → fault_failed ≡ false → RunsLines at config profile text old new fault_old fault_new status)
+run_none at config profile text n old new fault_old fault_new failed fault_failed (Err e) first lacks unmade still runs = tt
+run_none at config profile text n old new fault_old fault_new failed fault_failed (Ok status) first lacks unmade still runs = λ sound quiet.
+    nothing_run at config profile text old new fault_old fault_new status lacks unmade still (subst (λ k. RunsOnNothing at.tells profile k text old new fault_old fault_new status) first (runs sound quiet))
 
 -- or none is opened
-pub run_unopened : {S : Type 0} (at : Places S) (profile : List Directive) (text : List ℕ) (old fault_old fault_new : Option (List ℕ)) (why : Fault) (cause : Option Cause) (failed fault_failed : Bool) (r : Result Status AllocError)
-    → HasStore at profile ⊎ BeginsRegister text → IsOpeningFault at profile why cause → IfOk r (λ status. fault_failed ≡ false → Writes fault_old fault_new (λ bytes. TellsCaused why cause bytes status))
-    → IfOk r (λ status. failed ≡ false → fault_failed ≡ false → RunsLines at profile text old old fault_old fault_new status)
-run_unopened at profile text old fault_old fault_new why cause failed fault_failed (Err e) may is tells = tt
-run_unopened at profile text old fault_old fault_new (fault.Refused why) cause failed fault_failed (Ok status) may (met, fails, is) tells = λ _ sound.
-    no_register may fails (Keeps-refl old) (subst (λ it. Writes fault_old fault_new (λ bytes. TellsCaused (fault.Refused why) it bytes status)) is (tells sound))
-run_unopened at profile text old fault_old fault_new (fault.Profile file why) cause failed fault_failed (Ok status) may is tells = absurd is
-run_unopened at profile text old fault_old fault_new (fault.Unreadable path) cause failed fault_failed (Ok status) may is tells = absurd is
-run_unopened at profile text old fault_old fault_new fault.Memory cause failed fault_failed (Ok status) may is tells = absurd is
+pub run_unopened : {S : Type 0} (at : Places S) (config : String Global) (profile : List Directive) (text : List ℕ) (old fault_old fault_new : Option (List ℕ)) (why : Fault) (cause : Option Cause) (closed : Closed) (failed fault_failed : Bool) (r : Result Status AllocError)
+    → HasStore at profile ⊎ BeginsRegister text → IsOpeningFault at profile why cause closed
+    → IfOk r (λ status. fault_failed ≡ false → TellsUnanswered (at.sees.bytes (string_bytes config)) config why cause closed fault_old fault_new status)
+    → IfOk r (λ status. failed ≡ false → fault_failed ≡ false → RunsLines at config profile text old old fault_old fault_new status)
+run_unopened at config profile text old fault_old fault_new why cause closed failed fault_failed (Err e) may is tells = tt
+run_unopened at config profile text old fault_old fault_new (fault.Refused why) cause closed failed fault_failed (Ok status) may (fails, is) tells = λ _ sound.
+    no_register may fails (Keeps-refl old) (subst (λ it. TellsUnanswered (at.sees.bytes (string_bytes config)) config (fault.Refused why) it closed fault_old fault_new status) is (tells sound))
+run_unopened at config profile text old fault_old fault_new (fault.Profile file why) cause closed failed fault_failed (Ok status) may is tells = absurd is
+run_unopened at config profile text old fault_old fault_new (fault.Unreadable path) cause closed failed fault_failed (Ok status) may is tells = absurd is
+run_unopened at config profile text old fault_old fault_new fault.Memory cause closed failed fault_failed (Ok status) may is tells = absurd is
+
+-- by the profile in a file of a path with the same bytes
+lines_named : {S : Type 0} (at : Places S) (config named : String Global) (profile : List Directive) (text : List ℕ) (old new fault_old fault_new : Option (List ℕ)) (status : Status) → string_bytes named ≡ string_bytes config
+    → RunsLines at named profile text old new fault_old fault_new status → RunsLines at config profile text old new fault_old fault_new status
+lines_named at config named profile text old new fault_old fault_new _ same (on_store format c here closed under may from closes) = on_store format c here closed under may from closes
+lines_named at config named profile text old new fault_old fault_new status same (in_memory lacks unmade still quiet opened) = in_memory lacks unmade still quiet opened
+lines_named at config named profile text old new fault_old fault_new status same (no_memory lacks unmade still failure quiet tells) = no_memory lacks unmade still failure quiet tells
+lines_named at config named profile text old new fault_old fault_new status same (no_register {why = why} {closed = closed} may failure quiet tells) =
+    no_register may failure quiet (unanswered_so at.sees.bytes config named (fault.Refused why) (refusal_cause why closed.cause) closed fault_old fault_new status same tells)
 
 -- a batch that isn't run
 pub batch_refused : {S : Type 0} (at : Places S) (config : String Global) (given : Option (List ℕ)) (read_failed : Bool) (old fault_old fault_new : Option (List ℕ)) (why : Fault) (cause : Option Cause) (failed fault_failed : Bool) (r : Result Status AllocError)
-    → StopsReading at config given read_failed why cause → IfOk r (λ status. fault_failed ≡ false → Writes fault_old fault_new (λ bytes. TellsCaused why cause bytes status))
+    → at.untouched → StopsReading at config given read_failed why cause → IfOk r (λ status. fault_failed ≡ false → Writes fault_old fault_new (λ bytes. TellsCaused why cause bytes status))
     → IfOk r (λ status. failed ≡ false → fault_failed ≡ false → RunsBatch at config given read_failed old old fault_old fault_new status)
-batch_refused at config given read_failed old fault_old fault_new why cause failed fault_failed (Err e) is tells = tt
-batch_refused at config given read_failed old fault_old fault_new why cause failed fault_failed (Ok status) is tells = λ _ sound. batch_stopped why cause is (Keeps-refl old) (tells sound)
+batch_refused at config given read_failed old fault_old fault_new why cause failed fault_failed (Err e) still is tells = tt
+batch_refused at config given read_failed old fault_old fault_new why cause failed fault_failed (Ok status) still is tells = λ _ sound. batch_stopped why cause still is (Keeps-refl old) (tells sound)
 
 -- and one that is
-pub batch_run : {S : Type 0} (at : Places S) (config : String Global) (given : Option (List ℕ)) (read_failed : Bool) (profile : List Directive) (text : List ℕ) (old new fault_old fault_new : Option (List ℕ)) (failed fault_failed : Bool) (r : Result Status AllocError)
-    → ReadsAt at config (Ok profile) → IsText given text → IfOk r (λ status. failed ≡ false → fault_failed ≡ false → RunsLines at profile text old new fault_old fault_new status)
+pub batch_run : {S : Type 0} (at : Places S) (config named : String Global) (given : Option (List ℕ)) (read_failed : Bool) (profile : List Directive) (text : List ℕ) (old new fault_old fault_new : Option (List ℕ)) (failed fault_failed : Bool) (r : Result Status AllocError)
+    → string_bytes named ≡ string_bytes config → ReadsAt at config (Ok profile) → IsText given text → IfOk r (λ status. failed ≡ false → fault_failed ≡ false → RunsLines at named profile text old new fault_old fault_new status)
     → IfOk r (λ status. failed ≡ false → fault_failed ≡ false → RunsBatch at config given read_failed old new fault_old fault_new status)
-batch_run at config given read_failed profile text old new fault_old fault_new failed fault_failed (Err e) read is runs = tt
-batch_run at config given read_failed profile text old new fault_old fault_new failed fault_failed (Ok status) read is runs = λ sound quiet. batch_ran profile text read is (runs sound quiet)
+batch_run at config named given read_failed profile text old new fault_old fault_new failed fault_failed (Err e) same read is runs = tt
+batch_run at config named given read_failed profile text old new fault_old fault_new failed fault_failed (Ok status) same read is runs = λ sound quiet.
+    batch_ran profile text read is (lines_named at config named profile text old new fault_old fault_new status same (runs sound quiet))
 
 -- ---- a shell
 
 -- no register is opened for it
-pub stops_opening : {S : Type 0} (at : Places S) (config : String Global) (profile : List Directive) (why : Fault) (cause : Option Cause) → ReadsAt at config (Ok profile) → IsOpeningFault at profile why cause → StopsOpening at config why cause
-stops_opening at config profile (fault.Refused why) cause read (met, fails, is) = not_opened met profile read fails is
-stops_opening at config profile (fault.Profile file why) cause read is = absurd is
-stops_opening at config profile (fault.Unreadable path) cause read is = absurd is
-stops_opening at config profile fault.Memory cause read is = absurd is
+pub stops_opening : {S : Type 0} (at : Places S) (config : String Global) (profile : List Directive) (why : Fault) (cause : Option Cause) (closed : Closed) → ReadsAt at config (Ok profile) → IsOpeningFault at profile why cause closed → StopsOpening at config why cause closed
+stops_opening at config profile (fault.Refused why) cause closed read (fails, is) = not_opened profile read fails is
+stops_opening at config profile (fault.Profile file why) cause closed read is = absurd is
+stops_opening at config profile (fault.Unreadable path) cause closed read is = absurd is
+stops_opening at config profile fault.Memory cause closed read is = absurd is
 
-pub shell_unopened : {S : Type 0} (at : Places S) (config : String Global) (given : Option (List ℕ)) (read_failed : Bool) (old fault_old fault_new : Option (List ℕ)) (why : Fault) (cause : Option Cause) (failed fault_failed : Bool) (r : Result Status AllocError)
-    → StopsOpening at config why cause → IfOk r (λ status. fault_failed ≡ false → Writes fault_old fault_new (λ bytes. TellsCaused why cause bytes status))
+pub shell_unopened : {S : Type 0} (at : Places S) (config named : String Global) (given : Option (List ℕ)) (read_failed : Bool) (old fault_old fault_new : Option (List ℕ)) (why : Fault) (cause : Option Cause) (closed : Closed) (failed fault_failed : Bool) (r : Result Status AllocError)
+    → string_bytes named ≡ string_bytes config → StopsOpening at config why cause closed
+    → IfOk r (λ status. fault_failed ≡ false → TellsUnanswered (at.sees.bytes (string_bytes named)) named why cause closed fault_old fault_new status)
     → IfOk r (λ status. failed ≡ false → fault_failed ≡ false → RunsShell at config given given read_failed old old fault_old fault_new status)
-shell_unopened at config given read_failed old fault_old fault_new why cause failed fault_failed (Err e) is tells = tt
-shell_unopened at config given read_failed old fault_old fault_new why cause failed fault_failed (Ok status) is tells = λ _ sound. shell_stopped why cause is refl (Keeps-refl old) (tells sound)
+shell_unopened at config named given read_failed old fault_old fault_new why cause closed failed fault_failed (Err e) same is tells = tt
+shell_unopened at config named given read_failed old fault_old fault_new why cause closed failed fault_failed (Ok status) same is tells = λ _ sound.
+    shell_stopped why cause closed is refl (Keeps-refl old) (unanswered_so at.sees.bytes config named why cause closed fault_old fault_new status same (tells sound))
 
 -- its lines, on the register in the store
-shell_kept : {S : Type 0} (at : Places S) (config : String Global) (tells : List ℕ → Option (List ℕ)) (format : Format) (c : Conditions) (held : Held S) (given left : Option (List ℕ)) (read_failed : Bool) (old new fault_old fault_new : Option (List ℕ)) (status : Status)
-    → tells ≡ at.tells → OpensUnder at config format c held → ServesIn at.store at.leaves tells format c given left read_failed held old new fault_old fault_new status → RunsShell at config given left read_failed old new fault_old fault_new status
-shell_kept at config tells format c held given left read_failed old new fault_old fault_new status same under serves =
-    let s = subst (λ t. ServesIn at.store at.leaves t format c given left read_failed held old new fault_old fault_new status) same serves in
+shell_kept : {S : Type 0} (at : Places S) (config : String Global) (format : Format) (c : Conditions) (held : Held S) (given left : Option (List ℕ)) (read_failed : Bool) (old new fault_old fault_new : Option (List ℕ)) (status : Status)
+    → OpensUnder at config format c held → ServesIn at.store at.leaves at.sees format c given left read_failed held old new fault_old fault_new status → RunsShell at config given left read_failed old new fault_old fault_new status
+shell_kept at config format c held given left read_failed old new fault_old fault_new status under s =
     let takes = under.3 in
     let whole = s.4 in
     subst (RunsShell at config given left read_failed old new fault_old fault_new) (sym s.3)
     (shell_ran under.0 format c s.0 s.1 s.2 under.1 under.2
-    (from_taken at Unsaid format under.0 s.2 held whole.last (λ first last. IfSome given (λ text. ServesText at.store at.tells format c text left read_failed old new fault_old s.0 s.1 first last)) takes whole.clean whole.lines whole.ends)
+    (from_taken at Unsaid format under.0 s.2 held whole.last (λ first last. IfSome given (λ text. ServesText at.store at.sees format c text left read_failed old new fault_old s.0 s.1 first last)) takes whole.clean whole.lines whole.ends)
     whole.closes)
 
-pub shell_served : {S : Type 0} (at : Places S) (config : String Global) (tells : List ℕ → Option (List ℕ)) (format : Format) (c : Conditions) (held : Held S) (given left : Option (List ℕ)) (read_failed : Bool) (old new fault_old fault_new : Option (List ℕ)) (failed fault_failed : Bool) (r : Result Status AllocError)
-    → tells ≡ at.tells → OpensUnder at config format c held → IfOk r (λ status. failed ≡ false → fault_failed ≡ false → ServesIn at.store at.leaves tells format c given left read_failed held old new fault_old fault_new status)
+pub shell_served : {S : Type 0} (at : Places S) (config : String Global) (format : Format) (c : Conditions) (held : Held S) (given left : Option (List ℕ)) (read_failed : Bool) (old new fault_old fault_new : Option (List ℕ)) (failed fault_failed : Bool) (r : Result Status AllocError)
+    → OpensUnder at config format c held → IfOk r (λ status. failed ≡ false → fault_failed ≡ false → ServesIn at.store at.leaves at.sees format c given left read_failed held old new fault_old fault_new status)
     → IfOk r (λ status. failed ≡ false → fault_failed ≡ false → RunsShell at config given left read_failed old new fault_old fault_new status)
-shell_served at config tells format c held given left read_failed old new fault_old fault_new failed fault_failed (Err e) same under serves = tt
-shell_served at config tells format c held given left read_failed old new fault_old fault_new failed fault_failed (Ok status) same under serves = λ sound quiet.
-    shell_kept at config tells format c held given left read_failed old new fault_old fault_new status same under (serves sound quiet)
+shell_served at config format c held given left read_failed old new fault_old fault_new failed fault_failed (Err e) under serves = tt
+shell_served at config format c held given left read_failed old new fault_old fault_new failed fault_failed (Ok status) under serves = λ sound quiet.
+    shell_kept at config format c held given left read_failed old new fault_old fault_new status under (serves sound quiet)
 
 -- ---- what functions give on
 
@@ -391,12 +444,18 @@ pub fails_opening : {S : Type 0} (T : Type 0) (at : Places S) (profile : List Di
     → IfErr opened (λ failed. at.refuses path failed.cause) → IfErr opened (λ failed. failing T (Option (Held S)) Refusal back why ≡ failing T (Option (Held S)) Refusal None (unopened_refusal failed.cause))
     → IfOk opened (λ connection. IsForeignCause (state at.store connection) met)
     → IfErr opened (λ failed. met ≡ failed.cause)
-    → IfOk opened (λ connection. (left : Held S) × (back ≡ Some left) × IsGivenBack at.store connection left why) → IfSome back (IsLetGo at.store at.lets_go) → FailsOpening at profile why met
+    → IfOk opened (λ connection. (left : Held S) × (back ≡ Some left) × IsGivenBack at.store connection left why) → IfSome back (IsLetGo at.store at.lets_go) → FailsOpening at profile why (whole_but met)
 fails_opening T at profile path (Ok connection) back why met named opens refuses lost other is given gone =
     given_back connection given.0 (path, named, opens) other given.2 (subst (λ b. IfSome b (IsLetGo at.store at.lets_go)) given.1 gone)
 fails_opening {S} T at profile path (Err failed) back why met named opens refuses lost other is given gone =
     let same : why ≡ unopened_refusal failed.cause = second_same T (Option (Held S)) Refusal back None why (unopened_refusal failed.cause) lost in
-    subst (λ it. FailsOpening at profile it met) (sym same) (subst (λ it. FailsOpening at profile (unopened_refusal failed.cause) it) (sym is) (shut path named refuses))
+    subst (λ it. FailsOpening at profile it (whole_but met)) (sym same) (subst (λ it. FailsOpening at profile (unopened_refusal failed.cause) (whole_but it)) (sym is) (shut path named refuses))
+
+-- as the program gives it
+pub opening_fault : {S : Type 0} (at : Places S) (profile : List Directive) (why : Refusal) (closed : Closed) (it : Unopened) → FailsOpening at profile why closed
+    → it.failure.fault ≡ fault.Refused why → it.failure.cause ≡ refusal_cause why closed.cause → it.closed ≡ closed → IsOpeningFault at profile it.failure.fault it.failure.cause it.closed
+opening_fault at profile why closed it fails is cause same =
+    subst (λ f. IsOpeningFault at profile f it.failure.cause it.closed) (sym is) (subst (λ c. FailsOpening at profile why c × (it.failure.cause ≡ refusal_cause why c.cause)) (sym same) (fails, cause))
 
 -- of the store or of the memory
 pub fails_anyway : {S : Type 0} (T : Type 0) (opened : Result (Held S) OpenFailed) (g : Ghosts S) (back : Option (Held S)) (why : Refusal) → IfErr opened (λ failed. failing T (Option (Held S)) Refusal back why ≡ failing T (Option (Held S)) Refusal None (unopened_refusal failed.cause))
@@ -411,21 +470,13 @@ pub opens_under : {S B E : Type 0} (at : Places S) (config : String Global) (pro
 opens_under at config profile (Ok session) held format c read under takes = (profile, read, under, takes)
 opens_under at config profile (Err failure) held format c read under takes = tt
 
-pub stops_so : {S B : Type 0} (at : Places S) (config : String Global) (profile : List Directive) (r : Result B Failure) → ReadsAt at config (Ok profile) → IfErr r (λ failure. IsOpeningFault at profile failure.fault failure.cause)
-    → IfErr r (λ failure. StopsOpening at config failure.fault failure.cause)
+pub stops_so : {S B : Type 0} (at : Places S) (config : String Global) (profile : List Directive) (r : Result B Unopened) → ReadsAt at config (Ok profile) → IfErr r (λ it. IsOpeningFault at profile it.failure.fault it.failure.cause it.closed)
+    → IfErr r (λ it. StopsOpening at config it.failure.fault it.failure.cause it.closed)
 stops_so at config profile (Ok session) read failed = tt
-stops_so at config profile (Err failure) read failed = stops_opening at config profile failure.fault failure.cause read failed
-
--- an input that can't be read
-pub input_fault : {S : Type 0} (at : Places S) (config : String Global) (profile : List Directive) (given : Option (List ℕ)) (failed : Bool) (why : InputFault) (gives : Fault) (path : String Global)
-    → ReadsAt at config (Ok profile) → (why ≡ Unreadable → gives ≡ fault.Unreadable path) → (why ≡ Starved → gives ≡ fault.Memory)
-    → string_bytes path ≡ codes "input" → (why ≡ Unreadable → failed ≡ false → IfSome given (λ bytes. ¬ IsInput bytes)) → StopsReading at config given failed gives None
-input_fault at config profile given failed Unreadable gives path read named empty is bytes = inr (profile, read, (path, named refl, is, bytes refl), refl)
-input_fault at config profile given failed Starved gives path read named empty is bytes =
-    inl (subst (λ it. ReadsAt at config (Err it) × ExplainsUnread at.explains it None) (sym (empty refl)) (tt, refl))
+stops_so at config profile (Err it) read failed = stops_opening at config profile it.failure.fault it.failure.cause it.closed read failed
 
 -- a profile that isn't read
-pub profile_fault : {S : Type 0} (at : Places S) (config : String Global) (given : Option (List ℕ)) (failed : Bool) (failure : Failure) → ReadsAt at config (Err failure.fault) → ExplainsUnread at.explains failure.fault failure.cause
+pub profile_fault : {S : Type 0} (at : Places S) (config : String Global) (given : Option (List ℕ)) (failed : Bool) (failure : Failure) → ReadsAt at config (Err failure.fault) → ExplainsUnread at.explains Text failure.fault failure.cause
     → StopsReading at config given failed failure.fault failure.cause
 profile_fault at config given failed failure read told = inl (read, told)
 
@@ -438,6 +489,3 @@ replied_reaches at Whole named (Err why) own stands h = subst (Reaches at Whole 
 -- what is passed on by `?`
 pub passed_failure : {A : Type 0} (P : Failure → Type 0) (r : Result A Failure) (why : Failure) → r ≡ Err why → P why → IfErr r P
 passed_failure P r why is h = subst (λ it. IfErr it P) (sym is) h
-
-pub passed_for : (P : Closed → Result Reply Fault → Type 0) (Why : Option StoreCause → Failure → Type 0) (r : Result Told Failure) (why : Failure) → r ≡ Err why → P nothing_met (Err why.fault) → Why None why → GivesClosed r P Why
-passed_for P Why r why is h told = subst (λ it. GivesClosed it P Why) (sym is) (nothing_met, h, told)

@@ -1,6 +1,6 @@
 -- What is told below the line of a fault, where it is known (this program's own): why a path isn't read, the path of a refusal's file, and why
 -- a store failed.
-use Rattle.std.specs.Prelude.{◌≡◌, ◌==◌, ⊤, ℕ, List, Option, None, Some, Ok, IfNone, IfSome, String, true, if◌then◌else◌, string_bytes}
+use Rattle.std.specs.Prelude.{◌≡◌, ◌≢◌, ◌==◌, ⊤, ℕ, List, Option, None, Some, Ok, Err, IfNone, IfSome, String, true, if◌then◌else◌, string_bytes}
 use Rattle.std.specs.Option.{option_map}
 use Rattle.std.specs.declared.alloc.Global.{Global}
 use Rattle.zeb_change.specs.declared.faults.RecordFault.{RecordFault}
@@ -11,6 +11,8 @@ use Rattle.zeb_paths.specs.Walks.{Tells}
 use Rattle.zeb_paths.specs.declared.causes.PathCause.{PathCause}
 use Rattle.zeb_paths.specs.declared.causes.PathCause.TheVariants as path
 use Rattle.zeb_paths.specs.declared.causes.StoreCause.{StoreCause}
+use Rattle.zeb_paths.specs.declared.paths.Asked.{Asked}
+use Rattle.zeb_paths.specs.declared.paths.Asked.TheVariants.{Bytes, Step}
 use Rattle.zeb_profile.specs.Indexes.{store_path}
 use Rattle.zeb_profile.specs.declared.directives.Directive.{Directive}
 use Rattle.zeb_program.specs.FaultLines.{file_in, is_of_register}
@@ -32,46 +34,46 @@ record_cause nth faulty.LengthDigits = if nth == 1 then Some path.NoRecord else 
 record_cause nth other = None
 
 -- this is told of the file at a path that a refusal is about: of a read that failed what the paths tell of it
-abbrev pub MeetsFile : (List ℕ → Option PathCause → Type 0) → Refusal → List ℕ → Option PathCause → Type 0
-MeetsFile explains (refusal.ReadFault file) path met = explains path met
+abbrev pub MeetsFile : (List ℕ → Asked → Option PathCause → Type 0) → Refusal → List ℕ → Option PathCause → Type 0
+MeetsFile explains (refusal.ReadFault file) path met = explains path Bytes met
 MeetsFile explains (refusal.Record file nth fault) path met = met ≡ record_cause nth fault
 MeetsFile explains other path met = met ≡ None
 
 -- the cause is that file's path, with what is told of it; without a path there is none
-abbrev pub IsFileCause : (List ℕ → Option PathCause → Type 0) → Refusal → ℕ → Option (String Global) → Option Cause → Type 0
+abbrev pub IsFileCause : (List ℕ → Asked → Option PathCause → Type 0) → Refusal → ℕ → Option (String Global) → Option Cause → Type 0
 IsFileCause explains why number None cause = cause ≡ None
 IsFileCause explains why number (Some path) cause = (met : Option PathCause) × MeetsFile explains why (string_bytes path) met × (cause ≡ Some (FileOf number path met))
 
 -- the cause is the path of the file of this number, where a walk over the named paths finds one, with what is told of it
-abbrev pub TellsFile : Tells → (List ℕ → Option PathCause → Type 0) → List (List ℕ) → Refusal → ℕ → Option Cause → Type 0
+abbrev pub TellsFile : Tells → (List ℕ → Asked → Option PathCause → Type 0) → List (List ℕ) → Refusal → ℕ → Option Cause → Type 0
 TellsFile at explains named why number cause = (found : Option (String Global)) × FindsNthFile at named number found × IsFileCause explains why number found cause
 
 -- of a refusal about a file: that file's path; of another: this, if it is a failed store
-abbrev pub ExplainsRefusal : Tells → (List ℕ → Option PathCause → Type 0) → List (List ℕ) → Option StoreCause → Refusal → Option Cause → Type 0
+abbrev pub ExplainsRefusal : Tells → (List ℕ → Asked → Option PathCause → Type 0) → List (List ℕ) → Option StoreCause → Refusal → Option Cause → Type 0
 ExplainsRefusal at explains named met why cause =
     IfSome (file_in why) (λ number. TellsFile at explains named why number cause) × IfNone (file_in why) (cause ≡ refusal_cause why met)
 
--- of a path that can't be read: what the paths tell of it
-abbrev pub ExplainsPath : (List ℕ → Option PathCause → Type 0) → String Global → Option Cause → Type 0
-ExplainsPath explains path cause = (why : Option PathCause) × explains (string_bytes path) why × (cause ≡ option_map PathOf why)
+-- of a path that can't be read, which was asked for so: what the paths tell of it
+abbrev pub ExplainsPath : (List ℕ → Asked → Option PathCause → Type 0) → Asked → String Global → Option Cause → Type 0
+ExplainsPath explains asked path cause = (why : Option PathCause) × explains (string_bytes path) asked why × (cause ≡ option_map PathOf why)
 
--- Below a fault about the register, and below no other, the path of its store may be told: that of the profile in this file, of which these bytes
--- are told, where it is read anew. It isn't told where the profile can't be read then, or memory runs out.
+-- Below a fault about the register, and below no other, the path of its store is told: that of the profile in this file, of which these bytes are
+-- told, where it is read anew. It isn't told where the profile can't be read then.
 abbrev pub NamesRegister : Option (List ℕ) → String Global → Fault → Option (String Global) → Type 0
-NamesRegister told config fault None = ⊤
+NamesRegister told config fault None = is_of_register fault ≡ true → (why : Fault) × (why ≢ Memory) × ReadsProfile told config (Err why)
 NamesRegister told config fault (Some path) =
     (is_of_register fault ≡ true) × (profile : List Directive) × ReadsProfile told config (Ok profile) × (store_path profile ≡ Some (string_bytes path))
 
--- this is told of a fault that is no refusal
-abbrev pub ExplainsUnread : (List ℕ → Option PathCause → Type 0) → Fault → Option Cause → Type 0
-ExplainsUnread explains (Profile file fault) cause = cause ≡ None
-ExplainsUnread explains (Unreadable path) cause = ExplainsPath explains path cause
-ExplainsUnread explains (Refused refusal) cause = cause ≡ None
-ExplainsUnread explains Memory cause = cause ≡ None
+-- this is told of a fault that is no refusal, where the path that can't be read was asked for so
+abbrev pub ExplainsUnread : (List ℕ → Asked → Option PathCause → Type 0) → Asked → Fault → Option Cause → Type 0
+ExplainsUnread explains asked (Profile file fault) cause = cause ≡ None
+ExplainsUnread explains asked (Unreadable path) cause = ExplainsPath explains asked path cause
+ExplainsUnread explains asked (Refused refusal) cause = cause ≡ None
+ExplainsUnread explains asked Memory cause = cause ≡ None
 
 -- This is told of a fault of a command that names these paths, where this is known of why a store failed. Nothing is written of want of memory.
-abbrev pub Explains : Tells → (List ℕ → Option PathCause → Type 0) → List (List ℕ) → Option StoreCause → Fault → Option Cause → Type 0
+abbrev pub Explains : Tells → (List ℕ → Asked → Option PathCause → Type 0) → List (List ℕ) → Option StoreCause → Fault → Option Cause → Type 0
 Explains at explains named met (Profile file fault) cause = cause ≡ None
-Explains at explains named met (Unreadable path) cause = ExplainsPath explains path cause
+Explains at explains named met (Unreadable path) cause = ExplainsPath explains Step path cause
 Explains at explains named met (Refused why) cause = ExplainsRefusal at explains named met why cause
 Explains at explains named met Memory cause = ⊤

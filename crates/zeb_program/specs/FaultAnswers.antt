@@ -3,7 +3,7 @@ use Rattle.std.specs.Prelude.{◌≡◌, ◌⊎◌, ⊤, ℕ, List, Option, Some
 use Rattle.zeb_change.specs.declared.refusals.Refusal.{Refusal}
 use Rattle.zeb_change.specs.declared.refusals.Refusal.TheVariants as refusal
 use Rattle.zeb_engine.specs.declared.replies.Reply.{Reply}
-use Rattle.zeb_paths.specs.Walks.{IsUnder, IsUntold, Tells}
+use Rattle.zeb_paths.specs.Walks.{IsUntold, Tells}
 use Rattle.zeb_paths.specs.declared.causes.StoreCause.{StoreCause}
 use Rattle.zeb_paths.specs.declared.causes.StoreCause.TheVariants as cause
 use Rattle.zeb_program.specs.Inputs.{IsShort}
@@ -43,13 +43,6 @@ GivesAnswer P (Err (Refused refusal)) = P (Err refusal)
 GivesAnswer P (Err Memory) = ⊤
 GivesAnswer P (Err (Profile file fault)) = ⊥
 GivesAnswer P (Err (Unreadable path)) = ⊥
-
--- a path that can't be read is one of these, or stands below one
-abbrev pub NamesUnder : List (List ℕ) → Fault → Type 0
-NamesUnder named (Unreadable path) = IsUnder named (string_bytes path)
-NamesUnder named (Profile file fault) = ⊤
-NamesUnder named (Refused refusal) = ⊤
-NamesUnder named Memory = ⊤
 
 -- A path that can't be read is the one at which a walk over these paths can't go on; or, where files are read whole, that of a file which it gives.
 abbrev pub NamesMet : Tells → (Whole : Type 0) → List (List ℕ) → Fault → Type 0

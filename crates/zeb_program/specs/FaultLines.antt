@@ -13,9 +13,9 @@ use Rattle.zeb_paths.specs.Causes.{path_cause_text, store_cause_text}
 use Rattle.zeb_paths.specs.declared.causes.PathCause.{PathCause}
 use Rattle.zeb_paths.specs.declared.causes.StoreCause.{StoreCause}
 use Rattle.zeb_program.specs.declared.failures.Cause.{Cause}
-use Rattle.zeb_program.specs.declared.failures.Cause.TheVariants.{Path, Store, Input, File}
+use Rattle.zeb_program.specs.declared.failures.Cause.TheVariants.{Path, Store, Input, Text, File}
 use Rattle.zeb_program.specs.FixedLines.{refusal_line, unreadable_line}
-use Rattle.zeb_program.specs.InputCauses.{input_cause_text}
+use Rattle.zeb_program.specs.InputCauses.{input_cause_text, text_cause_text}
 use Rattle.zeb_program.specs.declared.line_input.InputCause.{InputCause}
 use Rattle.zeb_program.specs.Statuses.{fault_status, refusal_status}
 use Rattle.zeb_program.specs.declared.statuses.Status.{Status}
@@ -54,6 +54,7 @@ abbrev pub cause_line : Cause → List ℕ
 cause_line (Path cause) = met_line cause
 cause_line (Store cause) = codes "zebraidx: cause: " ++ store_cause_text cause ++ 10 ∷ []
 cause_line (Input cause) = codes "zebraidx: cause: " ++ input_cause_text cause ++ 10 ∷ []
+cause_line (Text cause) = codes "zebraidx: cause: " ++ text_cause_text cause ++ 10 ∷ []
 cause_line (File number path met) = file_line number (string_bytes path) ++ met_lines met
 
 -- such a line where a cause is known, else nothing
@@ -72,9 +73,10 @@ abbrev pub is_store : Refusal → Bool
 is_store refusal.Store = true
 is_store _ = false
 
--- A fault may have this cause: a path that can't be read, why it isn't; a failed store, why it fails; and a refusal about a file has that file's path.
+-- A fault may have this cause: a path or an input that can't be read, why it isn't; a failed store, why it fails; and a refusal about a file has that file's path.
 abbrev pub is_cause_of : Fault → Cause → Bool
 is_cause_of (Unreadable path) (Path cause) = true
+is_cause_of (Unreadable path) (Text cause) = true
 is_cause_of (Refused why) (Store cause) = is_store why
 is_cause_of (Refused why) (File number path met) = option_map_or (λ file. file == number) (file_in why) false
 is_cause_of _ _ = false
@@ -106,9 +108,17 @@ TellsPlaced fault cause register bytes status = (first : List ℕ) × TellsCause
 abbrev pub unread_lines : InputCause → List ℕ
 unread_lines cause = unreadable_line ++ cause_line (Input cause)
 
+-- below what is answered, where the register's file and its log together have what was done
 abbrev pub unclosed_line : List ℕ
 unclosed_line = codes "zebraidx: done, but the register's file needs its log" ++ 10 ∷ []
 
--- what is written where a part of what was done stands beside the register's file: with why the store failed, where that is known
+-- the same below a fault, behind which nothing may be done
+abbrev pub left_line : List ℕ
+left_line = codes "zebraidx: the register's file needs its log" ++ 10 ∷ []
+
+abbrev pub left_lines : Option StoreCause → List ℕ
+left_lines cause = left_line ++ cause_lines (option_map Store cause)
+
+-- that line, and below it why the store failed, where that is known
 abbrev pub unclosed_lines : Option StoreCause → List ℕ
 unclosed_lines cause = unclosed_line ++ cause_lines (option_map Store cause)

@@ -2,12 +2,22 @@
 use Rattle.std.specs.Prelude.{ℕ, List, [], ◌∷◌, ◌++◌, codes}
 use Rattle.zeb_change.specs.declared.refusals.Refusal.{Refusal}
 use Rattle.zeb_engine.specs.Refusals.{refusal_text}
+use Rattle.zeb_words.specs.Misuses.{misuse_text}
+use Rattle.zeb_words.specs.declared.misuses.Misuse.{Misuse}
 
 abbrev pub refusal_line : Refusal → List ℕ
 refusal_line why = refusal_text why ++ 10 ∷ []
+
+-- of want of memory in the program itself
+abbrev pub starved_line : List ℕ
+starved_line = codes "zebraidx: out of memory" ++ 10 ∷ []
 
 abbrev pub unreadable_line : List ℕ
 unreadable_line = codes "zebraidx: cannot read input" ++ 10 ∷ []
 
 abbrev pub usage_line : List ℕ
 usage_line = codes "zebraidx: bad usage" ++ 10 ∷ []
+
+-- of why words are misused
+abbrev pub misuse_line : Misuse → List ℕ
+misuse_line misuse = codes "zebraidx: cause: " ++ misuse_text misuse ++ 10 ∷ []

@@ -1,8 +1,11 @@
 -- Why an input can't be read on, and what is gone of the line where it can't (this program's own).
-use Rattle.std.specs.Prelude.{◌<◌, ◌+◌, ℕ, Bool, true, false, List, Option, Some, codes}
+use Rattle.std.specs.Prelude.{◌≡◌, ◌<◌, ◌+◌, ℕ, Bool, true, false, List, Option, Some, IfSome, codes, length}
 use Rattle.std.specs.List.{position_or_len}
+use Rattle.std.specs.Str.{IsUtf8}
 use Rattle.zeb_program.specs.Inputs.{TakesAtMost}
 use Rattle.zeb_program.specs.Lines.{is_lf}
+use Rattle.zeb_program.specs.declared.input.TextCause.{TextCause}
+use Rattle.zeb_program.specs.declared.input.TextCause.TheVariants.{TooLong, NoText, FailedRead as Failed}
 use Rattle.zeb_program.specs.declared.line_input.InputCause.{InputCause}
 use Rattle.zeb_program.specs.declared.line_input.InputCause.TheVariants.{LongLine, FailedRead}
 use Rattle.zeb_program.specs.declared.line_input.LineFault.{LineFault}
@@ -11,6 +14,17 @@ use Rattle.zeb_program.specs.declared.line_input.LineFault.TheVariants.{Unreadab
 abbrev pub input_cause_text : InputCause → List ℕ
 input_cause_text LongLine = codes "a line is too long"
 input_cause_text FailedRead = codes "a read failed"
+
+abbrev pub text_cause_text : TextCause → List ℕ
+text_cause_text TooLong = codes "too long"
+text_cause_text NoText = codes "no UTF-8"
+text_cause_text Failed = codes "a read failed"
+
+-- An input can't be read whole for this reason, where it has these bytes, if it tells them, and a read of it failed or didn't.
+abbrev pub IsTextCause : Option (List ℕ) → Bool → TextCause → Type 0
+IsTextCause given failed TooLong = (failed ≡ false) × IfSome given (λ bytes. 16777216 < length bytes)
+IsTextCause given failed NoText = (failed ≡ false) × IfSome given (λ bytes. ¬ IsUtf8 bytes)
+IsTextCause given failed Failed = failed ≡ true
 
 -- whether it is that a read failed
 abbrev pub is_failed_read : InputCause → Bool

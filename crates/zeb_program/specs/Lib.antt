@@ -11,6 +11,7 @@ pub mod BatchRuns
 pub mod Errands
 pub mod FaultAnswers
 pub mod FaultLines
+pub mod Unanswered
 pub mod Explanations
 pub mod WalkedFiles
 pub mod PrivateAnalyses

@@ -35,7 +35,9 @@ use Rattle.zeb_program.specs.declared.tasks.Task.TheVariants.{Ask, Change, Analy
 use Rattle.zeb_program.specs.Answers.{ChangesBy, EachLine, answer_status, answer_text, bad_line, mark_line}
 use Rattle.zeb_program.specs.Inputs.{AreShort}
 use Rattle.zeb_program.specs.FaultLines.{TellsFault}
-use Rattle.zeb_program.specs.FaultAnswers.{GivesAnswer, IsUnreadWhole, IsUnreadable, NamesUnder, NamesUntold}
+use Rattle.zeb_paths.specs.Walks.{Tells}
+use Rattle.zeb_program.specs.FaultAnswers.{GivesAnswer, IsUnreadWhole, IsUnreadable, NamesUntold, Reaches}
+use Rattle.zeb_program.specs.WalkedFiles.{AreTexts, FindsFiles}
 use Rattle.zeb_program.specs.Serving.{AnswersFrom}
 use Rattle.zeb_program.specs.TaskAnswers.{AreTold}
 use Rattle.zeb_program.specs.Says.{Says}
@@ -49,52 +51,68 @@ LeavesAlone old new = ChangesNothing old new × LeavesNoMore old new
 
 -- ---- a task
 
--- what is said of the answer to a change of the database of this name by the files at these paths
-pub record PathsOver (told : List ℕ → Option (List ℕ)) (format : Format) (profile : List Directive) (kind : Kind) (limits : Limits) (name : List ℕ) (paths : List (List ℕ)) (s : State) (result : Result Reply Fault) : Type 0 where
+-- These are the bytes of a change's files, each of which is told: of those at its paths, where one stands at each; or of those that a walk gives.
+abbrev pub AreFilesOf : Tells → List (List ℕ) → List (List ℕ) → List (List ℕ) → Type 0
+AreFilesOf at paths walked files = AreTold at.bytes paths files ⊎ AreTold at.bytes walked files
+
+-- What is said of the answer to a change of the database of this name by the files at and below these paths, where a walk over them gives those.
+pub record PathsOver (at : Tells) (format : Format) (profile : List Directive) (kind : Kind) (limits : Limits) (name : List ℕ) (paths walked : List (List ℕ)) (s : State) (result : Result Reply Fault) : Type 0 where
   -- a path can't be read, or the texts of the store tell whether the register was ready
   pub ready : IsUnreadable result ⊎ GivesAnswer (GoesByTexts (version_of format) profile s) result
-  -- Where the bytes of a file at each path are told: what is kept under the first record's identifier is whole, or the change is refused as damage or by a failure; and any other refusal has a reason that the files and the limits give.
-  pub changes : (files : List (List ℕ)) → AreTold told paths files
+  -- Where the bytes of its files are told: what is kept under the first record's identifier is whole, or the change is refused as damage or by a failure; and any other refusal has a reason that the files and the limits give.
+  pub changes : (files : List (List ℕ)) → AreFilesOf at paths walked files
       → GivesAnswer (ChangesReady (version_of format) profile kind limits name files s) result
   -- a path that can't be read is none at which a file's bytes are told
-  pub untold : IfErr result (NamesUntold told)
+  pub untold : IfErr result (NamesUntold at.bytes)
   -- damage is told only of tables that are the image of no holding
   pub honest : result ≡ Err (Refused Damaged) → (before : Holdings) → ¬ Keeps s before
 
--- What is said of the answer to an analysis of the files at these paths, of at most so many records.
-pub record IsAnalysisOver (told : List ℕ → Option (List ℕ)) (profile : List Directive) (limit : ℕ) (paths : List (List ℕ)) (answer : Result Reply Refusal) : Type 0 where
+-- What is said of the answer to an analysis of the files at and below these paths, of at most so many records.
+pub record IsAnalysisOver (at : Tells) (profile : List Directive) (limit : ℕ) (paths : List (List ℕ)) (answer : Result Reply Refusal) : Type 0 where
   -- it is that of files with these texts, or memory ran out
   pub texts : List (List ℕ)
   pub analysed : IsAnalysed profile limit texts (answer_of answer) ⊎ (answer ≡ Err OutOfMemory)
   -- none of them has too many bytes, and where the bytes of a file at each path are told, they are these
   pub short : AreShort texts
-  pub these : (files : List (List ℕ)) → AreTold told paths files → texts ≡ files
+  pub these : (files : List (List ℕ)) → AreTold at.bytes paths files → texts ≡ files
+  -- and they are those of the files that a walk gives, of folders too
+  pub walked : List (List ℕ)
+  pub found : FindsFiles at paths walked
+  pub read : AreTexts at.bytes walked texts
 
--- What a crash leaves behind a change of the database of this name by the files at these paths: what the change left, or what was there before it.
-pub record PathsLast (told : List ℕ → Option (List ℕ)) (c : Conditions) (kind : Kind) (name : List ℕ) (paths : List (List ℕ)) (old new : State) (result : Result Reply Fault) : Type 0 where
-  -- nothing else is committed, where the bytes of a file at each path are told
-  pub survives : Survives old new (λ db. (files : List (List ℕ)) → AreTold told paths files → CommitsBy (TakesFiles c kind name files) old db)
-  pub crash : (files : List (List ℕ)) → AreTold told paths files → GivesAnswer (Endures (TakesFiles c kind name files) old new) result
+-- What a crash leaves behind a change of the database of this name by these files: what the change left, or what was there before it.
+pub record PathsLast (at : Tells) (c : Conditions) (kind : Kind) (name : List ℕ) (paths walked : List (List ℕ)) (old new : State) (result : Result Reply Fault) : Type 0 where
+  -- nothing else is committed, where the bytes of the files are told
+  pub survives : Survives old new (λ db. (files : List (List ℕ)) → AreFilesOf at paths walked files → CommitsBy (TakesFiles c kind name files) old db)
+  pub crash : (files : List (List ℕ)) → AreFilesOf at paths walked files → GivesAnswer (Endures (TakesFiles c kind name files) old new) result
   -- Whatever is told: of an accepted one just what is shown, while the connection is open; and nothing more than before where it is refused, but for a failed store.
   pub accepted : OnOk result (IsDurable new)
   pub refused : IfErr result (λ fault. fault ≢ Refused Store → LeavesNoMore old new)
 
--- what a change of the database of this name by the files at these paths leaves of any tables
-pub record PathsLeave (told : List ℕ → Option (List ℕ)) (c : Conditions) (kind : Kind) (name : List ℕ) (paths : List (List ℕ)) (old new : State) (result : Result Reply Fault) : Type 0 where
+-- what a change of the database of this name by these files leaves of any tables
+pub record PathsLeave (at : Tells) (c : Conditions) (kind : Kind) (name : List ℕ) (paths walked : List (List ℕ)) (old new : State) (result : Result Reply Fault) : Type 0 where
   -- nothing changes where it isn't accepted
   pub refused : OnErr result (ChangesNothing old new)
   -- a path can't be read, or of an accepted one the engine says what the tables have lost and kept
   pub loses : IsUnreadable result ⊎ GivesAnswer (LeavesWhole c.version c.profile kind name old new) result
-  -- Where the bytes of a file at each path are told, it is answered from tables that keep what a register holds as a change by these, and they
-  -- keep what is held then.
-  pub serves : (files : List (List ℕ)) → AreTold told paths files → AnswersFrom old new result (ChangesBy c kind name files)
+  -- Where the bytes of the files are told, it is answered from tables that keep what a register holds as a change by these, and they keep what is
+  -- held then.
+  pub serves : (files : List (List ℕ)) → AreFilesOf at paths walked files → AnswersFrom old new result (ChangesBy c kind name files)
   -- Then it has lost no record but under identifiers that records of the files have.
-  pub named : (files : List (List ℕ)) → AreTold told paths files → GivesAnswer (LosesNamed c.profile name files old new) result
-  pub lasts : PathsLast told c kind name paths old new result
+  pub named : (files : List (List ℕ)) → AreFilesOf at paths walked files → GivesAnswer (LosesNamed c.profile name files old new) result
+  pub lasts : PathsLast at c kind name paths walked old new result
+
+-- A change of the database of this name by the files at and below these paths is answered so, and leaves this of any tables.
+pub record ChangesOver (at : Tells) (format : Format) (c : Conditions) (kind : Kind) (name : List ℕ) (paths : List (List ℕ)) (old new : State) (result : Result Reply Fault) : Type 0 where
+  -- the files that a walk gives, which comes to its end; unless a path can't be read, or memory runs out in the program itself
+  pub walked : List (List ℕ)
+  pub found : IsUnreadable result ⊎ GivesAnswer (λ answer. FindsFiles at paths walked) result
+  pub over : PathsOver at format c.profile kind c.limits name paths walked old result
+  pub leaves : PathsLeave at c kind name paths walked old new result
 
 -- a path of an analysis can't be read, at which no file's bytes are told, or too many; or it is answered so
-abbrev pub AnalysesOver : (List ℕ → Option (List ℕ)) → List Directive → ℕ → List (List ℕ) → Result Reply Fault → Type 0
-AnalysesOver told profile limit paths result = IsUnreadWhole told result ⊎ GivesAnswer (IsAnalysisOver told profile limit paths) result
+abbrev pub AnalysesOver : Tells → List Directive → ℕ → List (List ℕ) → Result Reply Fault → Type 0
+AnalysesOver at profile limit paths result = IsUnreadWhole at.bytes result ⊎ GivesAnswer (IsAnalysisOver at profile limit paths) result
 
 -- A command is answered, and leaves the tables, as the engine says: of those that keep what a register holds, and of any. A crash behind it leaves what
 -- it left, or what was there before it, and, while the connection is open, just what is shown.
@@ -104,16 +122,15 @@ ServesOver format c command old new answer =
 
 -- A task of one command is answered as the engine says of it on any tables, and this is what it leaves of them; so it is of a change by paths. An
 -- analysis by paths is answered as above.
-abbrev pub AnswersOver : (List ℕ → Option (List ℕ)) → Format → Conditions → Task → State → State → Result Reply Fault → Type 0
-AnswersOver told format c (Ask command) old new result = GivesAnswer (ServesOver format c command old new) result
-AnswersOver told format c (Change kind database paths) old new result =
-    PathsOver told format c.profile kind c.limits (name_bytes database) (map string_bytes paths.items) old result
-    × PathsLeave told c kind (name_bytes database) (map string_bytes paths.items) old new result
-AnswersOver told format c (Analyse paths) old new result = AnalysesOver told c.profile c.limits.records (map string_bytes paths.items) result
+abbrev pub AnswersOver : Tells → Format → Conditions → Task → State → State → Result Reply Fault → Type 0
+AnswersOver at format c (Ask command) old new result = GivesAnswer (ServesOver format c command old new) result
+AnswersOver at format c (Change kind database paths) old new result =
+    ChangesOver at format c kind (name_bytes database) (map string_bytes paths.items) old new result
+AnswersOver at format c (Analyse paths) old new result = AnalysesOver at c.profile c.limits.records (map string_bytes paths.items) result
 
 -- what is said of a task, from these tables to those
-pub record TaskOver (told : List ℕ → Option (List ℕ)) (format : Format) (c : Conditions) (task : Task) (old new : State) (result : Result Reply Fault) : Type 0 where
-  pub answer : AnswersOver told format c task old new result
+pub record TaskOver (at : Tells) (format : Format) (c : Conditions) (task : Task) (old new : State) (result : Result Reply Fault) : Type 0 where
+  pub answer : AnswersOver at format c task old new result
   -- nothing changes where it isn't accepted, nor where it is an analysis
   pub refused : OnErr result (ChangesNothing old new)
   pub reads : ReadsWhole task → LeavesAlone old new
@@ -131,26 +148,26 @@ abbrev pub IsTold : Result Reply Fault → List ℕ → Status → Type 0
 IsTold (Ok reply) bytes status = (bytes ≡ answer_text (Ok reply)) × (status ≡ answer_status (Ok reply))
 IsTold (Err fault) bytes status = TellsFault fault bytes status
 
--- the same of a change by a path; a path that can't be read is the one that is named, or stands below it
-abbrev pub PathOver : (List ℕ → Option (List ℕ)) → Format → Conditions → PathChange → State → List ℕ → Status → State → Type 0
-PathOver told format c change old bytes status new =
-    (result : Result Reply Fault) × IsTold result bytes status × IfErr result (NamesUnder (string_bytes change.path ∷ []))
-    × PathsOver told format c.profile change.kind c.limits (name_bytes change.database) (string_bytes change.path ∷ []) old result
-    × PathsLeave told c change.kind (name_bytes change.database) (string_bytes change.path ∷ []) old new result
+-- The same of a change by a path: it is accepted only where all files at and below it are found, and a path that can't be read is the one that a walk
+-- over these comes to.
+abbrev pub PathOver : Tells → Format → Conditions → PathChange → State → List ℕ → Status → State → Type 0
+PathOver at format c change old bytes status new =
+    (result : Result Reply Fault) × IsTold result bytes status × Reaches at ⊥ (string_bytes change.path ∷ []) result
+    × ChangesOver at format c change.kind (name_bytes change.database) (string_bytes change.path ∷ []) old new result
 
 -- of a line that says this
-abbrev pub SaysOver : (List ℕ → Option (List ℕ)) → Format → Conditions → ℕ → Line → State → List ℕ → Status → State → Type 0
-SaysOver told format c number Remark old bytes status new = (bytes ≡ []) × (status ≡ Answered) × LeavesAlone old new
-SaysOver told format c number (Order command) old bytes status new = CommandOver format c command old bytes status new
-SaysOver told format c number (Path change) old bytes status new = PathOver told format c change old bytes status new
-SaysOver told format c number (Mark text) old bytes status new = (bytes ≡ mark_line (string_bytes text)) × (status ≡ Answered) × LeavesAlone old new
-SaysOver told format c number Bad old bytes status new = (bytes ≡ bad_line number) × (status ≡ Misused) × LeavesAlone old new
+abbrev pub SaysOver : Tells → Format → Conditions → ℕ → Line → State → List ℕ → Status → State → Type 0
+SaysOver at format c number Remark old bytes status new = (bytes ≡ []) × (status ≡ Answered) × LeavesAlone old new
+SaysOver at format c number (Order command) old bytes status new = CommandOver format c command old bytes status new
+SaysOver at format c number (Path change) old bytes status new = PathOver at format c change old bytes status new
+SaysOver at format c number (Mark text) old bytes status new = (bytes ≡ mark_line (string_bytes text)) × (status ≡ Answered) × LeavesAlone old new
+SaysOver at format c number Bad old bytes status new = (bytes ≡ bad_line number) × (status ≡ Misused) × LeavesAlone old new
 
 -- the same for a line, by its text and its number, and by the connection
-abbrev pub LineOver : {S : Type 0} → Ghosts S → (List ℕ → Option (List ℕ)) → Format → Conditions → ℕ → List ℕ → Held S → List ℕ → Status → Held S → Type 0
-LineOver g told format c number text old bytes status new =
-    (line : Line) × Says text line × SaysOver told format c number line (state g old) bytes status (state g new)
+abbrev pub LineOver : {S : Type 0} → Ghosts S → Tells → Format → Conditions → ℕ → List ℕ → Held S → List ℕ → Status → Held S → Type 0
+LineOver g at format c number text old bytes status new =
+    (line : Line) × Says text line × SaysOver at format c number line (state g old) bytes status (state g new)
 
 -- every line of a text is answered so, each on the tables that the one before it left
-abbrev pub LinesOver : {S : Type 0} → Ghosts S → (List ℕ → Option (List ℕ)) → Format → Conditions → ℕ → List ℕ → Held S → List ℕ → Status → Held S → Type 0
-LinesOver g told format c n text old bytes status new = EachLine (LineOver g told format c) n text old bytes status [] new
+abbrev pub LinesOver : {S : Type 0} → Ghosts S → Tells → Format → Conditions → ℕ → List ℕ → Held S → List ℕ → Status → Held S → Type 0
+LinesOver g at format c n text old bytes status new = EachLine (LineOver g at format c) n text old bytes status [] new

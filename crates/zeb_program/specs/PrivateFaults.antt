@@ -2,7 +2,7 @@
 -- Why a command that words or a line name isn't answered: what couldn't be read, and failures to open a register.
 use Rattle.std.specs.Prelude.{◌≡◌, ⊤, ℕ, List, Option, IfSome, string_bytes}
 use Rattle.zeb_profile.specs.declared.directives.Directive.{Directive}
-use Rattle.zeb_paths.specs.declared.causes.StoreCause.{StoreCause}
+use Rattle.zeb_paths.specs.declared.causes.Closed.{Closed}
 use Rattle.zeb_program.specs.Explanations.{refusal_cause}
 use Rattle.zeb_program.specs.Registers.{FailsOpening, Places}
 use Rattle.zeb_program.specs.declared.faults.Fault.{Fault}
@@ -28,12 +28,12 @@ IsUnreadAt told (Unreadable path) = IfSome (told (string_bytes path)) (λ bytes.
 IsUnreadAt told (Refused refusal) = ⊥
 IsUnreadAt told Memory = ⊤
 
--- the register at the profile's path wasn't opened for such a failure, of which this is told
-abbrev pub IsOpeningFault : {S : Type 0} → Places S → List Directive → Fault → Option Cause → Type 0
-IsOpeningFault at profile (Refused why) cause = (met : Option StoreCause) × FailsOpening at profile why met × (cause ≡ refusal_cause why met)
-IsOpeningFault at profile (Profile file fault) cause = ⊥
-IsOpeningFault at profile (Unreadable path) cause = ⊥
-IsOpeningFault at profile Memory cause = ⊥
+-- the register at the profile's path wasn't opened for such a failure, of which this is told, and its store was closed so
+abbrev pub IsOpeningFault : {S : Type 0} → Places S → List Directive → Fault → Option Cause → Closed → Type 0
+IsOpeningFault at profile (Refused why) cause closed = FailsOpening at profile why closed × (cause ≡ refusal_cause why closed.cause)
+IsOpeningFault at profile (Profile file fault) cause closed = ⊥
+IsOpeningFault at profile (Unreadable path) cause closed = ⊥
+IsOpeningFault at profile Memory cause closed = ⊥
 
 -- the fault by which a walk ends
 abbrev pub fault_of : WalkFault → Fault

@@ -2,10 +2,10 @@
 -- What is read of files that are read whole, those of an analysis, and what their readers are sure to give (this program's own).
 use Rattle.std.specs.Prelude.{◌≡◌, ◌||◌, ⊤, Bool, ℕ, List, Option, None, Some, IfSome, Result, Ok, Err, String, Vec, if◌then◌else◌, map}
 use Rattle.std.specs.declared.alloc.Global.{Global}
-use Rattle.zeb_paths.specs.Walks.{Due, Tells, WalksOn}
+use Rattle.zeb_paths.specs.Walks.{Tells}
 use Rattle.zeb_paths.specs.declared.walk.WalkFault.{WalkFault}
 use Rattle.zeb_program.specs.Inputs.{IsShort}
-use Rattle.zeb_program.specs.WalkedFiles.{GivesNone, WalksFrom}
+use Rattle.zeb_program.specs.WalkedFiles.{FindsFiles, GivesNone}
 use Rattle.zeb_program.specs.declared.faults.Fault.{Fault}
 use Rattle.zeb_program.specs.declared.faults.Fault.TheVariants.{Profile, Unreadable, Refused, Memory}
 
@@ -18,14 +18,11 @@ ReadsContent told path (Err (Unreadable given)) = (given ≡ path) × IfSome tol
 ReadsContent told path (Err (Refused refusal)) = ⊥
 ReadsContent told path (Err Memory) = ⊤
 
--- These are the readers of the files at and below the named paths, all of them, in their order.
-pub record ReadsBelow {R : Type 0} (remaining : R → Option (List ℕ)) (at : Tells) (named : List (List ℕ)) (readers : List R) : Type 0 where
+-- These are the readers of the files at and below the named paths, all of them, in their order; `sure` are the bytes that one is sure to give.
+pub record ReadsBelow {R : Type 0} (sure : R → Option (List ℕ)) (at : Tells) (named : List (List ℕ)) (readers : List R) : Type 0 where
   pub files : List (List ℕ)
-  pub left : List Due
-  pub later : List Due
-  pub walks : WalksFrom at named files left
-  pub ends : WalksOn at left (Ok None) later
-  pub bytes : map remaining readers ≡ map at.bytes files
+  pub found : FindsFiles at named files
+  pub bytes : map sure readers ≡ map at.bytes files
 
 -- the bytes that a reader is sure to give: those that it tells, where no read can fail and none has
 abbrev pub sure_bytes : {R : Type 0} (remaining : R → Option (List ℕ)) (may_fail has_failed : R → Bool) → R → Option (List ℕ)

@@ -40,6 +40,6 @@ StandsFor (Err fault) answer = answer ≡ Err fault
 pub record CarriesOut (told : List ℕ → Option (List ℕ)) (at : Tells) (format : Format) (c : Conditions) (task : Task) (old new : State) (answer : Result Reply Fault) : Type 0 where
   pub serves : HasCleanDisk new → ServesTask told c task old new answer
   -- as the engine says of it on any tables, and refused it changes nothing
-  pub over : HasCleanDisk new → TaskOver told format c task old new answer
+  pub over : HasCleanDisk new → TaskOver at format c task old new answer
   -- it is accepted only where all files at and below its paths are found, and a path that can't be read is one that a walk over these comes to
   pub reaches : Reaches at (ReadsWhole task) (paths_of task) answer

@@ -7,6 +7,7 @@ use Rattle.sqlite.specs.State.{HasCleanDisk}
 use Rattle.sqlite.specs.Store.{Ghosts}
 use Rattle.zeb_change.specs.Conditions.{Conditions}
 use Rattle.zeb_register.specs.Formats.{Format}
+use Rattle.zeb_paths.specs.Walks.{Tells}
 use Rattle.zeb_program.specs.Answers.{AnswersAsTold, Writes}
 use Rattle.zeb_program.specs.Doing.{KeepsUnread}
 use Rattle.zeb_program.specs.InputCauses.{EndsInLine}
@@ -25,15 +26,16 @@ ComesTo Line End Stop (Err fault) = Stop fault
 
 -- Just the next line is taken from what is left of an input, whatever that tells. It is answered so, unless a write has failed, and nothing of the
 -- answer is held back.
-pub record AnswersNextLine {S : Type 0} (g : Ghosts S) (told : List ℕ → Option (List ℕ)) (format : Format) (c : Conditions) (number : ℕ) (left later : Option (List ℕ)) (failed : Bool) (held_back : List ℕ) (wrote writes : Option (List ℕ)) (old new : Held S) (status : Status) : Type 0 where
+pub record AnswersNextLine {S : Type 0} (g : Ghosts S) (at : Tells) (format : Format) (c : Conditions) (number : ℕ) (left later : Option (List ℕ)) (failed : Bool) (held_back : List ℕ) (wrote writes : Option (List ℕ)) (old new : Held S) (status : Status) : Type 0 where
   pub some : IfSome left (λ l. 0 < length l)
   pub taken : IfSome left (λ l. Consumes (Some l) later (whole_first_line l))
   pub passed : failed ≡ false → held_back ≡ []
   -- from what a register holds, as far as it is known
-  pub answer : failed ≡ false → HasCleanDisk (state g new) → IfSome left (λ l. LeadsOn (state g old) (state g new) wrote writes (λ before bytes last. AnswersAsTold told c number (first_line l) before bytes status last))
+  pub answer : failed ≡ false → HasCleanDisk (state g new) → IfSome left (λ l. LeadsOn (state g old) (state g new) wrote writes (λ before bytes last. AnswersAsTold at.bytes c number (first_line l) before bytes status last))
   -- on any tables
-  pub over : failed ≡ false → HasCleanDisk (state g new) → IfSome left (λ l. Writes wrote writes (λ bytes. LineOver g told format c number (first_line l) old bytes status new))
+  pub over : failed ≡ false → HasCleanDisk (state g new) → IfSome left (λ l. Writes wrote writes (λ bytes. LineOver g at format c number (first_line l) old bytes status new))
 
 -- the next line can't be read, or isn't answered, for this reason, and this is left of the input
-abbrev pub StopsAtLine : {S : Type 0} → Option (List ℕ) → Option (List ℕ) → Held S → Held S → LineFault → Type 0
-StopsAtLine left later old new fault = KeepsUnread fault old new × IfSome left (λ l. EndsInLine 16777216 fault l later)
+abbrev pub StopsAtLine : {S : Type 0} → Ghosts S → Tells → Format → Conditions → Option (List ℕ) → Option (List ℕ) → Held S → Held S → LineFault → Type 0
+StopsAtLine g at format c left later old new fault =
+    (HasCleanDisk (state g new) → IfSome left (λ l. KeepsUnread g at format c fault l old new)) × IfSome left (λ l. EndsInLine 16777216 fault l later)

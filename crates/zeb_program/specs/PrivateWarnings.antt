@@ -1,17 +1,11 @@
 -- What only the contracts of private functions speak of; no public clause reaches it.
 -- What is warned of with what a task is answered.
-use Rattle.std.specs.Prelude.{⊤, ℕ, List, [], Option, None}
+use Rattle.std.specs.Prelude.{⊤, ℕ, List, Option, None}
 use Rattle.zeb_program.specs.TaskAnswers.{ReadsWhole}
 use Rattle.zeb_program.specs.Warnings.{warning_of}
 use Rattle.zeb_program.specs.declared.tasks.Served.{Served}
 use Rattle.zeb_program.specs.declared.tasks.Served.TheVariants.{Replied, Shown}
 use Rattle.zeb_program.specs.declared.tasks.Task.{Task}
-use Rattle.zeb_program.specs.declared.warnings.Place.{Place}
-
--- those of which it is told with what a task is answered
-abbrev pub unmarked_in : Served → List Place
-unmarked_in (Replied reply) = []
-unmarked_in (Shown lines unmarked) = unmarked.items
 
 -- only an analysis is answered by lines
 abbrev pub IsServedFor : Task → Served → Type 0

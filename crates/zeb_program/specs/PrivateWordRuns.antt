@@ -1,6 +1,6 @@
 -- What only the contracts of private functions speak of; no public clause reaches it.
 -- The parts of what comes of words (this program's own).
-use Rattle.std.specs.Prelude.{◌≡◌, ◌⊎◌, ⊤, ℕ, Bool, false, Option, None, IfSome, Result, Ok, Err, List, String}
+use Rattle.std.specs.Prelude.{◌≡◌, ◌⊎◌, ⊤, ℕ, Bool, false, Option, None, IfErr, IfSome, Result, Ok, Err, List, String}
 use Rattle.std.specs.declared.alloc.AllocError.{AllocError}
 use Rattle.std.specs.declared.alloc.Global.{Global}
 use Rattle.sqlite.specs.Held.{Held, state}
@@ -16,6 +16,7 @@ use Rattle.zeb_paths.specs.Walks.{Tells}
 use Rattle.zeb_paths.specs.declared.causes.Closed.{Closed}
 use Rattle.zeb_paths.specs.declared.causes.PathCause.{PathCause}
 use Rattle.zeb_paths.specs.declared.causes.StoreCause.{StoreCause}
+use Rattle.zeb_paths.specs.declared.paths.Asked.{Asked}
 use Rattle.zeb_profile.specs.declared.directives.Directive.{Directive}
 use Rattle.zeb_register.specs.Formats.{Format, packed_blocks, packed_leaves}
 use Rattle.zeb_words.specs.declared.words.LayoutChoice.{LayoutChoice}
@@ -26,12 +27,12 @@ use Rattle.zeb_program.specs.declared.failures.Failure.{Failure}
 use Rattle.zeb_program.specs.declared.faults.Fault.{Fault}
 use Rattle.zeb_program.specs.declared.faults.Fault.TheVariants.{Refused, Memory}
 use Rattle.zeb_program.specs.declared.line_input.LineFault.TheVariants.{Memory as Starved}
+use Rattle.zeb_program.specs.declared.performing.Performed.{Performed}
 use Rattle.zeb_program.specs.declared.performing.Told.{Told}
 use Rattle.zeb_program.specs.declared.tasks.Task.{Task}
-use Rattle.zeb_program.specs.Answers.{AnswersPart, Writes}
-use Rattle.zeb_program.specs.Doing.{DoesTask, RunsText, ServesText, StopsText}
+use Rattle.zeb_program.specs.Answers.{Writes}
+use Rattle.zeb_program.specs.Doing.{DoesTask, RunsText, ServesText, StopsPart, StopsText}
 use Rattle.zeb_program.specs.FaultAnswers.{IsOpeningFailure, Reaches}
-use Rattle.zeb_program.specs.Serving.{Stops}
 use Rattle.zeb_program.specs.TaskAnswers.{AnswersOn, ReadsWhole, paths_of}
 use Rattle.zeb_program.specs.Registers.{ClosesStore, IsTakenOver, OpensStore, Places, UsedAs}
 use Rattle.zeb_program.specs.ScriptAnswers.{AreConditionsIn, AreScriptConditions, RunsFromNothing}
@@ -41,7 +42,7 @@ use Rattle.zeb_program.specs.FaultLines.{TellsCaused}
 use Rattle.zeb_program.specs.Statuses.{closing_status, greater}
 use Rattle.zeb_program.specs.declared.statuses.Status.{Status}
 use Rattle.zeb_program.specs.Closings.{TellsClosed}
-use Rattle.zeb_program.specs.WordRuns.{ReadsAt}
+use Rattle.zeb_program.specs.WordRuns.{ExplainsTask, IsOwnOr, ReadsAt}
 
 -- ---- a register that is opened
 
@@ -81,8 +82,12 @@ fault_given (Ok x) = Ok x
 fault_given (Err failure) = Err failure.fault
 
 -- this is told of why there is a failure
-abbrev pub ExplainsFailure : Tells → (List ℕ → Option PathCause → Type 0) → List (List ℕ) → Option StoreCause → Failure → Type 0
+abbrev pub ExplainsFailure : Tells → (List ℕ → Asked → Option PathCause → Type 0) → List (List ℕ) → Option StoreCause → Failure → Type 0
 ExplainsFailure at explains named met failure = Explains at explains named met failure.fault failure.cause
+
+-- so it is of a profile that isn't read too
+abbrev pub ExplainsRun : {S : Type 0} → Places S → String Global → Task → Option StoreCause → Failure → Type 0
+ExplainsRun at config task met failure = ExplainsTask at config task met failure.fault failure.cause
 
 -- P is so of what comes of a task: of a reply, whose text is given, or of the fault
 abbrev pub GivesFor : Result Told Failure → (Result Reply Fault → Type 0) → Type 0
@@ -90,13 +95,8 @@ GivesFor (Ok told) P = (reply : Reply) × (told.text.items ≡ reply_text reply)
 GivesFor (Err failure) P = P (Err failure.fault)
 
 -- the same of both, by how the register is closed; and Why is so of what is told of a failure, by what the store has met
-abbrev pub GivesClosed : Result Told Failure → (Closed → Result Reply Fault → Type 0) → (Option StoreCause → Failure → Type 0) → Type 0
-GivesClosed (Ok told) P Why = (reply : Reply) × (told.text.items ≡ reply_text reply) × P told.closed (Ok reply)
-GivesClosed (Err failure) P Why = (closed : Closed) × P closed (Err failure.fault) × Why closed.cause failure
-
--- this one, or memory ran out in the program itself
-abbrev pub IsOwnOr : Result Reply Fault → Result Reply Fault → Type 0
-IsOwnOr answer own = (answer ≡ own) ⊎ (answer ≡ Err Memory)
+abbrev pub GivesClosed : Performed → (Closed → Result Reply Fault → Type 0) → (Option StoreCause → Failure → Type 0) → Type 0
+GivesClosed performed P Why = GivesFor performed.told (P performed.closed) × IfErr performed.told (Why performed.closed.cause)
 
 -- A task is carried out over a connection in this format, which is then closed so.
 pub record ServesHeld {S : Type 0} (g : Ghosts S) (leaves : Closed → S → Type 0) (told : List ℕ → Option (List ℕ)) (at : Tells) (format : Format) (c : Conditions) (task : Task) (held : Held S) (closed : Closed) (answer : Result Reply Fault) : Type 0 where
@@ -110,7 +110,8 @@ pub record ServesHeld {S : Type 0} (g : Ghosts S) (leaves : Closed → S → Typ
 -- what comes of a task on a register in memory that holds nothing yet
 abbrev pub ServesOnNothing : (List ℕ → Option (List ℕ)) → Tells → List Directive → Task → Result Reply Fault → Type 0
 ServesOnNothing told at profile task result =
-    ((c : Conditions) × AreScriptConditions profile c × Reaches at (ReadsWhole task) (paths_of task) result × AnswersOn told c task result nothing_yet)
+    ((own : Result Reply Fault) × IsOwnOr result own × (c : Conditions) × AreScriptConditions profile c × Reaches at (ReadsWhole task) (paths_of task) own
+    × AnswersOn told c task own nothing_yet)
     ⊎ ((why : Refusal) × IsOpeningFailure why × (result ≡ Err (Refused why)))
 
 -- ---- the lines of the input
@@ -133,9 +134,9 @@ EndsSession (Ok answered) result Closing = (closed : Closed) × (result ≡ Ok (
 EndsSession (Err error) result Closing = (closed : Closed) × (result ≡ Err error) × Closing closed
 
 -- the lines of a batch are run so
-abbrev pub RunsIn : {S : Type 0} → Ghosts S → (Closed → S → Type 0) → (List ℕ → Option (List ℕ)) → Format → Conditions → ℕ → List ℕ → Held S → Option (List ℕ) → Option (List ℕ) → Option (List ℕ) → Option (List ℕ) → Status → Type 0
-RunsIn g leaves told format c n text held old new fault_old fault_new status = (answered : Status) × (closed : Closed) × (status ≡ greater answered (closing_status closed))
-    × Closes g leaves held (RunsText g told format c n text old new answered held) fault_old fault_new closed
+abbrev pub RunsIn : {S : Type 0} → Ghosts S → (Closed → S → Type 0) → Tells → Format → Conditions → ℕ → List ℕ → Held S → Option (List ℕ) → Option (List ℕ) → Option (List ℕ) → Option (List ℕ) → Status → Type 0
+RunsIn g leaves at format c n text held old new fault_old fault_new status = (answered : Status) × (closed : Closed) × (status ≡ greater answered (closing_status closed))
+    × Closes g leaves held (RunsText g at format c n text old new answered held) fault_old fault_new closed
 
 -- The lines of a batch are run on a register in memory that holds nothing yet, and the fault output is left alone; or why none was opened is told
 -- there, and nothing else.
@@ -145,17 +146,17 @@ RunsOnNothing told profile n text old new fault_old fault_new status =
     ⊎ ((why : Refusal) × IsOpeningFailure why × Stays old new × Writes fault_old fault_new (λ bytes. TellsCaused (Refused why) None bytes status))
 
 -- and those of a shell
-abbrev pub ServesIn : {S : Type 0} → Ghosts S → (Closed → S → Type 0) → (List ℕ → Option (List ℕ)) → Format → Conditions → Option (List ℕ) → Option (List ℕ) → Bool → Held S → Option (List ℕ) → Option (List ℕ) → Option (List ℕ) → Option (List ℕ) → Status → Type 0
-ServesIn g leaves told format c given left failed held old new fault_old fault_new status =
+abbrev pub ServesIn : {S : Type 0} → Ghosts S → (Closed → S → Type 0) → Tells → Format → Conditions → Option (List ℕ) → Option (List ℕ) → Bool → Held S → Option (List ℕ) → Option (List ℕ) → Option (List ℕ) → Option (List ℕ) → Status → Type 0
+ServesIn g leaves at format c given left failed held old new fault_old fault_new status =
     (between : Option (List ℕ)) × (answered : Status) × (closed : Closed) × (status ≡ greater answered (closing_status closed))
-    × Closes g leaves held (λ last. IfSome given (λ text. ServesText g told format c text left failed old new fault_old between answered held last)) between fault_new closed
+    × Closes g leaves held (λ last. IfSome given (λ text. ServesText g at format c text left failed old new fault_old between answered held last)) between fault_new closed
 
 -- Where memory runs out for the program itself, the first lines of a batch are answered so, or none, and the rest are not.
-abbrev pub StopsIn : {S : Type 0} → Ghosts S → (Closed → S → Type 0) → (List ℕ → Option (List ℕ)) → Conditions → ℕ → List ℕ → Held S → Option (List ℕ) → Option (List ℕ) → Option (List ℕ) → Option (List ℕ) → Type 0
-StopsIn g leaves told c n text held old new fault_old fault_new =
-    (closed : Closed) × Closes g leaves held (λ last. Stops (state g held) old new (AnswersPart told c n text)) fault_old fault_new closed
+abbrev pub StopsIn : {S : Type 0} → Ghosts S → (Closed → S → Type 0) → Tells → Format → Conditions → ℕ → List ℕ → Held S → Option (List ℕ) → Option (List ℕ) → Option (List ℕ) → Option (List ℕ) → Type 0
+StopsIn g leaves at format c n text held old new fault_old fault_new =
+    (closed : Closed) × Closes g leaves held (StopsPart g at format c n text old new held) fault_old fault_new closed
 
 -- and those of a shell
-abbrev pub StopsServing : {S : Type 0} → Ghosts S → (Closed → S → Type 0) → (List ℕ → Option (List ℕ)) → Format → Conditions → Option (List ℕ) → Option (List ℕ) → Held S → Option (List ℕ) → Option (List ℕ) → Option (List ℕ) → Option (List ℕ) → Type 0
-StopsServing g leaves told format c given left held old new fault_old fault_new =
-    (closed : Closed) × Closes g leaves held (λ last. IfSome given (λ text. StopsText g told format c Starved text left old new held last)) fault_old fault_new closed
+abbrev pub StopsServing : {S : Type 0} → Ghosts S → (Closed → S → Type 0) → Tells → Format → Conditions → Option (List ℕ) → Option (List ℕ) → Held S → Option (List ℕ) → Option (List ℕ) → Option (List ℕ) → Option (List ℕ) → Type 0
+StopsServing g leaves at format c given left held old new fault_old fault_new =
+    (closed : Closed) × Closes g leaves held (λ last. IfSome given (λ text. StopsText g at format c Starved text left old new held last)) fault_old fault_new closed

@@ -18,6 +18,7 @@ use Rattle.zeb_paths.specs.declared.causes.Closed.{Closed}
 use Rattle.zeb_paths.specs.declared.causes.PathCause.{PathCause}
 use Rattle.zeb_paths.specs.declared.causes.StoreCause.{StoreCause}
 use Rattle.zeb_paths.specs.declared.causes.StoreCause.TheVariants as store_cause
+use Rattle.zeb_paths.specs.declared.paths.Asked.{Asked}
 use Rattle.zeb_paths.specs.declared.paths.PathKind.{PathKind}
 use Rattle.zeb_paths.specs.Opened.{IsWellOpened}
 use Rattle.zeb_profile.specs.declared.directives.Directive.{Directive}
@@ -32,23 +33,24 @@ use Rattle.zeb_words.specs.declared.words.LayoutChoice.TheVariants.{Leaves, Unsa
 use Rattle.zeb_program.specs.FaultAnswers.{IsOpeningFailure, unopened_refusal}
 
 -- What is known of the paths that a program is given: the bytes of files, what a walk over them sees behind a command, what may be told of why one isn't
--- read, by which connections the store at a path may be opened, where it may not be, where none may stand and where one may, which stores were let go, and
--- how one may be left at its path that was closed.
+-- read, by which connections the store at a path may be opened, where it may not be, where none may stand and where one may, which stores were let go,
+-- how one may be left at its path that was closed, and that none was opened: the paths are as they were.
 pub record Places (S : Type 0) : Type 1 where
   pub store : Ghosts S
   pub tells : List ℕ → Option (List ℕ)
   pub sees : Tells
-  pub explains : List ℕ → Option PathCause → Type 0
+  pub explains : List ℕ → Asked → Option PathCause → Type 0
   pub opens : List ℕ → Held S → Type 0
   pub refuses : List ℕ → Option StoreCause → Type 0
   pub lacks : List ℕ → Type 0
   pub has : List ℕ → Type 0
   pub lets_go : S → Type 0
   pub leaves : Closed → S → Type 0
+  pub untouched : Type 0
 
 -- the same of paths that were these and are those, by what paths tell
 abbrev pub places : {S P : Type 0} → Ghosts S → (P → List ℕ → Option (List ℕ)) → (P → List ℕ → Option (Result PathKind PathCause)) → (P → List ℕ → Option (List (List ℕ)))
-    → (P → List ℕ → Option PathCause → Type 0) → (P → P → List ℕ → Held S → Type 0) → (P → P → List ℕ → Option StoreCause → Type 0) → (P → List ℕ → Type 0) → (P → List ℕ → Type 0) → (P → S → Type 0) → (P → Closed → S → Type 0)
+    → (P → List ℕ → Asked → Option PathCause → Type 0) → (P → P → List ℕ → Held S → Type 0) → (P → P → List ℕ → Option StoreCause → Type 0) → (P → List ℕ → Type 0) → (P → List ℕ → Type 0) → (P → S → Type 0) → (P → Closed → S → Type 0)
     → P → P → Places S
 places store tells stands lists explains opens refuses lacks has lets_go leaves old new = record {
   store = store;
@@ -61,6 +63,7 @@ places store tells stands lists explains opens refuses lacks has lets_go leaves 
   has = has old;
   lets_go = lets_go new;
   leaves = leaves new;
+  untouched = new ≡ old;
 }
 
 -- the store at the path that the profile names may be opened by this connection
@@ -83,7 +86,7 @@ HasStore at profile = AtStore profile at.has
 abbrev pub IsOpenedRegister : State → Type 0
 IsOpenedRegister s = IsWellOpened s × (s.now.schema ≡ store_schema)
 
--- A connection is let go with its store: an open finds then only what it found before.
+-- The store of a connection is let go: an open finds then only what a crash before that would have left.
 abbrev pub IsLetGo : {S : Type 0} → Ghosts S → (S → Type 0) → Held S → Type 0
 IsLetGo {S} g lets_go back = (left : S) × lets_go left × IsQuiet g.view g.faults g.recovers g.is_shielded back.store left
 
@@ -134,15 +137,20 @@ failed_look why = Err why
 abbrev pub FailsLook : State → State → Refusal → Type 0
 FailsLook old new why = OnlyLooks old new (failed_look why)
 
--- Why there is no register in the store at the profile's path, and what is known of the cause: it can't be opened; or it is opened, isn't taken over,
--- and is let go; or it is taken over, and closed, since a look at its version fails: nothing is done to it, and where the store fails it has a cause.
-pub data FailsOpening {S : Type 0} (at : Places S) (profile : List Directive) : Refusal → Option StoreCause → Type 0 where
-  shut : {met : Option StoreCause} → (path : List ℕ) → store_path profile ≡ Some path → at.refuses path met → FailsOpening at profile (unopened_refusal met) met
+-- all stands in the one file, and this is known of why the store may have failed
+abbrev pub whole_but : Option StoreCause → Closed
+whole_but met = record { is_whole = true; cause = met }
+
+-- Why there is no register in the store at the profile's path, and how its store was closed, with what is known of the cause: it can't be opened; or it is
+-- opened, isn't taken over, and is let go; or it is taken over, and closed, since a look at its version fails: nothing is done to it, and where the store
+-- fails it has a cause.
+pub data FailsOpening {S : Type 0} (at : Places S) (profile : List Directive) : Refusal → Closed → Type 0 where
+  shut : {met : Option StoreCause} → (path : List ℕ) → store_path profile ≡ Some path → at.refuses path met → FailsOpening at profile (unopened_refusal met) (whole_but met)
   given_back : {why : Refusal} → {met : Option StoreCause} → (opened : Held S) → (back : Held S) → OpensStore at profile opened → IsForeignCause (state at.store opened) met
-      → IsGivenBack at.store opened back why → IsLetGo at.store at.lets_go back → FailsOpening at profile why met
+      → IsGivenBack at.store opened back why → IsLetGo at.store at.lets_go back → FailsOpening at profile why (whole_but met)
   untold : {why : Refusal} → (closed : Closed) → (opened taken last : Held S) → OpensStore at profile opened → IsOpeningFailure why
       → (HasCleanDisk (state at.store last) → IsTakenOver at.store opened taken × FailsLook (state at.store taken) (state at.store last) why)
-      → ClosesStore at.store at.leaves last closed → FailsOpening at profile why closed.cause
+      → ClosesStore at.store at.leaves last closed → FailsOpening at profile why closed
 
 -- The store at the profile's path is opened by this connection and taken over, and used in this format, at the end it is as the last one, and just
 -- that one is closed. P is so from the one that was taken over to the last, if the disk has given back what was written.
@@ -164,4 +172,4 @@ nothing_met = record { is_whole = true; cause = None }
 -- be made, Q is of one in memory that holds nothing yet, and is in packed blocks
 pub data OnRegister {S : Type 0} (at : Places S) (choice : LayoutChoice) (format : Format) (profile : List Directive) (closed : Closed) (Makes : Type 0) (P : Held S → Held S → Type 0) (Q : Holdings → Type 0) : Type 0 where
   kept : HasStore at profile ⊎ Makes → FromStore at choice format profile closed P → OnRegister at choice format profile closed Makes P Q
-  none : format ≡ packed_blocks → LacksStore at profile → ¬ Makes → closed ≡ nothing_met → Q nothing_yet → OnRegister at choice format profile closed Makes P Q
+  none : format ≡ packed_blocks → LacksStore at profile → ¬ Makes → at.untouched → closed ≡ nothing_met → Q nothing_yet → OnRegister at choice format profile closed Makes P Q

@@ -1,5 +1,6 @@
 -- What a script writes, and its status (this program's own).
 use Rattle.std.specs.Prelude.{◌≡◌, ◌⊎◌, ℕ, Option, Some, Ok, IsOk, List, [], ◌∷◌, ◌++◌, codes}
+use Rattle.std.specs.Io.KnownBytes.{Appends, Keeps}
 use Rattle.zeb_change.specs.Conditions.{Conditions}
 use Rattle.zeb_image.specs.Holdings.{Holdings, nothing_yet}
 use Rattle.zeb_change.specs.declared.refusals.Refusal.TheVariants as refusal
@@ -9,7 +10,7 @@ use Rattle.zeb_profile.specs.Faults.{fault_text}
 use Rattle.zeb_profile.specs.Outcomes.{FailsPlaced}
 use Rattle.zeb_profile.specs.Profiles.{profile_of}
 use Rattle.zeb_register.specs.Formats.{Format, packed_blocks, version_of}
-use Rattle.zeb_program.specs.FixedLines.{refusal_line, unreadable_line}
+use Rattle.zeb_program.specs.FixedLines.{refusal_line, starved_line, unreadable_line}
 use Rattle.zeb_program.specs.Inputs.{IsInput}
 use Rattle.zeb_program.specs.Scripts.{DividesAt, HasNoDivider}
 use Rattle.zeb_program.specs.Answers.{Writes, AnswersBatch, AnswersPart}
@@ -77,6 +78,12 @@ pub data EndsEarly : (List ℕ → Option (List ℕ)) → List ℕ → Option (L
   -- while the input is read
   silent : {told : List ℕ → Option (List ℕ)} {text : List ℕ} {old new : Option (List ℕ)} → Writes old new (λ bytes. bytes ≡ []) → EndsEarly told text old new
 
--- a script is answered, or it ends early, with status 3
-abbrev pub EndsScript : (List ℕ → Option (List ℕ)) → List ℕ → Option (List ℕ) → Option (List ℕ) → Status → Type 0
-EndsScript told text old new status = AnswersScript told text old new status ⊎ (EndsEarly told text old new × (status ≡ Failed))
+-- nothing goes to the fault output, or that memory ran out
+abbrev pub MayStarve : Option (List ℕ) → Option (List ℕ) → Type 0
+MayStarve fault_old fault_new = Keeps fault_old fault_new ⊎ Appends fault_old fault_new starved_line
+
+-- a script is answered, and the fault output is left alone; or it ends early, which is told there, with status 3
+abbrev pub EndsScript : (List ℕ → Option (List ℕ)) → List ℕ → Option (List ℕ) → Option (List ℕ) → Option (List ℕ) → Option (List ℕ) → Status → Type 0
+EndsScript told text old new fault_old fault_new status =
+    (AnswersScript told text old new status × Keeps fault_old fault_new)
+    ⊎ (EndsEarly told text old new × Appends fault_old fault_new starved_line × (status ≡ Failed))

@@ -1,5 +1,5 @@
 -- The files that a walk gives, by their numbers (this program's own).
-use Rattle.std.specs.Prelude.{◌≡◌, ◌≤◌, ◌-◌, ◌∷◌, [], ⊤, ℕ, List, Option, None, Some, Result, Ok, Err, String, length, map, string_bytes}
+use Rattle.std.specs.Prelude.{◌≡◌, ◌≤◌, ◌-◌, ◌∷◌, [], ⊤, ℕ, List, Option, None, Some, IfSome, Result, Ok, Err, String, length, map, string_bytes}
 use Rattle.std.specs.declared.alloc.Global.{Global}
 use Rattle.zeb_paths.specs.Walks.{Due, Tells, WalksOn, due}
 use Rattle.zeb_paths.specs.declared.walk.WalkFault.{WalkFault}
@@ -46,6 +46,17 @@ StopsAt at named path = (files : List (List ℕ)) × (left later : List Due) × 
 abbrev pub GivesAt : Tells → List (List ℕ) → String Global → Type 0
 GivesAt at named path = (files : List (List ℕ)) × (left later : List Due) × WalksFrom at named files left × WalksOn at left (Ok (Some path)) later
 
--- a walk over the named paths comes to its end: each of them is found, and all that stands below one
+-- a walk over the named paths gives these files, in their order, and comes to its end
+abbrev pub FindsFiles : Tells → List (List ℕ) → List (List ℕ) → Type 0
+FindsFiles at named files = (left later : List Due) × WalksFrom at named files left × WalksOn at left (Ok None) later
+
+-- it comes to its end: each of the named paths is found, and all that stands below one
 abbrev pub FindsAll : Tells → List (List ℕ) → Type 0
-FindsAll at named = (files : List (List ℕ)) × (left later : List Due) × WalksFrom at named files left × WalksOn at left (Ok None) later
+FindsAll at named = (files : List (List ℕ)) × FindsFiles at named files
+
+-- These texts may be read of the files at these paths, one of each: where its bytes are told, just they are.
+abbrev pub AreTexts : (List ℕ → Option (List ℕ)) → List (List ℕ) → List (List ℕ) → Type 0
+AreTexts told [] [] = ⊤
+AreTexts told (path ∷ paths) (text ∷ texts) = IfSome (told path) (λ bytes. text ≡ bytes) × AreTexts told paths texts
+AreTexts told [] (text ∷ texts) = ⊥
+AreTexts told (path ∷ paths) [] = ⊥

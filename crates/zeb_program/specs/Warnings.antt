@@ -34,6 +34,11 @@ unmarked_by (Ask command) files = []
 unmarked_by (Change kind database paths) files = []
 unmarked_by (Analyse paths) files = unmarked_of 1 files
 
+-- how many records stand in files with these texts
+abbrev pub records_in : List (List ℕ) → ℕ
+records_in [] = 0
+records_in (text ∷ texts) = length (split_of text).slices + records_in texts
+
 -- ---- the line
 
 -- so many of all records are read as UTF-8 and don't say that they are in Unicode, the first of them at this place
@@ -57,10 +62,10 @@ warning_of (first ∷ others) records = Some (warning_line (length (first ∷ ot
 abbrev pub MayWarn : Task → Option (List ℕ) → Type 0
 MayWarn task warning = IfSome warning (λ line. ReadsWhole task × IsWarning line)
 
--- What a task warns of: where the bytes of a file at each of its paths are told, just of those of their records that don't say so.
+-- What a task warns of: where the bytes of a file at each of its paths are told, just of those of their records that don't say so, among all of them.
 pub record WarnsOf (told : List ℕ → Option (List ℕ)) (task : Task) (warning : Option (List ℕ)) : Type 0 where
   pub line : MayWarn task warning
-  pub places : (files : List (List ℕ)) → AreTold told (paths_of task) files → (records : ℕ) × (warning ≡ warning_of (unmarked_by task files) records)
+  pub places : (files : List (List ℕ)) → AreTold told (paths_of task) files → warning ≡ warning_of (unmarked_by task files) (records_in files)
 
 -- what is written of a warning: nothing, where there is none
 abbrev pub warning_bytes : Option (List ℕ) → List ℕ

@@ -3,32 +3,27 @@ use Rattle.std.specs.Prelude.{◌≡◌, ◌≢◌, ◌⊎◌, ℕ, Bool, Option
 use Rattle.std.specs.declared.alloc.Global.{Global}
 use Rattle.std.specs.Io.KnownBytes.{Appends, IsAtEnd, Keeps}
 use Rattle.zeb_words.specs.Names.{NamesNone, NamesWords}
-use Rattle.zeb_words.specs.Parses.{IsRefusedAs}
+use Rattle.zeb_words.specs.Misuses.{IsRefusedAs}
 use Rattle.zeb_words.specs.declared.words.LayoutChoice.{LayoutChoice}
 use Rattle.zeb_words.specs.declared.words.Words.{Words}
 use Rattle.zeb_words.specs.declared.words.Act.TheVariants.{Batch, Shell}
 use Rattle.zeb_words.specs.declared.words.Usage.{Usage}
 use Rattle.zeb_words.specs.declared.words.Usage.TheVariants.{BadUsage, Refused, Help, Memory}
 use Rattle.zeb_program.specs.declared.tasks.Task.{Task}
-use Rattle.zeb_program.specs.Answers.{Writes}
 use Rattle.zeb_program.specs.Errands.{IsTaskOf, choice_of}
 use Rattle.zeb_paths.specs.declared.causes.Closed.{Closed}
 use Rattle.zeb_program.specs.Closings.{TellsClosed}
 use Rattle.zeb_program.specs.Registers.{Places}
-use Rattle.zeb_program.specs.FixedLines.{usage_line}
-use Rattle.zeb_program.specs.Statuses.{IsFaultStatus, closing_status}
+use Rattle.zeb_program.specs.FixedLines.{misuse_line, starved_line, usage_line}
+use Rattle.zeb_program.specs.Statuses.{closing_status}
 use Rattle.zeb_program.specs.declared.statuses.Status.{Status}
 use Rattle.zeb_program.specs.declared.statuses.Status.TheVariants.{Answered, Misused, Failed}
 use Rattle.zeb_program.specs.Warnings.{WarnsOf, warning_bytes}
-use Rattle.zeb_program.specs.WordRuns.{RunsBatch, RunsShell, StopsBatch, StopsShell, TellsWhy, WritesReply}
+use Rattle.zeb_program.specs.WordRuns.{RunsBatch, RunsShell, StopsBatch, StopsShell, StopsTask, TellsWhy, WritesReply}
 
 -- words that name no command
 abbrev pub NamesNothing : List (List ℕ) → Type 0
 NamesNothing words = (named : Words) → ¬ NamesWords words named
-
--- words that name this task
-abbrev pub NamesTask : List (List ℕ) → Task → Type 0
-NamesTask words task = (named : Words) × NamesWords words named × IsTaskOf named.database named.act task
 
 -- words that name a batch
 abbrev pub NamesBatch : List (List ℕ) → Type 0
@@ -42,16 +37,16 @@ NamesShell words = (named : Words) × NamesWords words named × (named.act ≡ S
 abbrev pub NamesLines : List (List ℕ) → Type 0
 NamesLines words = NamesBatch words ⊎ NamesShell words
 
--- what is written of words that name no command, to the output and to the fault output, and the status: a line, with the parser's
--- text below it where the words are refused by the parser; or the help or the version that is asked for
+-- what is written of words that name no command, to the output and to the fault output, and the status: a line, and below it the cause, or the parser's
+-- text where the words are refused by the parser; or the help or the version that is asked for
 abbrev pub TellsUsage : Usage → Option (List ℕ) → Option (List ℕ) → Option (List ℕ) → Option (List ℕ) → Status → Type 0
-TellsUsage BadUsage old new fault_old fault_new status =
-    (status ≡ Misused) × Keeps old new × Appends fault_old fault_new usage_line
+TellsUsage (BadUsage misuse) old new fault_old fault_new status =
+    (status ≡ Misused) × Keeps old new × Appends fault_old fault_new (usage_line ++ misuse_line misuse)
 TellsUsage (Refused text) old new fault_old fault_new status =
     (status ≡ Misused) × Keeps old new × Appends fault_old fault_new (usage_line ++ string_bytes text)
 TellsUsage (Help text) old new fault_old fault_new status =
     (status ≡ Answered) × Appends old new (string_bytes text) × Keeps fault_old fault_new
-TellsUsage Memory old new fault_old fault_new status = (status ≡ Failed) × Keeps old new × Keeps fault_old fault_new
+TellsUsage Memory old new fault_old fault_new status = (status ≡ Failed) × Keeps old new × Appends fault_old fault_new starved_line
 
 -- what the task warns of goes to the fault output, and nothing else
 abbrev pub Warns : (List ℕ → Option (List ℕ)) → Task → Option (List ℕ) → Option (List ℕ) → Type 0
@@ -62,17 +57,18 @@ abbrev pub WarnsClosed : (List ℕ → Option (List ℕ)) → Task → Closed �
 WarnsClosed told task closed fault_old fault_new = (between : Option (List ℕ)) × Warns told task fault_old between × TellsClosed between fault_new closed
 
 -- the answer to a task that asks for this layout, under the profile in this file, goes to the output, and only a warning to the fault output, and, with status 3, that the
--- register's file needs its log; why there is no answer goes to the fault output alone, as the line of a fault, with the status of that fault, and below
--- it its cause
+-- register's file needs its log; why there is no answer goes to the fault output alone, as the line of a fault, with the status of that fault, below it
+-- its cause, and, with status 3 too, that the register's file needs its log
 abbrev pub TellsApart : {S : Type 0} → Places S → LayoutChoice → String Global → Task → Option (List ℕ) → Option (List ℕ) → Option (List ℕ) → Option (List ℕ) → Status → Type 0
 TellsApart at choice config task old new fault_old fault_new status =
     ((closed : Closed) × (status ≡ closing_status closed) × WritesReply at choice config task closed old new × WarnsClosed at.tells task closed fault_old fault_new)
-    ⊎ (IsFaultStatus status × Keeps old new × Writes fault_old fault_new (TellsWhy at choice config task status))
+    ⊎ (Keeps old new × TellsWhy at choice config task fault_old fault_new status)
 
 -- What is written for words, and the status: of an input that has this before, where it tells that, and this behind, and of which a read failed or didn't.
 pub data AnswersWords {S : Type 0} (at : Places S) (words : List (List ℕ)) (given left : Option (List ℕ)) (failed : Bool) (old new fault_old fault_new : Option (List ℕ)) (status : Status) : Type 0 where
-  -- words that name no command; which of the ways it is, is the parser's to say
-  misused : (usage : Usage) → NamesNone words usage → IsRefusedAs words usage → TellsUsage usage old new fault_old fault_new status
+  -- words of which no command is read: they name none, ask for help, or memory runs out at them; which of these it is, is the parser's to say. No store
+  -- is opened then, and no byte of the input is gone.
+  misused : (usage : Usage) → NamesNone words usage → IsRefusedAs words usage → at.untouched → left ≡ given → TellsUsage usage old new fault_old fault_new status
       → AnswersWords at words given left failed old new fault_old fault_new status
   -- words that name a batch, whose lines' answers and refusals go to the output
   batched : (named : Words) → NamesWords words named → named.act ≡ Batch → RunsBatch at named.config given failed old new fault_old fault_new status
@@ -84,16 +80,18 @@ pub data AnswersWords {S : Type 0} (at : Places S) (words : List (List ℕ)) (gi
   named : (named : Words) → (task : Task) → NamesWords words named → IsTaskOf named.database named.act task
       → TellsApart at (choice_of named.act) named.config task old new fault_old fault_new status → AnswersWords at words given left failed old new fault_old fault_new status
 
--- what is written for them where memory runs out for the program itself: nothing, where they name a task; of a batch and of a shell the answers of
--- the first lines, or nothing
+-- what is written for them where memory runs out for the program itself: nothing, where they name a task, and what it has done stays; of a batch and of
+-- a shell the answers of the first lines, or nothing
 pub data StopsWords {S : Type 0} (at : Places S) (words : List (List ℕ)) (given left old new fault_old fault_new : Option (List ℕ)) : Type 0 where
-  stopped_task : (task : Task) → NamesTask words task → Keeps old new → Keeps fault_old fault_new → StopsWords at words given left old new fault_old fault_new
+  stopped_task : (named : Words) → (task : Task) → NamesWords words named → IsTaskOf named.database named.act task → StopsTask at (choice_of named.act) named.config task fault_old fault_new
+      → Keeps old new → StopsWords at words given left old new fault_old fault_new
   stopped_batch : (named : Words) → NamesWords words named → named.act ≡ Batch → StopsBatch at named.config given old new fault_old fault_new
       → StopsWords at words given left old new fault_old fault_new
   stopped_shell : (named : Words) → NamesWords words named → named.act ≡ Shell → StopsShell at named.config given left old new fault_old fault_new
       → StopsWords at words given left old new fault_old fault_new
 
--- words are answered, or memory runs out for the program itself, with status 3
+-- words are answered, or memory runs out for the program itself, which is told below what is told, with status 3
 abbrev pub EndsWords : {S : Type 0} → Places S → List (List ℕ) → Option (List ℕ) → Option (List ℕ) → Bool → Option (List ℕ) → Option (List ℕ) → Option (List ℕ) → Option (List ℕ) → Status → Type 0
 EndsWords at words given left failed old new fault_old fault_new status =
-    AnswersWords at words given left failed old new fault_old fault_new status ⊎ (StopsWords at words given left old new fault_old fault_new × (status ≡ Failed))
+    AnswersWords at words given left failed old new fault_old fault_new status
+    ⊎ ((between : Option (List ℕ)) × StopsWords at words given left old new fault_old between × Appends between fault_new starved_line × (status ≡ Failed))

@@ -1,9 +1,8 @@
 -- What comes of words that name a task, a batch or a shell (this program's own): under the profile in the file that they name, and on the register
 -- that it names.
-use Rattle.std.specs.Prelude.{◌≡◌, ◌⊎◌, ℕ, Bool, false, codes, Option, None, IfSome, Result, Ok, Err, List, String, string_bytes}
+use Rattle.std.specs.Prelude.{◌≡◌, ◌⊎◌, ℕ, Bool, false, codes, Option, None, Some, IfSome, Result, Ok, Err, List, String, string_bytes}
 use Rattle.std.specs.declared.alloc.Global.{Global}
 use Rattle.std.specs.Io.KnownBytes.{Appends, Keeps}
-use Rattle.sqlite.specs.Held.{state}
 use Rattle.zeb_change.specs.Conditions.{Conditions}
 use Rattle.zeb_change.specs.declared.refusals.Refusal.{Refusal}
 use Rattle.zeb_engine.specs.declared.commands.Command.TheVariants.{Init}
@@ -13,27 +12,31 @@ use Rattle.zeb_profile.specs.declared.directives.Directive.{Directive}
 use Rattle.zeb_register.specs.Formats.{Format}
 use Rattle.zeb_paths.specs.declared.causes.Closed.{Closed}
 use Rattle.zeb_paths.specs.declared.causes.StoreCause.{StoreCause}
+use Rattle.zeb_paths.specs.declared.paths.Asked.TheVariants.{Text}
 use Rattle.zeb_words.specs.declared.words.LayoutChoice.{LayoutChoice}
 use Rattle.zeb_words.specs.declared.words.LayoutChoice.TheVariants.{Unsaid}
-use Rattle.zeb_program.specs.Explanations.{Explains, ExplainsUnread, NamesRegister, refusal_cause}
+use Rattle.zeb_program.specs.Explanations.{Explains, ExplainsUnread, refusal_cause}
 use Rattle.zeb_program.specs.declared.failures.Cause.{Cause}
 use Rattle.zeb_program.specs.declared.faults.Fault.{Fault}
 use Rattle.zeb_program.specs.declared.faults.Fault.TheVariants.{Unreadable, Refused, Memory}
 use Rattle.zeb_program.specs.declared.line_input.LineFault.TheVariants.{Memory as Starved}
 use Rattle.zeb_program.specs.declared.tasks.Task.{Task}
 use Rattle.zeb_program.specs.declared.tasks.Task.TheVariants.{Ask}
-use Rattle.zeb_program.specs.Answers.{AnswersPart, Writes}
-use Rattle.zeb_program.specs.Doing.{DoesTask, RunsText, ServesText, StopsText}
+use Rattle.zeb_program.specs.Answers.{Writes}
+use Rattle.zeb_program.specs.Doing.{DoesTask, RunsText, ServesText, StopsPart, StopsText}
 use Rattle.zeb_program.specs.FaultAnswers.{IsOpeningFailure, Reaches}
-use Rattle.zeb_program.specs.FaultLines.{TellsCaused, TellsPlaced}
+use Rattle.zeb_program.specs.FaultLines.{TellsCaused}
 use Rattle.zeb_program.specs.Inputs.{IsInput}
 use Rattle.zeb_program.specs.ProfileFiles.{ReadsProfile}
 use Rattle.zeb_program.specs.Registers.{FailsOpening, FromStore, HasStore, LacksStore, OnRegister, Places, nothing_met}
-use Rattle.zeb_program.specs.Closings.{TellsClosed}
+use Rattle.zeb_program.specs.Closings.{TellsClosed, TellsLeft}
+use Rattle.zeb_program.specs.InputCauses.{IsTextCause}
+use Rattle.zeb_program.specs.Unanswered.{TellsUnanswered}
+use Rattle.zeb_program.specs.declared.failures.Cause.TheVariants.{Text as TextOf}
+use Rattle.zeb_program.specs.declared.input.TextCause.{TextCause}
 use Rattle.zeb_program.specs.ScriptAnswers.{AnswersStopped, AreConditionsIn, RunsFromNothing}
 use Rattle.zeb_program.specs.Scripts.{BeginsRegister}
 use Rattle.zeb_program.specs.Statuses.{closing_status, greater}
-use Rattle.zeb_program.specs.Serving.{Stops}
 use Rattle.zeb_program.specs.TaskAnswers.{AnswersOn, ReadsWhole, paths_of}
 use Rattle.zeb_program.specs.declared.statuses.Status.{Status}
 
@@ -43,22 +46,26 @@ ReadsAt at config read = ReadsProfile (at.tells (string_bytes config)) config re
 
 -- ---- a task
 
+-- this is answered, or memory ran out in the program itself behind it
+abbrev pub IsOwnOr : Result Reply Fault → Result Reply Fault → Type 0
+IsOwnOr answer own = (answer ≡ own) ⊎ (answer ≡ Err Memory)
+
 -- What comes of a task under a profile, where this layout was asked for and its register was closed so; where none was opened, this is known of why.
 pub data ServesUnder {S : Type 0} (at : Places S) (choice : LayoutChoice) (profile : List Directive) (task : Task) (closed : Closed) : Result Reply Fault → Type 0 where
-  -- the answer of the register, or that one of the task's paths can't be read, or one below them
-  answered : {result : Result Reply Fault} → (format : Format) → (c : Conditions) → AreConditionsIn format profile c
-      → OnRegister at choice format profile closed (task ≡ Ask Init) (DoesTask at.store at.tells at.sees format c task result)
-      (λ before. Reaches at.sees (ReadsWhole task) (paths_of task) result × AnswersOn at.tells c task result before) → ServesUnder at choice profile task closed result
-  -- or memory ran out for the program itself
-  starved : ServesUnder at choice profile task closed (Err Memory)
+  -- The answer of the register, or that one of the task's paths can't be read, or one below them. Or memory ran out for the program itself behind that:
+  -- then it is done all the same.
+  answered : {result : Result Reply Fault} → (own : Result Reply Fault) → IsOwnOr result own → (format : Format) → (c : Conditions) → AreConditionsIn format profile c
+      → OnRegister at choice format profile closed (task ≡ Ask Init) (DoesTask at.store at.tells at.sees format c task own)
+      (λ before. Reaches at.sees (ReadsWhole task) (paths_of task) own × AnswersOn at.tells c task own before) → ServesUnder at choice profile task closed result
   -- or why none is opened
-  unopened : {why : Refusal} → HasStore at profile ⊎ (task ≡ Ask Init) → FailsOpening at profile why closed.cause → ServesUnder at choice profile task closed (Err (Refused why))
+  unopened : {why : Refusal} → HasStore at profile ⊎ (task ≡ Ask Init) → FailsOpening at profile why closed → ServesUnder at choice profile task closed (Err (Refused why))
   -- or why none is made in memory, where none stands there and none is to be made
-  none_made : {why : Refusal} → LacksStore at profile → ¬ (task ≡ Ask Init) → IsOpeningFailure why → closed ≡ nothing_met → ServesUnder at choice profile task closed (Err (Refused why))
+  none_made : {why : Refusal} → LacksStore at profile → ¬ (task ≡ Ask Init) → at.untouched → IsOpeningFailure why → closed ≡ nothing_met → ServesUnder at choice profile task closed (Err (Refused why))
 
--- what comes of a task by the profile in this file: no more than its fault, where it isn't read
+-- what comes of a task by the profile in this file: no more than its fault, where it isn't read, and then no store is opened, so
+-- none fails
 pub data Performs {S : Type 0} (at : Places S) (choice : LayoutChoice) (config : String Global) (task : Task) (closed : Closed) : Result Reply Fault → Type 0 where
-  unread : {fault : Fault} → ReadsAt at config (Err fault) → Performs at choice config task closed (Err fault)
+  unread : {fault : Fault} → at.untouched → ReadsAt at config (Err fault) → closed ≡ nothing_met → Performs at choice config task closed (Err fault)
   performed : {result : Result Reply Fault} → (profile : List Directive) → ReadsAt at config (Ok profile) → ServesUnder at choice profile task closed result
       → Performs at choice config task closed result
 
@@ -66,31 +73,45 @@ pub data Performs {S : Type 0} (at : Places S) (choice : LayoutChoice) (config :
 abbrev pub WritesReply : {S : Type 0} → Places S → LayoutChoice → String Global → Task → Closed → Option (List ℕ) → Option (List ℕ) → Type 0
 WritesReply at choice config task closed old new = (reply : Reply) × Performs at choice config task closed (Ok reply) × Appends old new (reply_text reply)
 
--- the lines of a fault that comes of the task, and of what is known of why; and of one about the register its path
-abbrev pub TellsWhy : {S : Type 0} → Places S → LayoutChoice → String Global → Task → Status → List ℕ → Type 0
-TellsWhy at choice config task status bytes =
+-- this is told of a profile that isn't read; or, where one was read, of a fault of the task, where this is known of why a store failed
+abbrev pub ExplainsTask : {S : Type 0} → Places S → String Global → Task → Option StoreCause → Fault → Option Cause → Type 0
+ExplainsTask at config task met fault cause =
+    (ReadsAt at config (Err fault) × ExplainsUnread at.explains Text fault cause)
+    ⊎ (((profile : List Directive) × ReadsAt at config (Ok profile)) × Explains at.sees at.explains (paths_of task) met fault cause)
+
+-- the lines of a fault that comes of the task, and of what is known of why; of one about the register its path; and that its file needs its log
+abbrev pub TellsWhy : {S : Type 0} → Places S → LayoutChoice → String Global → Task → Option (List ℕ) → Option (List ℕ) → Status → Type 0
+TellsWhy at choice config task fault_old fault_new status =
     (fault : Fault) × (cause : Option Cause) × (closed : Closed) × Performs at choice config task closed (Err fault)
-    × Explains at.sees at.explains (paths_of task) closed.cause fault cause
-    × ((register : Option (String Global)) × NamesRegister (at.sees.bytes (string_bytes config)) config fault register × TellsPlaced fault cause register bytes status)
+    × ExplainsTask at config task closed.cause fault cause
+    × TellsUnanswered (at.sees.bytes (string_bytes config)) config fault cause closed fault_old fault_new status
+
+-- Memory ran out for the program itself at a task, of which nothing is told then: no store was opened; or this fault comes of the task, and found no memory
+-- for its lines, and only that the register's file needs its log is told. The task may be done then, for want of memory comes behind any answer.
+abbrev pub StopsTask : {S : Type 0} → Places S → LayoutChoice → String Global → Task → Option (List ℕ) → Option (List ℕ) → Type 0
+StopsTask at choice config task fault_old fault_new =
+    (at.untouched × Keeps fault_old fault_new)
+    ⊎ ((fault : Fault) × (closed : Closed) × Performs at choice config task closed (Err fault) × TellsLeft fault_old fault_new closed)
 
 -- ---- the lines of the input
 
--- why no line is run, and what is told of that: the profile isn't read, or no register is opened
-pub data StopsOpening {S : Type 0} (at : Places S) (config : String Global) : Fault → Option Cause → Type 0 where
-  not_read : {fault : Fault} → {cause : Option Cause} → ReadsAt at config (Err fault) → ExplainsUnread at.explains fault cause → StopsOpening at config fault cause
-  not_opened : {why : Refusal} → {cause : Option Cause} → (met : Option StoreCause) → (profile : List Directive) → ReadsAt at config (Ok profile) → FailsOpening at profile why met
-      → cause ≡ refusal_cause why met → StopsOpening at config (Refused why) cause
+-- why no line is run, what is told of that, and how the register's store was closed: the profile isn't read, and no store is opened; or no register is
+pub data StopsOpening {S : Type 0} (at : Places S) (config : String Global) : Fault → Option Cause → Closed → Type 0 where
+  not_read : {fault : Fault} → {cause : Option Cause} → at.untouched → ReadsAt at config (Err fault) → ExplainsUnread at.explains Text fault cause → StopsOpening at config fault cause nothing_met
+  not_opened : {why : Refusal} → {cause : Option Cause} → {closed : Closed} → (profile : List Directive) → ReadsAt at config (Ok profile) → FailsOpening at profile why closed
+      → cause ≡ refusal_cause why closed.cause → StopsOpening at config (Refused why) cause closed
 
--- the fault of an input that can't be read: it is too long or no text, where it tells its bytes and no read failed
-abbrev pub IsInputFault : Option (List ℕ) → Bool → Fault → Type 0
-IsInputFault given failed fault =
-    (path : String Global) × (fault ≡ Unreadable path) × (string_bytes path ≡ codes "input") × (failed ≡ false → IfSome given (λ bytes. ¬ IsInput bytes))
+-- the fault of an input that can't be read, with its cause: it is too long or no text, or a read failed
+abbrev pub IsInputFault : Option (List ℕ) → Bool → Fault → Option Cause → Type 0
+IsInputFault given failed fault cause =
+    (path : String Global) × (fault ≡ Unreadable path) × (string_bytes path ≡ codes "input")
+    × (why : TextCause) × IsTextCause given failed why × (cause ≡ Some (TextOf why))
 
 -- why no line of a batch is run, and what is told of that: the profile isn't read; or it is, and the input can't be
 abbrev pub StopsReading : {S : Type 0} → Places S → String Global → Option (List ℕ) → Bool → Fault → Option Cause → Type 0
 StopsReading at config given failed fault cause =
-    (ReadsAt at config (Err fault) × ExplainsUnread at.explains fault cause)
-    ⊎ ((profile : List Directive) × ReadsAt at config (Ok profile) × IsInputFault given failed fault × (cause ≡ None))
+    (ReadsAt at config (Err fault) × ExplainsUnread at.explains Text fault cause)
+    ⊎ ((profile : List Directive) × ReadsAt at config (Ok profile) × IsInputFault given failed fault cause)
 
 -- the lines of an input, which are these where it tells its bytes
 abbrev pub IsText : Option (List ℕ) → List ℕ → Type 0
@@ -98,57 +119,60 @@ IsText given text = IsInput text × IfSome given (λ bytes. text ≡ bytes)
 
 -- The lines of a text are run as a batch, numbered from 1: on the register in the store, or, where none stands there and no line begins one, on one in
 -- memory as those of a script. This is the greatest status met.
-pub data RunsLines {S : Type 0} (at : Places S) (profile : List Directive) (text : List ℕ) (old new fault_old fault_new : Option (List ℕ)) : Status → Type 0 where
+pub data RunsLines {S : Type 0} (at : Places S) (config : String Global) (profile : List Directive) (text : List ℕ) (old new fault_old fault_new : Option (List ℕ)) : Status → Type 0 where
   on_store : (format : Format) → (c : Conditions) → (answered : Status) → (closed : Closed) → AreConditionsIn format profile c → HasStore at profile ⊎ BeginsRegister text
-      → FromStore at Unsaid format profile closed (RunsText at.store at.tells format c 0 text old new answered)
-      → TellsClosed fault_old fault_new closed → RunsLines at profile text old new fault_old fault_new (greater answered (closing_status closed))
-  in_memory : {status : Status} → LacksStore at profile → ¬ BeginsRegister text → Keeps fault_old fault_new
-      → RunsFromNothing at.tells profile 0 text old new status → RunsLines at profile text old new fault_old fault_new status
-  no_memory : {why : Refusal} → {status : Status} → LacksStore at profile → ¬ BeginsRegister text → IsOpeningFailure why → Keeps old new → Writes fault_old fault_new (λ bytes. TellsCaused (Refused why) None bytes status)
-      → RunsLines at profile text old new fault_old fault_new status
-  no_register : {why : Refusal} → {met : Option StoreCause} → {status : Status} → HasStore at profile ⊎ BeginsRegister text → FailsOpening at profile why met → Keeps old new
-      → Writes fault_old fault_new (λ bytes. TellsCaused (Refused why) (refusal_cause why met) bytes status)
-      → RunsLines at profile text old new fault_old fault_new status
+      → FromStore at Unsaid format profile closed (RunsText at.store at.sees format c 0 text old new answered)
+      → TellsClosed fault_old fault_new closed → RunsLines at config profile text old new fault_old fault_new (greater answered (closing_status closed))
+  in_memory : {status : Status} → LacksStore at profile → ¬ BeginsRegister text → at.untouched → Keeps fault_old fault_new
+      → RunsFromNothing at.tells profile 0 text old new status → RunsLines at config profile text old new fault_old fault_new status
+  no_memory : {why : Refusal} → {status : Status} → LacksStore at profile → ¬ BeginsRegister text → at.untouched → IsOpeningFailure why → Keeps old new → Writes fault_old fault_new (λ bytes. TellsCaused (Refused why) None bytes status)
+      → RunsLines at config profile text old new fault_old fault_new status
+  no_register : {why : Refusal} → {closed : Closed} → {status : Status} → HasStore at profile ⊎ BeginsRegister text → FailsOpening at profile why closed → Keeps old new
+      → TellsUnanswered (at.sees.bytes (string_bytes config)) config (Refused why) (refusal_cause why closed.cause) closed fault_old fault_new status
+      → RunsLines at config profile text old new fault_old fault_new status
 
 -- what is written for a batch, and its status, where `failed` says whether a read of the input failed
 pub data RunsBatch {S : Type 0} (at : Places S) (config : String Global) (given : Option (List ℕ)) (failed : Bool) (old new fault_old fault_new : Option (List ℕ)) (status : Status) : Type 0 where
-  batch_stopped : (fault : Fault) → (cause : Option Cause) → StopsReading at config given failed fault cause → Keeps old new
+  batch_stopped : (fault : Fault) → (cause : Option Cause) → at.untouched → StopsReading at config given failed fault cause → Keeps old new
       → Writes fault_old fault_new (λ bytes. TellsCaused fault cause bytes status) → RunsBatch at config given failed old new fault_old fault_new status
   batch_ran : (profile : List Directive) → (text : List ℕ) → ReadsAt at config (Ok profile) → IsText given text
-      → RunsLines at profile text old new fault_old fault_new status → RunsBatch at config given failed old new fault_old fault_new status
+      → RunsLines at config profile text old new fault_old fault_new status → RunsBatch at config given failed old new fault_old fault_new status
 
 -- what is written for a shell, and its status, where this is left of the input, and `failed` says whether a read of it failed
 pub data RunsShell {S : Type 0} (at : Places S) (config : String Global) (given left : Option (List ℕ)) (failed : Bool) (old new fault_old fault_new : Option (List ℕ)) : Status → Type 0 where
   -- no register is opened, and no byte of the input is gone
-  shell_stopped : {status : Status} → (fault : Fault) → (cause : Option Cause) → StopsOpening at config fault cause → left ≡ given → Keeps old new
-      → Writes fault_old fault_new (λ bytes. TellsCaused fault cause bytes status) → RunsShell at config given left failed old new fault_old fault_new status
+  shell_stopped : {status : Status} → (fault : Fault) → (cause : Option Cause) → (closed : Closed) → StopsOpening at config fault cause closed → left ≡ given → Keeps old new
+      → TellsUnanswered (at.sees.bytes (string_bytes config)) config fault cause closed fault_old fault_new status → RunsShell at config given left failed old new fault_old fault_new status
   shell_ran : (profile : List Directive) → (format : Format) → (c : Conditions) → (between : Option (List ℕ)) → (answered : Status) → (closed : Closed)
       → ReadsAt at config (Ok profile) → AreConditionsIn format profile c
       → FromStore at Unsaid format profile closed (λ first last. IfSome given
-      (λ text. ServesText at.store at.tells format c text left failed old new fault_old between answered first last))
+      (λ text. ServesText at.store at.sees format c text left failed old new fault_old between answered first last))
       → TellsClosed between fault_new closed → RunsShell at config given left failed old new fault_old fault_new (greater answered (closing_status closed))
 
 -- ---- where memory runs out for the program itself
 
 -- Of the lines of a text that are run as a batch the first are answered, or none, and the rest are not: on the register in the store, on one in
--- memory, or before one is opened.
+-- memory, or none where no register is opened.
 pub data StopsLines {S : Type 0} (at : Places S) (profile : List Directive) (text : List ℕ) (old new fault_old fault_new : Option (List ℕ)) : Type 0 where
   part_on_store : (format : Format) → (c : Conditions) → (closed : Closed) → AreConditionsIn format profile c → HasStore at profile ⊎ BeginsRegister text
-      → FromStore at Unsaid format profile closed (λ first _. Stops (state at.store first) old new (AnswersPart at.tells c 0 text))
+      → FromStore at Unsaid format profile closed (StopsPart at.store at.sees format c 0 text old new)
       → TellsClosed fault_old fault_new closed → StopsLines at profile text old new fault_old fault_new
-  part_in_memory : LacksStore at profile → ¬ BeginsRegister text → Keeps fault_old fault_new
+  part_in_memory : LacksStore at profile → ¬ BeginsRegister text → at.untouched → Keeps fault_old fault_new
       → AnswersStopped at.tells profile 0 text old new → StopsLines at profile text old new fault_old fault_new
-  no_line : Keeps old new → Keeps fault_old fault_new → StopsLines at profile text old new fault_old fault_new
+  no_line : {why : Refusal} → {closed : Closed} → HasStore at profile ⊎ BeginsRegister text → FailsOpening at profile why closed → Keeps old new
+      → TellsLeft fault_old fault_new closed → StopsLines at profile text old new fault_old fault_new
 
--- what is written for a batch then: nothing, or the answers of its first lines
+-- what is written for a batch then: nothing, where no store is opened, or the answers of its first lines
 pub data StopsBatch {S : Type 0} (at : Places S) (config : String Global) (given old new fault_old fault_new : Option (List ℕ)) : Type 0 where
-  batch_silent : Keeps old new → Keeps fault_old fault_new → StopsBatch at config given old new fault_old fault_new
+  batch_silent : at.untouched → Keeps old new → Keeps fault_old fault_new → StopsBatch at config given old new fault_old fault_new
   batch_part : (profile : List Directive) → (text : List ℕ) → ReadsAt at config (Ok profile) → IsText given text
       → StopsLines at profile text old new fault_old fault_new → StopsBatch at config given old new fault_old fault_new
 
--- and for a shell, where this is left of the input
+-- and for a shell, where this is left of the input: nothing, where no register is opened, and then no byte of the input is gone; or the answers of the
+-- first lines
 pub data StopsShell {S : Type 0} (at : Places S) (config : String Global) (given left old new fault_old fault_new : Option (List ℕ)) : Type 0 where
-  shell_silent : Keeps old new → Keeps fault_old fault_new → StopsShell at config given left old new fault_old fault_new
+  shell_silent : {fault : Fault} → {cause : Option Cause} → {closed : Closed} → StopsOpening at config fault cause closed → left ≡ given → Keeps old new → TellsLeft fault_old fault_new closed
+      → StopsShell at config given left old new fault_old fault_new
   shell_part : (profile : List Directive) → (format : Format) → (c : Conditions) → (closed : Closed) → ReadsAt at config (Ok profile) → AreConditionsIn format profile c
-      → FromStore at Unsaid format profile closed (λ first last. IfSome given (λ text. StopsText at.store at.tells format c Starved text left old new first last))
+      → FromStore at Unsaid format profile closed (λ first last. IfSome given (λ text. StopsText at.store at.sees format c Starved text left old new first last))
       → TellsClosed fault_old fault_new closed → StopsShell at config given left old new fault_old fault_new

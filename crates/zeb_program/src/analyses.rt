@@ -8,7 +8,6 @@ ghost use Rattle.zeb_program.specs.Inputs.{AreShort};
 ghost use Rattle.zeb_program.specs.PrivateAnalyses.{ReadsFiles};
 ghost use Rattle.zeb_program.specs.PrivateFaults.{IsUnreadAt};
 ghost use Rattle.zeb_program.specs.TaskAnswers.{AreTold};
-ghost use Rattle.zeb_program.specs.WalkedFiles.{FindsAll};
 ghost use Rattle.zeb_program.specs.declared.faults.Fault.TheVariants.{Memory};
 
 use crate::faults::Fault;
@@ -38,8 +37,10 @@ pub fn analyse_files<S: Alter, L: Layout, P: Paths>(
     paths: &P,
     named: &[String],
 ) -> Result<AnalysedFiles, Fault>
-    ensures reads { IfOk result (ReadsFiles (P.tells paths.now) session.now.profile
-        session.now.limits.records (map string_bytes named.now)) }
+    // All of them, and no other.
+    ensures reads { IfOk result (ReadsFiles
+        (telling (P.tells paths.now) (P.stands paths.now) (P.lists paths.now))
+        session.now.profile session.now.limits.records (map string_bytes named.now)) }
     // Files whose bytes are told are refused where one has more bytes than a file may have, and else only for want of memory.
     ensures reason { (files : List (List ℕ)) → AreTold (P.tells paths.now)
         (map string_bytes named.now) files
@@ -47,13 +48,12 @@ pub fn analyse_files<S: Alter, L: Layout, P: Paths>(
     ensures unread { IfErr result (IsUnreadAt (P.tells paths.now)) }
     ensures met { IfErr result (NamesMet (telling (P.tells paths.now) (P.stands paths.now)
         (P.lists paths.now)) ⊤ (map string_bytes named.now)) }
-    ensures found { IfOk result (λ _. FindsAll (telling (P.tells paths.now) (P.stands paths.now)
-        (P.lists paths.now)) (map string_bytes named.now)) }
 {
     let mut buffer = RecordBuf::new(alloc)?;
     let mut unmarked = Vec::new(alloc);
     let mut lines = session.begin_analysis();
     let mut walk = Walk::new(alloc, paths, named)?;
+    // The walk ends by itself; a file's number is counted, since it is told.
     for file in 1..u64::MAX {
         let Some(path) = walk.next_file()? else {
             return Ok(AnalysedFiles { lines, unmarked });

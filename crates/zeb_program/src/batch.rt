@@ -1,6 +1,7 @@
 //! A batch: commands in one session, one on a line.
 
 ghost use Rattle.std.specs.Prelude.{◌≡◌, ◌++◌, ◌∷◌, [], false, IfOk, OnErr};
+ghost use Rattle.zeb_paths.specs.Walks.{telling};
 ghost use Rattle.zeb_register.specs.Formats.{version_of};
 ghost use Rattle.sqlite.specs.Held.{state};
 ghost use Rattle.sqlite.specs.State.{HasCleanDisk};
@@ -8,11 +9,12 @@ ghost use Rattle.zeb_change.specs.Conditions.{conditions};
 ghost use Rattle.zeb_engine.specs.Refusals.{refusal_text};
 ghost use Rattle.zeb_program.specs.ScriptAnswers.{AnswersOpened, AnswersStopped};
 ghost use Rattle.std.specs.Io.KnownBytes.{Appends};
-ghost use Rattle.zeb_program.specs.Answers.{Writes, bad_line, mark_line, IsAnswer, AnswersAsTold, AnswersBatch, AnswersPart};
-ghost use Rattle.zeb_program.specs.OverTables.{CommandOver, LineOver, LinesOver};
+ghost use Rattle.zeb_program.specs.Answers.{Writes, bad_line, mark_line, IsAnswer, AnswersAsTold, AnswersBatch};
+ghost use Rattle.zeb_program.specs.Doing.{StopsLine, StopsPart};
+ghost use Rattle.zeb_program.specs.OverTables.{CommandOver, LineOver, LinesOver, ServesOver};
 ghost use Rattle.zeb_program.specs.PrivateServing.{Leads};
 ghost use Rattle.zeb_program.specs.PrivateWordRuns.{RunsOnNothing};
-ghost use Rattle.zeb_program.specs.Serving.{LeadsOn, Stops};
+ghost use Rattle.zeb_program.specs.Serving.{LeadsOn};
 ghost use Rattle.zeb_program.specs.Statuses.{IsFaultStatus, refusal_status};
 
 use crate::failures::{Failure, tell_failure};
@@ -99,16 +101,16 @@ pub fn run_lines<S: Alter, L: Layout, P: Paths, W: Write>(
     ensures over { IfOk result (λ status. output.new.failed ≡ false
         → HasCleanDisk (state S.Store session.new.connection)
         → Writes (W.contents output.old.writer) (W.contents output.new.writer)
-        (λ bytes. LinesOver S.Store (P.tells paths.now) L.format
-        (conditions (version_of L.format) session.old.profile session.old.limits)
-        batch.entry.lines_before batch.entry.text.now session.old.connection bytes status
-        session.new.connection)) }
+        (λ bytes. LinesOver S.Store (telling (P.tells paths.now) (P.stands paths.now)
+        (P.lists paths.now)) L.format (conditions (version_of L.format) session.old.profile
+        session.old.limits) batch.entry.lines_before batch.entry.text.now session.old.connection
+        bytes status session.new.connection)) }
     ensures stopped { OnErr result (output.new.failed ≡ false
-        → HasCleanDisk (state S.Store session.new.connection)
-        → Stops (state S.Store session.old.connection)
-        (W.contents output.old.writer) (W.contents output.new.writer)
-        (AnswersPart (P.tells paths.now) (conditions (version_of L.format) session.old.profile
-        session.old.limits) batch.entry.lines_before batch.entry.text.now)) }
+        → HasCleanDisk (state S.Store session.new.connection) → StopsPart S.Store
+        (telling (P.tells paths.now) (P.stands paths.now) (P.lists paths.now)) L.format
+        (conditions (version_of L.format) session.old.profile session.old.limits)
+        batch.entry.lines_before batch.entry.text.now (W.contents output.old.writer)
+        (W.contents output.new.writer) session.old.connection session.new.connection) }
     ensures clean { HasCleanDisk (state S.Store session.new.connection)
         → HasCleanDisk (state S.Store session.old.connection) }
 {
@@ -145,10 +147,16 @@ pub fn run_line<S: Alter, L: Layout, P: Paths, W: Write>(
     ensures over { IfOk result (λ status. output.new.failed ≡ false
         → HasCleanDisk (state S.Store session.new.connection)
         → Writes (W.contents output.old.writer) (W.contents output.new.writer)
-        (λ bytes. LineOver S.Store (P.tells paths.now) L.format
-        (conditions (version_of L.format) session.old.profile session.old.limits) number line.now
+        (λ bytes. LineOver S.Store (telling (P.tells paths.now) (P.stands paths.now)
+        (P.lists paths.now)) L.format (conditions (version_of L.format) session.old.profile
+        session.old.limits) number line.now
         session.old.connection bytes status session.new.connection)) }
-    ensures stopped { OnErr result (output.new ≡ output.old) }
+    // Where memory runs out at it, it may be done all the same.
+    ensures stopped { OnErr result ((output.new ≡ output.old)
+        × (HasCleanDisk (state S.Store session.new.connection) → StopsLine S.Store
+        (telling (P.tells paths.now) (P.stands paths.now) (P.lists paths.now)) L.format
+        (conditions (version_of L.format) session.old.profile session.old.limits) line.now
+        session.old.connection session.new.connection)) }
     // The session stays under its profile and its limits, and its disk was clean where it is.
     ensures stays { (session.new.profile ≡ session.old.profile)
         × (session.new.limits ≡ session.old.limits)
@@ -183,7 +191,12 @@ fn run_command<S: Alter, L: Layout, W: Write>(
         (λ bytes. CommandOver L.format (conditions (version_of L.format) session.old.profile
         session.old.limits) command.now (state S.Store session.old.connection) bytes status
         (state S.Store session.new.connection))) }
-    ensures stopped { OnErr result (output.new ≡ output.old) }
+    // It is done all the same.
+    ensures stopped { OnErr result ((output.new ≡ output.old)
+        × (HasCleanDisk (state S.Store session.new.connection) → (answer : _)
+        × ServesOver L.format (conditions (version_of L.format) session.old.profile
+        session.old.limits) command.now (state S.Store session.old.connection)
+        (state S.Store session.new.connection) answer)) }
     // The session stays under its profile and its limits, and its disk was clean where it is.
     ensures stays { (session.new.profile ≡ session.old.profile)
         × (session.new.limits ≡ session.old.limits)

@@ -9,23 +9,25 @@ ghost use Rattle.zeb_program.specs.ProfileFiles.{ReadsProfile};
 ghost use Rattle.zeb_program.specs.Registers.{places};
 ghost use Rattle.zeb_program.specs.Statuses.{closing_status};
 ghost use Rattle.zeb_program.specs.WordRuns.{IsText, RunsBatch, RunsLines, RunsShell};
-ghost use Rattle.zeb_program.specs.WordRuns.{StopsBatch, StopsLines, StopsOpening, StopsReading, StopsShell};
+ghost use Rattle.zeb_program.specs.WordRuns.{StopsBatch, StopsLines, StopsOpening, StopsReading, StopsShell, StopsTask};
 ghost use Rattle.std.specs.Io.KnownBytes.{Appends, IsAtEnd};
 ghost use Rattle.zeb_program.specs.PrivateFaults.{IsUnread};
 ghost use Rattle.zeb_program.specs.Inputs.{TakesAtMost};
-ghost use Rattle.zeb_program.specs.FixedLines.{usage_line};
+ghost use Rattle.zeb_program.specs.FixedLines.{misuse_line, usage_line};
 ghost use Rattle.zeb_program.specs.WordAnswers.{AnswersWords, NamesLines, NamesNothing, NamesShell, StopsWords, TellsApart, TellsUsage};
 ghost use Rattle.zeb_program.specs.Warnings.{warning_bytes};
 ghost use Rattle.zeb_program.specs.Closings.{TellsClosed};
 ghost use Rattle.std.specs.Option.{option_map};
 
 use crate::batch::run_on_nothing;
-use crate::failures::{Failure, tell_closed, tell_failure, tell_task_failure};
-use crate::files::unread;
-use crate::input::{GREATEST_INPUT, read_text};
+use crate::failures::{Cause, Failure, tell_closed, tell_failure, tell_unanswered};
+use crate::faults::Fault;
+use crate::input::{GREATEST_INPUT, TextFault, read_input};
 use crate::opening::OpenRegister;
 use crate::outputs::Output;
-use crate::performing::{Told, open_register, perform, profile_at, uses_store};
+use crate::performing::{
+    Performed, Told, Unopened, open_register, perform, profile_at, uses_store,
+};
 use crate::register_lines::{run_on, serve_on};
 use crate::script::Batch;
 use crate::sinks::Sink;
@@ -34,9 +36,9 @@ use crate::tasks::{Errand, Task, layout_asked};
 use std::alloc::{AllocError, Global};
 use std::io::Write;
 use zeb_marc::Source;
-use zeb_paths::Paths;
+use zeb_paths::{Closed, Paths};
 use zeb_profile::Profile;
-use zeb_words::{LayoutChoice, Usage, Words, read_words};
+use zeb_words::{LayoutChoice, Misuse, Usage, Words, read_words};
 
 /// Does what the words ask for, and answers the status. Memory that runs out in the program itself is no status.
 pub fn run_words<R: Source, W: Output, V: Write, P: Paths>(
@@ -94,13 +96,16 @@ fn refuse_words<W: Write, V: Write>(
         (V.contents fault_output.old.writer) (V.contents fault_output.new.writer) result }
 {
     match usage {
-        Usage::BadUsage => misuse("", fault_output),
+        Usage::BadUsage(why) => explain_misuse(why, fault_output),
         Usage::Refused(text) => misuse(text.as_str(), fault_output),
         Usage::Help(text) => {
             output.write(text.as_bytes());
             Status::Answered
         }
-        Usage::Memory => Status::Failed,
+        Usage::Memory => {
+            fault_output.write_line("zebraidx: out of memory");
+            Status::Failed
+        }
     }
 }
 
@@ -112,6 +117,17 @@ fn misuse<V: Write>(text: &str, fault_output: &mut Sink<V>) -> Status
 {
     fault_output.write_line("zebraidx: bad usage");
     fault_output.write(text.as_bytes());
+    Status::Misused
+}
+
+/// Writes that the words are misused, and below it why, and answers the status.
+fn explain_misuse<V: Write>(why: Misuse, fault_output: &mut Sink<V>) -> Status
+    ensures status { result ≡ Status.Misused }
+    ensures line { fault_output.new.failed ≡ false → Appends (V.contents fault_output.old.writer)
+        (V.contents fault_output.new.writer) (usage_line ++ misuse_line why) }
+{
+    fault_output.write_line("zebraidx: bad usage");
+    fault_output.write_line(format_args!("zebraidx: cause: {why}"));
     Status::Misused
 }
 
@@ -130,20 +146,25 @@ fn run_task<W: Write, V: Write, P: Paths>(
         P.lists P.explains P.opens P.refuses P.lacks P.has P.lets_go P.leaves paths.old paths.new)
         choice config task.now (W.contents output.old.writer) (W.contents output.new.writer)
         (V.contents fault_output.old.writer) (V.contents fault_output.new.writer) status) }
-    // Memory that runs out in the program itself is found before anything is written.
-    ensures stopped { OnErr result ((output.new ≡ output.old)
-        × (fault_output.new ≡ fault_output.old)) }
+    // Memory that runs out in the program itself is found before anything is written, but that the register's file needs its log;
+    // what was done stays.
+    ensures stopped { OnErr result ((output.new ≡ output.old) × (fault_output.new.failed ≡ false
+        → StopsTask (places P.Store.Store P.tells P.stands P.lists P.explains P.opens P.refuses
+        P.lacks P.has P.lets_go P.leaves paths.old paths.new) choice config task.now
+        (V.contents fault_output.old.writer) (V.contents fault_output.new.writer))) }
 {
     let named = config.clone()?;
-    match perform(alloc, config, choice, task, paths) {
-        Ok(told) => Ok(tell_answer(&told, output, fault_output)),
-        Err(failure) => tell_task_failure(alloc, paths, named, &failure, fault_output),
+    let Performed { told, closed } = perform(alloc, config, choice, task, paths);
+    match told {
+        Ok(told) => Ok(tell_answer(&told, closed, output, fault_output)),
+        Err(failure) => tell_unanswered(alloc, paths, named, &failure, closed, fault_output),
     }
 }
 
-/// Writes what is told of a task that is answered, and answers the status.
+/// Writes what is told of a task that is answered, behind which the register was closed so, and answers the status.
 fn tell_answer<W: Write, V: Write>(
     told: &Told,
+    closed: Closed,
     output: &mut Sink<W>,
     fault_output: &mut Sink<V>,
 ) -> Status
@@ -153,12 +174,12 @@ fn tell_answer<W: Write, V: Write>(
     ensures told { fault_output.new.failed ≡ false → (between : _)
         × Appends (V.contents fault_output.old.writer) between
         (warning_bytes (option_map string_bytes told.now.warning))
-        × TellsClosed between (V.contents fault_output.new.writer) told.now.closed }
-    ensures closing { result ≡ closing_status told.now.closed }
+        × TellsClosed between (V.contents fault_output.new.writer) closed }
+    ensures closing { result ≡ closing_status closed }
 {
     output.write(told.text.as_slice());
     warn(&told.warning, fault_output);
-    tell_closed(told.closed, fault_output)
+    tell_closed(closed, fault_output)
 }
 
 /// Writes a warning, where there is one.
@@ -199,13 +220,14 @@ fn run_batch<R: Source, W: Write, V: Write, P: Paths>(
         (W.contents output.old.writer) (W.contents output.new.writer)
         (V.contents fault_output.old.writer) (V.contents fault_output.new.writer)) }
 {
+    let named = config.clone()?;
     match begin_batch(alloc, config, paths, input) {
         Ok((profile, text)) => {
             let batch = Batch {
                 text: text.as_str(),
                 lines_before: 0,
             };
-            serve_batch(alloc, profile, paths, batch, output, fault_output)
+            serve_batch(alloc, profile, named, paths, batch, output, fault_output)
         }
         Err(failure) => tell_failure(alloc, &failure, fault_output),
     }
@@ -230,23 +252,25 @@ fn begin_batch<R: Source, P: Paths>(
         config (R.remaining input.old) (R.has_failed input.new) failure.fault failure.cause) }
 {
     let profile = profile_at(alloc, paths, config)?;
-    match read_text(alloc, input, GREATEST_INPUT) {
+    match read_input(alloc, input) {
         Ok(text) => Ok((profile, text)),
-        Err(fault) => {
+        Err(TextFault::Unreadable(cause)) => {
             let input_path = String::from_str(alloc, "input")?;
             Err(Failure {
-                fault: unread(fault, input_path),
-                cause: None,
+                fault: Fault::Unreadable(input_path),
+                cause: Some(Cause::Text(cause)),
             })
         }
+        Err(TextFault::Memory) => Err(Failure::from(AllocError)),
     }
 }
 
-/// Runs the lines of a batch on the register at the profile's path. Where none stands there and no line begins one, they are run on an
-/// empty one in memory, and no file is made.
+/// Runs the lines of a batch on the register at the path of the profile in this file. Where none stands there and no line begins one, they
+/// are run on an empty one in memory, and no file is made.
 fn serve_batch<W: Write, V: Write, P: Paths>(
     alloc: Global,
     profile: Profile,
+    config: String,
     paths: &mut P,
     batch: Batch<'_>,
     output: &mut Sink<W>,
@@ -254,7 +278,7 @@ fn serve_batch<W: Write, V: Write, P: Paths>(
 ) -> Result<Status, AllocError>
     ensures answer { batch.entry.lines_before ≡ 0 → IfOk result (λ status. output.new.failed ≡ false
         → fault_output.new.failed ≡ false → RunsLines (places P.Store.Store P.tells P.stands P.lists
-        P.explains P.opens P.refuses P.lacks P.has P.lets_go P.leaves paths.old paths.new) profile
+        P.explains P.opens P.refuses P.lacks P.has P.lets_go P.leaves paths.old paths.new) config profile
         batch.entry.text.now (W.contents output.old.writer) (W.contents output.new.writer)
         (V.contents fault_output.old.writer) (V.contents fault_output.new.writer) status) }
     ensures stopped { batch.entry.lines_before ≡ 0 → OnErr result (output.new.failed ≡ false
@@ -268,7 +292,14 @@ fn serve_batch<W: Write, V: Write, P: Paths>(
     }
     match open_register(alloc, paths, LayoutChoice::Unsaid, profile) {
         Ok(register) => run_on(alloc, register, paths, batch, output, fault_output),
-        Err(failure) => tell_failure(alloc, &failure, fault_output),
+        Err(refused) => tell_unanswered(
+            alloc,
+            paths,
+            config,
+            &refused.failure,
+            refused.closed,
+            fault_output,
+        ),
     }
 }
 
@@ -298,9 +329,17 @@ fn run_shell<R: Source, W: Output, V: Write, P: Paths>(
         (R.remaining input.new) (W.contents output.old.writer) (W.contents output.new.writer)
         (V.contents fault_output.old.writer) (V.contents fault_output.new.writer)) }
 {
+    let named = config.clone()?;
     match open(alloc, config, paths) {
         Ok(register) => serve_on(alloc, register, paths, input, output, fault_output),
-        Err(failure) => tell_failure(alloc, &failure, fault_output),
+        Err(refused) => tell_unanswered(
+            alloc,
+            paths,
+            named,
+            &refused.failure,
+            refused.closed,
+            fault_output,
+        ),
     }
 }
 
@@ -309,16 +348,21 @@ fn open<P: Paths>(
     alloc: Global,
     config: String,
     paths: &mut P,
-) -> Result<OpenRegister<P::Store>, Failure>
+) -> Result<OpenRegister<P::Store>, Unopened>
     ensures opened { IfOk result (λ register. OpensUnder (places P.Store.Store P.tells P.stands
         P.lists P.explains P.opens P.refuses P.lacks P.has P.lets_go P.leaves paths.old paths.new)
         config (format_of register.1) (conditions (version_of (format_of register.1))
         register.0.profile register.0.limits) register.0.connection) }
-    ensures failed { IfErr result (λ failure. StopsOpening (places P.Store.Store P.tells P.stands
+    ensures failed { IfErr result (λ it. StopsOpening (places P.Store.Store P.tells P.stands
         P.lists P.explains P.opens P.refuses P.lacks P.has P.lets_go P.leaves paths.old paths.new)
-        config failure.fault failure.cause) }
+        config it.failure.fault it.failure.cause it.closed) }
     ensures told { P.tells paths.new ≡ P.tells paths.old }
 {
-    let profile = profile_at(alloc, paths, config)?;
-    open_register(alloc, paths, LayoutChoice::Unsaid, profile)
+    match profile_at(alloc, paths, config) {
+        Ok(profile) => open_register(alloc, paths, LayoutChoice::Unsaid, profile),
+        Err(failure) => Err(Unopened {
+            failure,
+            closed: Closed::WHOLE,
+        }),
+    }
 }

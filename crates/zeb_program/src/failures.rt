@@ -3,8 +3,9 @@
 ghost use Rattle.std.specs.Prelude.{◌≡◌, false, true, None, IfOk, OnErr, string_bytes};
 ghost use Rattle.std.specs.Option.{option_map};
 ghost use Rattle.zeb_program.specs.Answers.{Writes};
-ghost use Rattle.zeb_program.specs.Closings.{TellsClosed};
-ghost use Rattle.zeb_program.specs.FaultLines.{IsCauseOf, TellsCaused, TellsPlaced, cause_line, cause_lines, met_line, met_lines, register_lines, unclosed_lines, unread_lines};
+ghost use Rattle.zeb_program.specs.Closings.{TellsClosed, TellsLeft};
+ghost use Rattle.zeb_program.specs.Unanswered.{TellsUnanswered};
+ghost use Rattle.zeb_program.specs.FaultLines.{IsCauseOf, TellsCaused, TellsPlaced, cause_line, cause_lines, met_line, met_lines, register_lines, unread_lines};
 ghost use Rattle.zeb_program.specs.declared.failures.Cause.TheVariants.{Path as PathOf, Store as StoreOf};
 ghost use Rattle.zeb_program.specs.Explanations as spec;
 ghost use Rattle.zeb_program.specs.FaultLines as lines;
@@ -16,6 +17,7 @@ ghost use Rattle.std.specs.Io.KnownBytes.{Appends};
 
 use crate::faults::{Fault, tell};
 use crate::files::read_profile;
+use crate::input::TextCause;
 use crate::line_input::InputCause;
 use crate::sinks::Sink;
 use crate::statuses::Status;
@@ -33,6 +35,8 @@ pub enum Cause {
     Store(StoreCause),
     /// Why the input can't be read on.
     Input(InputCause),
+    /// Why the input can't be read whole.
+    Text(TextCause),
     /// The path of the file that has this number, and what is told of it.
     File {
         number: u64,
@@ -76,7 +80,7 @@ impl From<Refusal> for Failure {
 /// A fault, with what its path, which was asked for so, is met with where it is looked at anew.
 pub fn of_path<P: Paths>(paths: &P, fault: Fault, asked: Asked) -> Failure
     ensures fault { result.fault ≡ fault }
-    ensures cause { ExplainsUnread (P.explains paths.now) fault result.cause }
+    ensures cause { ExplainsUnread (P.explains paths.now) asked fault result.cause }
 {
     let cause = match &fault {
         Fault::Unreadable(path) => path_cause(paths.why_unread(path.as_str(), asked)),
@@ -188,22 +192,30 @@ pub fn tell_task_failure<P: Paths, W: Write>(
     ensures status { IfOk result IsFaultStatus }
     ensures silent { OnErr result (output.new ≡ output.old) }
 {
-    let register = register_of(alloc, paths, config, &failure.fault);
+    let register = register_of(alloc, paths, config, &failure.fault)?;
     let status = tell_failure(alloc, failure, output)?;
     tell_register(&register, output);
     Ok(status)
 }
 
-/// The path of the register that a fault is about, by the profile in this file, which is read anew.
-fn register_of<P: Paths>(alloc: Global, paths: &P, config: String, fault: &Fault) -> Option<String>
-    ensures { NamesRegister (P.tells paths.now (string_bytes config)) config fault.now result }
+/// The path of the register that a fault is about, by the profile in this file, which is read anew. `None` of another fault, or where
+/// the profile can't be read any more.
+fn register_of<P: Paths>(
+    alloc: Global,
+    paths: &P,
+    config: String,
+    fault: &Fault,
+) -> Result<Option<String>, AllocError>
+    ensures { IfOk result
+        (NamesRegister (P.tells paths.now (string_bytes config)) config fault.now) }
 {
     if !is_of_register(fault) {
-        return None;
+        return Ok(None);
     }
     match read_profile(alloc, paths, config) {
-        Ok(profile) => String::from_str(alloc, profile.store_path()).ok(),
-        Err(_) => None,
+        Ok(profile) => Ok(Some(String::from_str(alloc, profile.store_path())?)),
+        Err(Fault::Memory) => Err(AllocError),
+        Err(_) => Ok(None),
     }
 }
 
@@ -250,6 +262,7 @@ fn write_cause<W: Write>(cause: &Cause, output: &mut Sink<W>)
         Cause::Path(cause) => write_met(*cause, output),
         Cause::Store(cause) => output.write_line(format_args!("zebraidx: cause: {cause}")),
         Cause::Input(cause) => output.write_line(format_args!("zebraidx: cause: {cause}")),
+        Cause::Text(cause) => output.write_line(format_args!("zebraidx: cause: {cause}")),
         Cause::File { number, path, met } => {
             output.write_line(format_args!("zebraidx: file {number} is {path}"));
             tell_met(*met, output);
@@ -287,6 +300,28 @@ pub fn tell_unread<W: Write>(cause: InputCause, output: &mut Sink<W>)
     write_cause(&Cause::Input(cause), output);
 }
 
+/// Writes the lines of a failure by which nothing is answered, with the path of its register, and below them that the register's file
+/// needs its log, where it does; and answers the greatest status. Where memory runs out for the first, the last is told all the same.
+pub fn tell_unanswered<P: Paths, W: Write>(
+    alloc: Global,
+    paths: &P,
+    config: String,
+    failure: &Failure,
+    closed: Closed,
+    output: &mut Sink<W>,
+) -> Result<Status, AllocError>
+    ensures told { IfOk result (λ status. output.new.failed ≡ false → TellsUnanswered
+        (P.tells paths.now (string_bytes config)) config failure.now.fault failure.now.cause closed
+        (W.contents output.old.writer) (W.contents output.new.writer) status) }
+    ensures status { IfOk result IsFaultStatus }
+    ensures stopped { OnErr result (output.new.failed ≡ false → TellsLeft
+        (W.contents output.old.writer) (W.contents output.new.writer) closed) }
+{
+    let told = tell_task_failure(alloc, paths, config, failure, output);
+    let left = tell_left(closed, output);
+    Ok(told?.max(left))
+}
+
 /// Writes that a part of what was done stands beside the register's file, where it does, and answers the status.
 pub fn tell_closed<W: Write>(closed: Closed, output: &mut Sink<W>) -> Status
     ensures status { result ≡ closing_status closed }
@@ -298,15 +333,22 @@ pub fn tell_closed<W: Write>(closed: Closed, output: &mut Sink<W>) -> Status
     if closed.is_whole {
         return Status::Answered;
     }
-    tell_unclosed(closed.cause, output);
+    output.write_line("zebraidx: done, but the register's file needs its log");
+    tell_cause(&store_cause(closed.cause), output);
     Status::Failed
 }
 
-fn tell_unclosed<W: Write>(cause: Option<StoreCause>, output: &mut Sink<W>)
-    ensures told { output.new.failed ≡ false → Appends (W.contents output.old.writer)
-        (W.contents output.new.writer) (unclosed_lines cause) }
+/// The same of what is left behind a failure, by which a command may have done nothing.
+fn tell_left<W: Write>(closed: Closed, output: &mut Sink<W>) -> Status
+    ensures status { result ≡ closing_status closed }
+    ensures told { output.new.failed ≡ false → TellsLeft (W.contents output.old.writer)
+        (W.contents output.new.writer) closed }
     ensures sound { output.new.failed ≡ false → output.old.failed ≡ false }
 {
-    output.write_line("zebraidx: done, but the register's file needs its log");
-    tell_cause(&store_cause(cause), output);
+    if closed.is_whole {
+        return Status::Answered;
+    }
+    output.write_line("zebraidx: the register's file needs its log");
+    tell_cause(&store_cause(closed.cause), output);
+    Status::Failed
 }

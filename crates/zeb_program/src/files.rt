@@ -73,7 +73,8 @@ pub fn readers_of<P: Paths>(
     ensures memory { (files : List (List ℕ)) → AreTold (P.tells paths.now) (map string_bytes named.now) files
         → IfErr result (λ fault. fault ≡ Memory) }
     // Of folders too, as far as the paths tell what stands in them.
-    ensures given { IfOk result (λ readers. ReadsBelow P.Reader.remaining
+    ensures given { IfOk result (λ readers. ReadsBelow
+        (sure_bytes P.Reader.remaining P.Reader.may_fail P.Reader.has_failed)
         (telling (P.tells paths.now) (P.stands paths.now) (P.lists paths.now))
         (map string_bytes named.now) readers.items) }
     // The path that is told is the one that the walk comes to and can't go on at.

@@ -3,9 +3,14 @@
 ghost use Rattle.std.specs.Prelude.{◌≡◌, ◌↔◌, ◌≤◌, ◌+◌, true, false, length, vec_len, string_bytes, string_len, IfOk, IfSome};
 ghost use Rattle.std.specs.Io.KnownBytes.{Consumes, IsAtEnd};
 ghost use Rattle.zeb_program.specs.Inputs.{IsTextWithin, TakesAtMost};
+ghost use Rattle.zeb_program.specs.InputCauses.{IsTextCause};
 ghost use Rattle.zeb_program.specs.declared.input.InputFault.TheVariants.{Unreadable, Memory};
+ghost use Rattle.zeb_program.specs.declared.input.TextCause.{TextCause};
+ghost use Rattle.zeb_program.specs.declared.input.TextCause.TheVariants.{FailedRead};
+ghost use Rattle.zeb_program.specs.declared.input.TextFault.TheVariants.{Unreadable as TextUnreadable};
 
 use std::alloc::{AllocError, Global};
+use std::fmt;
 use zeb_marc::{ReadFailed, Source};
 
 /// How many bytes an input may have, and a file that is read whole.
@@ -35,6 +40,64 @@ impl From<ReadFailed> for InputFault {
 
     fn from(_error: ReadFailed) -> InputFault {
         InputFault::Unreadable
+    }
+}
+
+/// Why an input can't be read whole as a text.
+#[derive(Clone, Copy, Debug, PartialEq, Eq)]
+pub enum TextCause {
+    /// It has more bytes than may be.
+    TooLong,
+    /// Its bytes aren't UTF-8.
+    NoText,
+    /// A read failed.
+    FailedRead,
+}
+
+impl fmt::Display for TextCause {
+    ghost use Rattle.std.specs.Prelude.{Some};
+    ghost use Rattle.zeb_program.specs.InputCauses.{text_cause_text};
+
+    ghost output = { λ cause. Some (text_cause_text cause) };
+
+    fn fmt<W: fmt::Write>(&self, f: &mut fmt::Formatter<W>) -> fmt::Result {
+        f.write_str(match self {
+            TextCause::TooLong => "too long",
+            TextCause::NoText => "no UTF-8",
+            TextCause::FailedRead => "a read failed",
+        })
+    }
+}
+
+/// Why an input isn't read whole as a text.
+#[derive(Clone, Copy, Debug, PartialEq, Eq)]
+pub enum TextFault {
+    Unreadable(TextCause),
+    Memory,
+}
+
+/// Reads an input to its end, as UTF-8 of at most `GREATEST_INPUT` bytes, or tells why it can't be. At most one byte above that is
+/// taken from it.
+pub fn read_input<R: Source>(alloc: Global, input: &mut R) -> Result<String, TextFault>
+    requires sound { R.has_failed input.old ≡ false }
+    ensures text { IfOk result (λ text. IfSome (R.remaining input.old)
+        (λ bytes. string_bytes text ≡ bytes)) }
+    ensures short { IfOk result (λ text. string_len text ≤ GREATEST_INPUT) }
+    ensures unreadable { (cause : TextCause) → result ≡ Err (TextUnreadable cause)
+        → IsTextCause (R.remaining input.old) (R.has_failed input.new) cause }
+    ensures failed { R.has_failed input.new ≡ true → result ≡ Err (TextUnreadable FailedRead) }
+    ensures taken { TakesAtMost (GREATEST_INPUT + 1) (R.remaining input.old) (R.remaining input.new) }
+{
+    match read_whole(alloc, input, GREATEST_INPUT) {
+        Ok(bytes) => match String::from_utf8(bytes) {
+            Ok(text) => Ok(text),
+            Err(_) => Err(TextFault::Unreadable(TextCause::NoText)),
+        },
+        Err(InputFault::Unreadable) if input.has_failed() => {
+            Err(TextFault::Unreadable(TextCause::FailedRead))
+        }
+        Err(InputFault::Unreadable) => Err(TextFault::Unreadable(TextCause::TooLong)),
+        Err(InputFault::Memory) => Err(TextFault::Memory),
     }
 }
 

@@ -5,6 +5,7 @@ mod analyses;
 mod batch;
 mod command_line;
 mod digits;
+mod explaining;
 mod failures;
 mod faults;
 mod files;

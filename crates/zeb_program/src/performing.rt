@@ -6,16 +6,15 @@ ghost use Rattle.zeb_paths.specs.Walks.{telling};
 ghost use Rattle.zeb_engine.specs.Adopting.{HasOtherTables};
 ghost use Rattle.zeb_engine.specs.declared.replies.Reply.{Reply};
 ghost use Rattle.zeb_program.specs.PrivateServing.{StandsFor};
-ghost use Rattle.zeb_program.specs.PrivateWordRuns.{ExplainsFailure, GivesClosed, GivesFor, IsOwnOr, ServesHeld, ServesOnNothing, TakesIn, TakesStore, fault_given, format_of};
+ghost use Rattle.zeb_program.specs.PrivateWordRuns.{ExplainsFailure, ExplainsRun, GivesClosed, GivesFor, ServesHeld, ServesOnNothing, TakesIn, TakesStore, fault_given, format_of};
 ghost use Rattle.zeb_program.specs.ProfileFiles.{ReadsProfile};
 ghost use Rattle.zeb_program.specs.Registers.{AtStore, ClosesStore, IsForeignCause, IsLetGo, nothing_met, places};
 ghost use Rattle.zeb_program.specs.TaskAnswers.{paths_of};
-ghost use Rattle.zeb_program.specs.WordRuns.{Performs, ServesUnder};
+ghost use Rattle.zeb_program.specs.WordRuns.{IsOwnOr, Performs, ServesUnder};
 ghost use Rattle.std.specs.Option.{option_map};
 ghost use Rattle.zeb_change.specs.Conditions.{conditions};
 ghost use Rattle.zeb_register.specs.Formats.{packed_blocks, version_of};
-ghost use Rattle.zeb_program.specs.FaultLines.{file_in};
-ghost use Rattle.zeb_program.specs.Explanations.{ExplainsRefusal, ExplainsUnread, TellsFile};
+ghost use Rattle.zeb_program.specs.Explanations.{ExplainsUnread, refusal_cause};
 ghost use Rattle.zeb_program.specs.PrivateFaults.{IsOpeningFault};
 ghost use Rattle.zeb_program.specs.ScriptAnswers.{AreConditionsIn, AreScriptConditions};
 ghost use Rattle.zeb_program.specs.PrivateWarnings as spec;
@@ -24,15 +23,16 @@ ghost use Rattle.std.specs.Result.{IsOkAnd};
 ghost use Rattle.zeb_program.specs.declared.faults.Fault.{Fault};
 ghost use Rattle.zeb_program.specs.declared.faults.Fault.TheVariants.{Refused};
 
-use crate::failures::{Cause, Failure, of_file, of_path, of_store};
+use crate::explaining::explained;
+use crate::failures::{Failure, of_path, of_store};
 use crate::faults::Fault;
-use crate::files::{path_of_file, read_profile};
+use crate::files::read_profile;
 use crate::memory::session_in_memory;
 use crate::opening::{OpenRegister, UsedLayout, layout_of, session_over};
 use crate::tasks::{Served, Task, carry_out};
 use crate::warnings::warning;
 use sqlite::{Alter, Connection};
-use std::alloc::{AllocError, Global};
+use std::alloc::Global;
 use zeb_engine::{Command, Refusal, Session, render};
 use zeb_leaves::Leaves;
 use zeb_packed::Blocks;
@@ -48,11 +48,26 @@ pub struct Told {
     pub text: Vec<u8>,
     /// A line that warns of records, where there is need.
     pub warning: Option<String>,
+}
+
+/// What comes of a task.
+#[derive(Debug, Drop)]
+pub struct Performed {
+    /// What is written for it, or why it isn't answered.
+    pub told: Result<Told, Failure>,
     /// How the register was closed behind it.
     pub closed: Closed,
 }
 
-/// Carries a task out under the profile in this file, where this layout is asked for, and gives what is written. Where no register
+/// Why a register isn't opened.
+#[derive(Debug, Drop)]
+pub struct Unopened {
+    pub failure: Failure,
+    /// How its store was closed, if it was open; else what it met stands here.
+    pub closed: Closed,
+}
+
+/// Carries a task out under the profile in this file, where this layout is asked for, and gives what comes of it. Where no register
 /// stands at the profile's path, a task that can't begin one is carried out on an empty one in memory, and no file is made.
 pub fn perform<P: Paths>(
     alloc: Global,
@@ -60,20 +75,33 @@ pub fn perform<P: Paths>(
     choice: LayoutChoice,
     task: &Task,
     paths: &mut P,
-) -> Result<Told, Failure>
-    ensures warns { IfOk result (λ told. WarnsOf (P.tells paths.old) task.now
+) -> Performed
+    ensures warns { IfOk result.told (λ told. WarnsOf (P.tells paths.old) task.now
         (option_map string_bytes told.warning)) }
     ensures performs { GivesClosed result (Performs (places P.Store.Store P.tells P.stands P.lists
         P.explains P.opens P.refuses P.lacks P.has P.lets_go P.leaves paths.old paths.new) choice config
-        task.now) (ExplainsFailure
-        (telling (P.tells paths.new) (P.stands paths.new) (P.lists paths.new))
-        (P.explains paths.new) (paths_of task.now)) }
+        task.now) (ExplainsRun (places P.Store.Store P.tells P.stands P.lists P.explains P.opens
+        P.refuses P.lacks P.has P.lets_go P.leaves paths.old paths.new) config task.now) }
 {
-    let profile = profile_at(alloc, paths, config)?;
+    let profile = match profile_at(alloc, paths, config) {
+        Ok(profile) => profile,
+        Err(failure) => return without_store(Err(failure)),
+    };
     if uses_store(paths, &profile, task.begins()) {
         return perform_in_register(alloc, profile, choice, task, paths);
     }
-    perform_on_nothing(alloc, profile, task, paths)
+    without_store(perform_on_nothing(alloc, profile, task, paths))
+}
+
+/// What comes of a task for which no store was opened.
+fn without_store(told: Result<Told, Failure>) -> Performed
+    ensures told { result.told ≡ told }
+    ensures closed { result.closed ≡ nothing_met }
+{
+    Performed {
+        told,
+        closed: Closed::WHOLE,
+    }
 }
 
 /// Whether the store at the profile's path is opened for a command: where one may stand there, or the command may begin one.
@@ -92,9 +120,9 @@ fn perform_in_register<P: Paths>(
     choice: LayoutChoice,
     task: &Task,
     paths: &mut P,
-) -> Result<Told, Failure>
+) -> Performed
     requires { AtStore profile (P.has paths.old) ⊎ (task.now ≡ Task.Ask Command.Init) }
-    ensures warns { IfOk result (λ told. WarnsOf (P.tells paths.old) task.now
+    ensures warns { IfOk result.told (λ told. WarnsOf (P.tells paths.old) task.now
         (option_map string_bytes told.warning)) }
     ensures serves { GivesClosed result (ServesUnder (places P.Store.Store P.tells P.stands P.lists
         P.explains P.opens P.refuses P.lacks P.has P.lets_go P.leaves paths.old paths.new) choice
@@ -102,8 +130,13 @@ fn perform_in_register<P: Paths>(
         (telling (P.tells paths.new) (P.stands paths.new) (P.lists paths.new))
         (P.explains paths.new) (paths_of task.now)) }
 {
-    let register = open_register(alloc, paths, choice, profile)?;
-    serve_task(alloc, register, task, paths)
+    match open_register(alloc, paths, choice, profile) {
+        Ok(register) => serve_task(alloc, register, task, paths),
+        Err(refused) => Performed {
+            told: Err(refused.failure),
+            closed: refused.closed,
+        },
+    }
 }
 
 /// Carries a task out on a register that is open, and closes it.
@@ -112,8 +145,8 @@ fn serve_task<P: Paths>(
     register: OpenRegister<P::Store>,
     task: &Task,
     paths: &P,
-) -> Result<Told, Failure>
-    ensures warns { IfOk result (λ told. WarnsOf (P.tells paths.now) task.now
+) -> Performed
+    ensures warns { IfOk result.told (λ told. WarnsOf (P.tells paths.now) task.now
         (option_map string_bytes told.warning)) }
     ensures serves { GivesClosed result (ServesHeld P.Store.Store (P.leaves paths.now)
         (P.tells paths.now) (telling (P.tells paths.now) (P.stands paths.now) (P.lists paths.now))
@@ -135,8 +168,8 @@ fn serve_task_in<L: Layout, P: Paths>(
     session: Session<P::Store, L>,
     task: &Task,
     paths: &P,
-) -> Result<Told, Failure>
-    ensures warns { IfOk result (λ told. WarnsOf (P.tells paths.now) task.now
+) -> Performed
+    ensures warns { IfOk result.told (λ told. WarnsOf (P.tells paths.now) task.now
         (option_map string_bytes told.warning)) }
     ensures serves { GivesClosed result (ServesHeld P.Store.Store (P.leaves paths.now)
         (P.tells paths.now) (telling (P.tells paths.now) (P.stands paths.now) (P.lists paths.now))
@@ -148,7 +181,10 @@ fn serve_task_in<L: Layout, P: Paths>(
     let mut session = session;
     let served = carry_out(alloc, &mut session, paths, task);
     let closed = close_register(paths, session);
-    told_of(alloc, paths, task, served, closed)
+    Performed {
+        told: told_of(alloc, paths, task, served, closed.cause),
+        closed,
+    }
 }
 
 /// Carries a task out on a register in memory that holds nothing and isn't initialised.
@@ -165,20 +201,19 @@ fn perform_on_nothing<P: Paths>(
     ensures explains { IfErr result (ExplainsFailure
         (telling (P.tells paths.now) (P.stands paths.now) (P.lists paths.now))
         (P.explains paths.now) (paths_of task.now) None) }
-    ensures closed { IfOk result (λ told. told.closed ≡ nothing_met) }
 {
     let mut session = session_in_memory(alloc, profile)?;
     let served = carry_out(alloc, &mut session, paths, task);
-    told_of(alloc, paths, task, served, Closed::WHOLE)
+    told_of(alloc, paths, task, served, None)
 }
 
-/// What is told of a task that was served so, behind which the register was closed so.
+/// What is told of a task that was served so, where this is known of why the store may have failed.
 fn told_of<P: Paths>(
     alloc: Global,
     paths: &P,
     task: &Task,
     served: Result<Served, Fault>,
-    closed: Closed,
+    met: Option<StoreCause>,
 ) -> Result<Told, Failure>
     requires shown { IfOk served (spec.IsServedFor task.now) }
     ensures warned { IfOk result (λ told. IsOkAnd served
@@ -187,100 +222,28 @@ fn told_of<P: Paths>(
         (λ told. MayWarn task.now (option_map string_bytes told.warning)) }
     ensures gives { (own : Result Reply Fault) → StandsFor served own
         → GivesFor result (λ answer. IsOwnOr answer own) }
-    ensures closed { IfOk result (λ told. told.closed ≡ closed) }
     ensures explains { IfErr result (ExplainsFailure
         (telling (P.tells paths.now) (P.stands paths.now) (P.lists paths.now))
-        (P.explains paths.now) (paths_of task.now) closed.cause) }
+        (P.explains paths.now) (paths_of task.now) met) }
 {
     match served {
         Ok(Served::Replied(reply)) => Ok(Told {
             text: render(alloc, &reply)?,
             warning: None,
-            closed,
         }),
         Ok(Served::Shown { lines, unmarked }) => Ok(Told {
             warning: warning(alloc, &unmarked, lines.records())?,
             text: lines.into_text().into_bytes(),
-            closed,
         }),
-        Err(fault) => Err(explained(alloc, paths, task, fault, closed)?),
+        Err(fault) => Err(explained(alloc, paths, task.named(), fault, met)?),
     }
-}
-
-/// A task's fault, with its cause, where it is known.
-fn explained<P: Paths>(
-    alloc: Global,
-    paths: &P,
-    task: &Task,
-    fault: Fault,
-    closed: Closed,
-) -> Result<Failure, AllocError>
-    ensures fault { IfOk result (λ failure. failure.fault ≡ fault) }
-    ensures explains { IfOk result (ExplainsFailure
-        (telling (P.tells paths.now) (P.stands paths.now) (P.lists paths.now))
-        (P.explains paths.now) (paths_of task.now) closed.cause) }
-{
-    match fault {
-        Fault::Refused(refusal) => refused(alloc, paths, task, refusal, closed.cause),
-        other => Ok(of_path(paths, other, Asked::Step)),
-    }
-}
-
-/// A refusal of a task, with the path of its file, or with why the store failed, where that is known.
-fn refused<P: Paths>(
-    alloc: Global,
-    paths: &P,
-    task: &Task,
-    refusal: Refusal,
-    met: Option<StoreCause>,
-) -> Result<Failure, AllocError>
-    ensures fault { IfOk result (λ failure. failure.fault ≡ Refused refusal) }
-    ensures explains { IfOk result (λ failure. ExplainsRefusal
-        (telling (P.tells paths.now) (P.stands paths.now) (P.lists paths.now))
-        (P.explains paths.now) (paths_of task.now) met refusal failure.cause) }
-{
-    match file_of(&refusal) {
-        Some(number) => Ok(Failure {
-            cause: file_cause(alloc, paths, task, &refusal, number)?,
-            fault: Fault::Refused(refusal),
-        }),
-        None => Ok(of_store(refusal, met)),
-    }
-}
-
-/// The number of the file that a refusal is about.
-fn file_of(refusal: &Refusal) -> Option<u64>
-    ensures { result ≡ file_in refusal.now }
-{
-    match refusal {
-        Refusal::Record { file, .. }
-        | Refusal::Unknown { file, .. }
-        | Refusal::ReadFault { file } => Some(*file),
-        _ => None,
-    }
-}
-
-/// The path of a task's file of this number, which a refusal is about, where it is found again.
-fn file_cause<P: Paths>(
-    alloc: Global,
-    paths: &P,
-    task: &Task,
-    refusal: &Refusal,
-    number: u64,
-) -> Result<Option<Cause>, AllocError>
-    ensures { IfOk result (TellsFile
-        (telling (P.tells paths.now) (P.stands paths.now) (P.lists paths.now))
-        (P.explains paths.now) (paths_of task.now) refusal.now number) }
-{
-    let found = path_of_file(alloc, paths, task.named(), number)?;
-    Ok(of_file(paths, refusal, number, found))
 }
 
 /// Reads a profile's file.
 pub fn profile_at<P: Paths>(alloc: Global, paths: &P, file: String) -> Result<Profile, Failure>
     ensures read { ReadsProfile (P.tells paths.now (string_bytes file)) file (fault_given result) }
     ensures explains { IfErr result
-        (λ failure. ExplainsUnread (P.explains paths.now) failure.fault failure.cause) }
+        (λ failure. ExplainsUnread (P.explains paths.now) Asked.Text failure.fault failure.cause) }
 {
     match read_profile(alloc, paths, file) {
         Ok(profile) => Ok(profile),
@@ -295,10 +258,10 @@ pub fn open_register<P: Paths>(
     paths: &mut P,
     choice: LayoutChoice,
     profile: Profile,
-) -> Result<OpenRegister<P::Store>, Failure>
-    ensures failed { IfErr result (λ failure. IsOpeningFault (places P.Store.Store P.tells P.stands
+) -> Result<OpenRegister<P::Store>, Unopened>
+    ensures failed { IfErr result (λ it. IsOpeningFault (places P.Store.Store P.tells P.stands
         P.lists P.explains P.opens P.refuses P.lacks P.has P.lets_go P.leaves paths.old paths.new)
-        profile failure.fault failure.cause) }
+        profile it.failure.fault it.failure.cause it.closed) }
     ensures under { IfOk result (λ register. AreConditionsIn (format_of register.1) profile
         (conditions (version_of (format_of register.1)) register.0.profile register.0.limits)) }
     ensures opened { IfOk result (λ register. TakesIn (places P.Store.Store P.tells P.stands
@@ -309,7 +272,19 @@ pub fn open_register<P: Paths>(
     let mut session = take_register(alloc, paths, profile)?;
     match layout_of(choice, &mut session) {
         Ok(layout) => Ok((session, layout)),
-        Err(refusal) => Err(of_store(refusal, close_register(paths, session).cause)),
+        Err(refusal) => Err(refused_opening(refusal, close_register(paths, session))),
+    }
+}
+
+/// A refusal by which no register is opened, behind which its store was closed so.
+fn refused_opening(refusal: Refusal, closed: Closed) -> Unopened
+    ensures fault { result.failure.fault ≡ Refused refusal }
+    ensures cause { result.failure.cause ≡ refusal_cause refusal closed.cause }
+    ensures closed { result.closed ≡ closed }
+{
+    Unopened {
+        failure: of_store(refusal, closed.cause),
+        closed,
     }
 }
 
@@ -318,10 +293,10 @@ fn take_register<P: Paths>(
     alloc: Global,
     paths: &mut P,
     profile: Profile,
-) -> Result<Session<P::Store, Blocks>, Failure>
-    ensures failed { IfErr result (λ failure. IsOpeningFault (places P.Store.Store P.tells P.stands
+) -> Result<Session<P::Store, Blocks>, Unopened>
+    ensures failed { IfErr result (λ it. IsOpeningFault (places P.Store.Store P.tells P.stands
         P.lists P.explains P.opens P.refuses P.lacks P.has P.lets_go P.leaves paths.old paths.new)
-        profile failure.fault failure.cause) }
+        profile it.failure.fault it.failure.cause it.closed) }
     ensures under { IfOk result (λ session. AreScriptConditions profile
         (conditions (version_of packed_blocks) session.profile session.limits)) }
     ensures opened { IfOk result (λ session. TakesStore (places P.Store.Store P.tells P.stands
@@ -335,7 +310,13 @@ fn take_register<P: Paths>(
         Ok(session) => Ok(session),
         Err((back, refusal)) => {
             let_go(paths, back);
-            Err(of_store(refusal, cause))
+            Err(refused_opening(
+                refusal,
+                Closed {
+                    is_whole: true,
+                    cause,
+                },
+            ))
         }
     }
 }

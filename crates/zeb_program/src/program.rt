@@ -1,10 +1,11 @@
 //! The program without its outside: words and input come in, output and a status go out.
 
 ghost use Rattle.std.specs.Prelude.{◌≡◌, ◌≢◌, ◌⊎◌, ◌+◌, [], true, false, map, string_bytes, IfOk, IfSome, OnErr};
-ghost use Rattle.std.specs.Io.KnownBytes.{Appends, Keeps};
+ghost use Rattle.std.specs.Io.KnownBytes.{Appends};
 ghost use Rattle.zeb_program.specs.Inputs.{TakesAtMost};
 ghost use Rattle.zeb_program.specs.Registers.{places};
-ghost use Rattle.zeb_program.specs.ScriptAnswers.{AnswersScript, EndsEarly, EndsScript, fault_line};
+ghost use Rattle.zeb_program.specs.FixedLines.{starved_line};
+ghost use Rattle.zeb_program.specs.ScriptAnswers.{AnswersScript, EndsEarly, EndsScript, MayStarve, fault_line};
 ghost use Rattle.zeb_program.specs.PrivateEnding.{IsLastStatus, PassesOn};
 ghost use Rattle.zeb_program.specs.Statuses.{EndsWith, ShowsFailures, fault_status};
 ghost use Rattle.zeb_program.specs.WordAnswers.{EndsWords, NamesLines, NamesNothing, NamesShell};
@@ -38,7 +39,8 @@ use zeb_profile::{Profile, ProfileFault};
 ///
 /// The status is the greatest met: 0 answered, 1 refused, 2 a line that is none or words that aren't
 /// understood, 3 where the input or a path couldn't be read, a write or the store failed or memory ran
-/// out. Where memory runs out between two lines of output, what was written stays, and nothing more comes.
+/// out. Where memory runs out between two lines of output, what was written stays, and nothing more comes there;
+/// the fault output then tells that it ran out.
 pub fn run<R: Source, W: Output, V: Output, P: Paths>(
     alloc: Global,
     words: &[String],
@@ -66,13 +68,15 @@ pub fn run<R: Source, W: Output, V: Output, P: Paths>(
         × (fault_output.new.failed ≡ false → V.held_back fault_output.new.writer ≡ []) }
 
     // Without a word: what is written, where the input tells its bytes and neither a read nor a write failed, and that nothing goes to
-    // the fault output. The answers of lines are told where the paths tell the bytes of each file that a line names by its path.
+    // the fault output but that memory ran out. The answers of lines are told where the paths tell the bytes of each file that a line
+    // names by its path.
     ensures script { words.now ≡ [] → fault_output.new.failed ≡ false
-        → Keeps (V.contents fault_output.old.writer) (V.contents fault_output.new.writer)
+        → MayStarve (V.contents fault_output.old.writer) (V.contents fault_output.new.writer)
         × (R.has_failed input.new ≡ false → output.new.failed ≡ false
         → IfSome (R.remaining input.old) (λ text. EndsWith result
         (EndsScript (P.tells files.old) text (W.contents output.old.writer)
-        (W.contents output.new.writer)))) }
+        (W.contents output.new.writer) (V.contents fault_output.old.writer)
+        (V.contents fault_output.new.writer)))) }
 
     // With words: what is told of the register that they have a command carried out on is told where the paths tell what opens it.
     ensures words { words.now ≢ [] → output.new.failed ≡ false → fault_output.new.failed ≡ false
@@ -84,12 +88,30 @@ pub fn run<R: Source, W: Output, V: Output, P: Paths>(
 {
     if words.is_empty() {
         let ended = run_script(alloc, files, input, output);
-        let status = ended.unwrap_or(Status::Failed);
+        let status = tell_starved(ended, fault_output);
         return finish(status, output, fault_output).code();
     }
     let ended = run_words(alloc, words, files, input, output, fault_output);
-    let status = ended.unwrap_or(Status::Failed);
+    let status = tell_starved(ended, fault_output);
     finish(status, output, fault_output).code()
+}
+
+/// The status of a run that ended so. Where memory ran out for the program itself, that is written, for which no memory is taken.
+fn tell_starved<V: Write>(ended: Result<Status, AllocError>, fault_output: &mut Sink<V>) -> Status
+    ensures answered { IfOk ended (λ status. (result ≡ status)
+        × (fault_output.new ≡ fault_output.old)) }
+    ensures starved { OnErr ended ((result ≡ Status.Failed) × (fault_output.new.failed ≡ false
+        → Appends (V.contents fault_output.old.writer) (V.contents fault_output.new.writer)
+        starved_line)) }
+    ensures sound { fault_output.new.failed ≡ false → fault_output.old.failed ≡ false }
+{
+    match ended {
+        Ok(status) => status,
+        Err(_) => {
+            fault_output.write_line("zebraidx: out of memory");
+            Status::Failed
+        }
+    }
 }
 
 /// Has the outputs pass on what they hold back, and answers the status: this one, or `Failed` where a write has failed.

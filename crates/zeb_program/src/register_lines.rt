@@ -3,6 +3,7 @@
 ghost use Rattle.std.specs.Prelude.{◌≡◌, ◌≢◌, false, true, IfOk, OnErr};
 ghost use Rattle.std.specs.Io.KnownBytes.{IsAtEnd};
 ghost use Rattle.zeb_change.specs.Conditions.{conditions};
+ghost use Rattle.zeb_paths.specs.Walks.{telling};
 ghost use Rattle.zeb_register.specs.Formats.{version_of};
 ghost use Rattle.zeb_program.specs.PrivateWordRuns.{ClosesAloud, EndsSession, RunsIn, ServesIn, StopsIn, StopsServing, format_of};
 
@@ -34,13 +35,15 @@ pub fn run_on<W: Write, V: Write, P: Paths>(
 ) -> Result<Status, AllocError>
     ensures answer { IfOk result (λ status. output.new.failed ≡ false
         → fault_output.new.failed ≡ false → RunsIn P.Store.Store (P.leaves paths.now)
-        (P.tells paths.now) (format_of register.1)
+        (telling (P.tells paths.now) (P.stands paths.now) (P.lists paths.now))
+        (format_of register.1)
         (conditions (version_of (format_of register.1)) register.0.profile register.0.limits)
         batch.entry.lines_before batch.entry.text.now register.0.connection
         (W.contents output.old.writer) (W.contents output.new.writer)
         (V.contents fault_output.old.writer) (V.contents fault_output.new.writer) status) }
     ensures stopped { OnErr result (output.new.failed ≡ false → fault_output.new.failed ≡ false
-        → StopsIn P.Store.Store (P.leaves paths.now) (P.tells paths.now)
+        → StopsIn P.Store.Store (P.leaves paths.now) (telling (P.tells paths.now)
+        (P.stands paths.now) (P.lists paths.now)) (format_of register.1)
         (conditions (version_of (format_of register.1)) register.0.profile register.0.limits)
         batch.entry.lines_before batch.entry.text.now
         register.0.connection (W.contents output.old.writer) (W.contents output.new.writer)
@@ -67,14 +70,14 @@ fn run_in<L: Layout, W: Write, V: Write, P: Paths>(
 ) -> Result<Status, AllocError>
     ensures answer { IfOk result (λ status. output.new.failed ≡ false
         → fault_output.new.failed ≡ false → RunsIn P.Store.Store (P.leaves paths.now)
-        (P.tells paths.now) L.format
+        (telling (P.tells paths.now) (P.stands paths.now) (P.lists paths.now)) L.format
         (conditions (version_of L.format) session.profile session.limits)
         batch.entry.lines_before batch.entry.text.now session.connection
         (W.contents output.old.writer) (W.contents output.new.writer)
         (V.contents fault_output.old.writer) (V.contents fault_output.new.writer) status) }
     ensures stopped { OnErr result (output.new.failed ≡ false → fault_output.new.failed ≡ false
-        → StopsIn P.Store.Store (P.leaves paths.now) (P.tells paths.now)
-        (conditions (version_of L.format)
+        → StopsIn P.Store.Store (P.leaves paths.now) (telling (P.tells paths.now)
+        (P.stands paths.now) (P.lists paths.now)) L.format (conditions (version_of L.format)
         session.profile session.limits) batch.entry.lines_before batch.entry.text.now
         session.connection (W.contents output.old.writer) (W.contents output.new.writer)
         (V.contents fault_output.old.writer) (V.contents fault_output.new.writer)) }
@@ -100,13 +103,15 @@ pub fn serve_on<R: Source, W: Output, V: Write, P: Paths>(
         → IsAtEnd (R.remaining input.new)) }
     ensures answer { IfOk result (λ status. output.new.failed ≡ false
         → fault_output.new.failed ≡ false → ServesIn P.Store.Store (P.leaves paths.now)
-        (P.tells paths.now) (format_of register.1)
+        (telling (P.tells paths.now) (P.stands paths.now) (P.lists paths.now))
+        (format_of register.1)
         (conditions (version_of (format_of register.1)) register.0.profile register.0.limits)
         (R.remaining input.old) (R.remaining input.new) (R.has_failed input.new)
         register.0.connection (W.contents output.old.writer) (W.contents output.new.writer)
         (V.contents fault_output.old.writer) (V.contents fault_output.new.writer) status) }
     ensures stopped { OnErr result (output.new.failed ≡ false → fault_output.new.failed ≡ false
-        → StopsServing P.Store.Store (P.leaves paths.now) (P.tells paths.now) (format_of register.1)
+        → StopsServing P.Store.Store (P.leaves paths.now) (telling (P.tells paths.now)
+        (P.stands paths.now) (P.lists paths.now)) (format_of register.1)
         (conditions (version_of (format_of register.1)) register.0.profile register.0.limits)
         (R.remaining input.old) (R.remaining input.new)
         register.0.connection (W.contents output.old.writer) (W.contents output.new.writer)
@@ -138,13 +143,14 @@ fn serve_in<L: Layout, R: Source, W: Output, V: Write, P: Paths>(
         → IsAtEnd (R.remaining input.new)) }
     ensures answer { IfOk result (λ status. output.new.failed ≡ false
         → fault_output.new.failed ≡ false → ServesIn P.Store.Store (P.leaves paths.now)
-        (P.tells paths.now) L.format
+        (telling (P.tells paths.now) (P.stands paths.now) (P.lists paths.now)) L.format
         (conditions (version_of L.format) session.profile session.limits)
         (R.remaining input.old) (R.remaining input.new) (R.has_failed input.new)
         session.connection (W.contents output.old.writer) (W.contents output.new.writer)
         (V.contents fault_output.old.writer) (V.contents fault_output.new.writer) status) }
     ensures stopped { OnErr result (output.new.failed ≡ false → fault_output.new.failed ≡ false
-        → StopsServing P.Store.Store (P.leaves paths.now) (P.tells paths.now) L.format
+        → StopsServing P.Store.Store (P.leaves paths.now) (telling (P.tells paths.now)
+        (P.stands paths.now) (P.lists paths.now)) L.format
         (conditions (version_of L.format)
         session.profile session.limits) (R.remaining input.old) (R.remaining input.new)
         session.connection (W.contents output.old.writer) (W.contents output.new.writer)

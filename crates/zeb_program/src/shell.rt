@@ -5,9 +5,10 @@ ghost use Rattle.std.specs.Io.KnownBytes.{IsAtEnd};
 ghost use Rattle.sqlite.specs.Held.{state};
 ghost use Rattle.sqlite.specs.State.{HasCleanDisk};
 ghost use Rattle.zeb_change.specs.Conditions.{conditions};
+ghost use Rattle.zeb_paths.specs.Walks.{telling};
 ghost use Rattle.zeb_register.specs.Formats.{version_of};
 ghost use Rattle.zeb_program.specs.Answers.{AnswersAsTold, Writes};
-ghost use Rattle.zeb_program.specs.Doing.{RunsText, ServesText, StopsText};
+ghost use Rattle.zeb_program.specs.Doing.{RunsText, ServesText, StopsLine, StopsText};
 ghost use Rattle.zeb_program.specs.Lines.{first_line, after_first_line};
 ghost use Rattle.zeb_program.specs.OverTables.{LineOver};
 ghost use Rattle.zeb_program.specs.PrivateShell.{AnswersNextLine, ComesTo, StopsAtLine};
@@ -44,7 +45,8 @@ pub fn serve_lines<R: Source, S: Alter, L: Layout, P: Paths, W: Output, V: Write
     requires { R.has_failed input.old ≡ false }
     ensures answer { IfOk result (λ status. output.new.failed ≡ false
         → fault_output.new.failed ≡ false → HasCleanDisk (state S.Store session.new.connection)
-        → IfSome (R.remaining input.old) (λ text. ServesText S.Store (P.tells paths.now) L.format
+        → IfSome (R.remaining input.old) (λ text. ServesText S.Store
+        (telling (P.tells paths.now) (P.stands paths.now) (P.lists paths.now)) L.format
         (conditions (version_of L.format) session.old.profile session.old.limits) text
         (R.remaining input.new) (R.has_failed input.new)
         (W.contents output.old.writer) (W.contents output.new.writer)
@@ -52,7 +54,8 @@ pub fn serve_lines<R: Source, S: Alter, L: Layout, P: Paths, W: Output, V: Write
         session.old.connection session.new.connection)) }
     ensures stopped { OnErr result (output.new.failed ≡ false
         → HasCleanDisk (state S.Store session.new.connection) → IfSome (R.remaining input.old)
-        (λ text. StopsText S.Store (P.tells paths.now) L.format
+        (λ text. StopsText S.Store
+        (telling (P.tells paths.now) (P.stands paths.now) (P.lists paths.now)) L.format
         (conditions (version_of L.format) session.old.profile session.old.limits) Memory text
         (R.remaining input.new) (W.contents output.old.writer) (W.contents output.new.writer)
         session.old.connection session.new.connection)) }
@@ -94,13 +97,15 @@ pub fn run_shell_lines<R: Source, S: Alter, L: Layout, P: Paths, W: Output>(
     ensures sound { output.new.failed ≡ false → output.old.failed ≡ false }
     ensures answer { IfOk result (λ status. output.new.failed ≡ false
         → HasCleanDisk (state S.Store session.new.connection) → IfSome (R.remaining input.old)
-        (λ text. RunsText S.Store (P.tells paths.now) L.format
+        (λ text. RunsText S.Store
+        (telling (P.tells paths.now) (P.stands paths.now) (P.lists paths.now)) L.format
         (conditions (version_of L.format) session.old.profile session.old.limits) 0 text
         (W.contents output.old.writer) (W.contents output.new.writer) status
         session.old.connection session.new.connection)) }
     ensures stopped { IfErr result (λ why. output.new.failed ≡ false
         → HasCleanDisk (state S.Store session.new.connection) → IfSome (R.remaining input.old)
-        (λ text. StopsText S.Store (P.tells paths.now) L.format
+        (λ text. StopsText S.Store
+        (telling (P.tells paths.now) (P.stands paths.now) (P.lists paths.now)) L.format
         (conditions (version_of L.format) session.old.profile session.old.limits) why text
         (R.remaining input.new) (W.contents output.old.writer) (W.contents output.new.writer)
         session.old.connection session.new.connection)) }
@@ -112,6 +117,7 @@ pub fn run_shell_lines<R: Source, S: Alter, L: Layout, P: Paths, W: Output>(
         ⊎ IsAtEnd (R.remaining input.new)) }
 {
     let mut greatest = Status::Answered;
+    // It has no measure: only its writer ends an input, and a line's number is told.
     for lines_before in 0..u64::MAX {
         if output.has_failed() {
             return Ok(Status::Failed);
@@ -140,15 +146,19 @@ fn run_next_line<R: Source, S: Alter, L: Layout, P: Paths, W: Output>(
     requires seen { output.old.failed ≡ false }
     ensures sound { output.new.failed ≡ false → output.old.failed ≡ false }
     // At the input's end nothing is done, and nothing is written for a line that can't be read, or isn't answered.
-    ensures line { ComesTo (AnswersNextLine S.Store (P.tells paths.now) L.format
+    ensures line { ComesTo (AnswersNextLine S.Store
+        (telling (P.tells paths.now) (P.stands paths.now) (P.lists paths.now)) L.format
         (conditions (version_of L.format) session.old.profile session.old.limits) number
         (R.remaining input.old) (R.remaining input.new) output.new.failed
         (W.held_back output.new.writer) (W.contents output.old.writer)
         (W.contents output.new.writer) session.old.connection session.new.connection)
         (IsAtEnd (R.remaining input.old) × IsAtEnd (R.remaining input.new)
         × (session.new ≡ session.old) × (output.new ≡ output.old))
-        (λ fault. StopsAtLine (R.remaining input.old) (R.remaining input.new)
-        session.old.connection session.new.connection fault × (output.new ≡ output.old)) result }
+        (λ fault. StopsAtLine S.Store
+        (telling (P.tells paths.now) (P.stands paths.now) (P.lists paths.now)) L.format
+        (conditions (version_of L.format) session.old.profile session.old.limits)
+        (R.remaining input.old) (R.remaining input.new) session.old.connection
+        session.new.connection fault × (output.new ≡ output.old)) result }
     // The session stays under its profile and its limits, and its disk was clean where it is.
     ensures stays { (session.new.profile ≡ session.old.profile)
         × (session.new.limits ≡ session.old.limits)
@@ -186,10 +196,15 @@ fn run_bytes<S: Alter, L: Layout, P: Paths, W: Write>(
     ensures over { IfOk result (λ status. output.new.failed ≡ false
         → HasCleanDisk (state S.Store session.new.connection) → after_first_line bytes.items ≡ []
         → Writes (W.contents output.old.writer) (W.contents output.new.writer)
-        (λ written. LineOver S.Store (P.tells paths.now) L.format
-        (conditions (version_of L.format) session.old.profile session.old.limits) number
+        (λ written. LineOver S.Store (telling (P.tells paths.now) (P.stands paths.now)
+        (P.lists paths.now)) L.format (conditions (version_of L.format) session.old.profile
+        session.old.limits) number
         (first_line bytes.items) session.old.connection written status session.new.connection)) }
-    ensures stopped { OnErr result (output.new ≡ output.old) }
+    ensures stopped { OnErr result ((output.new ≡ output.old)
+        × (HasCleanDisk (state S.Store session.new.connection) → after_first_line bytes.items ≡ []
+        → StopsLine S.Store (telling (P.tells paths.now) (P.stands paths.now) (P.lists paths.now))
+        L.format (conditions (version_of L.format) session.old.profile session.old.limits)
+        (first_line bytes.items) session.old.connection session.new.connection)) }
     // The session stays under its profile and its limits, and its disk was clean where it is.
     ensures stays { (session.new.profile ≡ session.old.profile)
         × (session.new.limits ≡ session.old.limits)

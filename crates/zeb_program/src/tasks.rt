@@ -1,6 +1,6 @@
 //! The tasks that words name, each carried out on the register that the profile names.
 
-ghost use Rattle.std.specs.Prelude.{◌≡◌, ⊤, false, true, ℕ, [], List, Result, map, string_bytes, IfErr, IfOk, OnErr};
+ghost use Rattle.std.specs.Prelude.{◌≡◌, ⊤, false, true, ℕ, None, List, Result, map, string_bytes, IfErr, IfOk, OnErr};
 ghost use Rattle.sqlite.specs.Held.{state};
 ghost use Rattle.sqlite.specs.State.{HasCleanDisk};
 ghost use Rattle.zeb_change.specs.Conditions.{conditions};
@@ -12,12 +12,12 @@ ghost use Rattle.zeb_paths.specs.Walks.{telling};
 ghost use Rattle.zeb_program.specs.PrivateFaults.{IsUnread};
 ghost use Rattle.zeb_program.specs.Errands.{choice_of};
 ghost use Rattle.zeb_program.specs.FaultAnswers.{GivesAnswer, Reaches};
-ghost use Rattle.zeb_program.specs.OverTables.{AnalysesOver, PathsLeave, PathsOver, ServesOver};
+ghost use Rattle.zeb_program.specs.OverTables.{AnalysesOver, ChangesOver, ServesOver};
 ghost use Rattle.zeb_program.specs.PrivateServing.{CarriesOut, StandsFor};
 ghost use Rattle.zeb_program.specs.Serving.{AnswersFrom};
 ghost use Rattle.zeb_program.specs.TaskAnswers.{AnswersCommand, AreTold, ReadsWhole, paths_of};
 ghost use Rattle.zeb_program.specs.PrivateWarnings as spec;
-ghost use Rattle.zeb_program.specs.Warnings.{unmarked_by, unmarked_of};
+ghost use Rattle.zeb_program.specs.Warnings.{records_in, unmarked_by, unmarked_of, warning_of};
 ghost use Rattle.zeb_program.specs.declared.faults.Fault.{Fault};
 ghost use Rattle.zeb_program.specs.declared.tasks.Task.{Task};
 
@@ -185,7 +185,8 @@ pub fn carry_out<S: Alter, L: Layout, P: Paths>(
         × IfErr result (λ fault. IsUnread fault → session.new ≡ session.old) }
     // Where the bytes of a file at each path are told; and of another task than an analysis nothing is to be warned of.
     ensures unmarked { (files : List (List ℕ)) → AreTold (P.tells paths.now) (paths_of task.now)
-        files → IfOk result (λ served. spec.unmarked_in served ≡ unmarked_by task.now files) }
+        files → IfOk result (λ served. spec.warned_in served
+        ≡ warning_of (unmarked_by task.now files) (records_in files)) }
     ensures shown { IfOk result (spec.IsServedFor task.now) }
 {
     match task {
@@ -202,7 +203,7 @@ pub fn carry_out<S: Alter, L: Layout, P: Paths>(
 /// A reply, as what a task is answered.
 fn to_serve(reply: Result<Reply, Fault>) -> Result<Served, Fault>
     ensures reply { StandsFor result reply }
-    ensures unmarked { IfOk result (λ served. spec.unmarked_in served ≡ []) }
+    ensures unmarked { IfOk result (λ served. spec.warned_in served ≡ None) }
     ensures shown { (task : Task) → IfOk result (spec.IsServedFor task) }
 {
     match reply {
@@ -248,15 +249,11 @@ pub fn change_by_paths<S: Alter, L: Layout, P: Paths>(
         × (session.new.limits ≡ session.old.limits)
         × (HasCleanDisk (state S.Store session.new.connection)
         → HasCleanDisk (state S.Store session.old.connection)) }
-    // On any tables, and whatever the paths tell.
-    ensures over { HasCleanDisk (state S.Store session.new.connection)
-        → PathsOver (P.tells paths.now) L.format session.old.profile kind session.old.limits
+    // On any tables, and whatever the paths tell; where they tell the bytes of its files, it is the change by these.
+    ensures changes { HasCleanDisk (state S.Store session.new.connection)
+        → ChangesOver (telling (P.tells paths.now) (P.stands paths.now) (P.lists paths.now))
+        L.format (conditions (version_of L.format) session.old.profile session.old.limits) kind
         (name_bytes database.now) (map string_bytes named.now)
-        (state S.Store session.old.connection) result }
-    // Also what it does to them, and, where the bytes of a file at each path are told, that it is the change by these.
-    ensures leaves { HasCleanDisk (state S.Store session.new.connection)
-        → PathsLeave (P.tells paths.now) (conditions (version_of L.format) session.old.profile
-        session.old.limits) kind (name_bytes database.now) (map string_bytes named.now)
         (state S.Store session.old.connection) (state S.Store session.new.connection) result }
     ensures unread { IfErr result (λ fault. IsUnread fault → session.new ≡ session.old) }
     ensures reaches { Reaches (telling (P.tells paths.now) (P.stands paths.now)
@@ -278,14 +275,15 @@ fn analyse_paths<S: Alter, L: Layout, P: Paths>(
 ) -> Result<Served, Fault>
     // On any tables, and whatever the paths tell.
     ensures over { (answer : Result Reply Fault) × StandsFor result answer
-        × AnalysesOver (P.tells paths.now) session.now.profile session.now.limits.records
-        (map string_bytes named.now) answer }
+        × AnalysesOver (telling (P.tells paths.now) (P.stands paths.now) (P.lists paths.now))
+        session.now.profile session.now.limits.records (map string_bytes named.now) answer }
     ensures reaches { Reaches (telling (P.tells paths.now) (P.stands paths.now)
         (P.lists paths.now)) ⊤ (map string_bytes named.now) result }
     // Where the bytes of a file at each path are told.
     ensures unmarked { (files : List (List ℕ)) → AreTold (P.tells paths.now)
         (map string_bytes named.now) files
-        → IfOk result (λ served. spec.unmarked_in served ≡ unmarked_of 1 files) }
+        → IfOk result (λ served. spec.warned_in served
+        ≡ warning_of (unmarked_of 1 files) (records_in files)) }
 {
     let AnalysedFiles { lines, unmarked } = analyse_files(alloc, session, paths, named)?;
     match lines {

@@ -153,6 +153,11 @@ pub alters : (tree : ℕ) (Rows : ℕ → Trees → Trees → Type 0) (sql : Lis
 alters tree Rows sql params old new (Ok count) ran means = record { on = ran.1; rows = λ store. means count store ran.0 }
 alters tree Rows sql params old new (Err e) ran means = tt
 
+-- what follows of a statement that was carried out
+pub carried_out : (P : Type 0) (sql : List ℕ) (params : Row) (old new : State) (r : Result ℕ Error) → ExecutesInside 0 sql params old new r → ((count : ℕ) → Executes sql params old new (Ok count) → P) → OnOk r P
+carried_out P sql params old new (Ok count) ran means = means count ran.0
+carried_out P sql params old new (Err e) ran means = tt
+
 pub refused_keeps : (sql : List ℕ) (params : Row) (old new : State) (r : Result ℕ Error) → ExecutesInside 0 sql params old new r → OnErr r (KeepsCommit old new)
 refused_keeps sql params old new (Ok count) ran = tt
 refused_keeps sql params old new (Err e) ran = inside_keeps sql params old new (Err e) ran

@@ -1,6 +1,7 @@
 -- Units that a change in leaves keeps: where nothing changes, where more is changed, and over two changes in turn.
-use Rattle.zeb_register.proofs.Cited.{◌≡◌, ◌∙◌, ◌∷◌, [], ℕ, ℤ, pos, refl, sym, subst, Int, Trees, Key, register_code, KeepsRowsBeside, postings_tree, dict_tree}
+use Rattle.zeb_register.proofs.Cited.{inl, inr, ◌≡◌, ◌∙◌, ◌∷◌, [], ℕ, ℤ, pos, refl, sym, subst, Int, Trees, Key, register_code, KeepsRowsBeside, postings_tree, dict_tree}
 use Rattle.zeb_register.proofs.Malformed.{table_same}
+use Rattle.zeb_register.specs.HeldLeaves.{AreLeavesAlone}
 use Rattle.zeb_register.specs.KeptUnits.{HasKeyUnit, HasUnit, KeepsUnits}
 
 pub kept_itself : (db : ℤ) (Changed : Key → ℕ → Type 0) (trees : Trees) → KeepsUnits db Changed trees trees
@@ -9,7 +10,8 @@ kept_itself db Changed trees = record {
   malformed = λ d key n other. (λ h. h, λ h. h);
   counts = λ d key other records. (λ h. h, λ h. h);
   miscounted = λ d key other. (λ h. h, λ h. h);
-  alone = λ alone. alone;
+  alone = λ d key alone. alone;
+  shaped = λ row there. inl there;
   blocks = λ row other. (λ h. h, λ h. h);
   postings = refl;
   dict = refl;
@@ -53,7 +55,8 @@ module _ (db : ℤ) (One Two Both : Key → ℕ → Type 0) (first : (key : Key)
         let front = one.miscounted d key (key_not_one d key other) in
         let back = two.miscounted d key (key_not_two d key other) in
         (λ h. back.0 (front.0 h), λ h. front.1 (back.1 h));
-    alone = λ alone. two.alone (one.alone alone);
+    alone = λ d key alone. two.alone d key (one.alone d key alone);
+    shaped = λ row there. elim (two.shaped row there) [ inl mid ↦ one.shaped row mid | inr leaf ↦ inr leaf ];
     blocks = λ row other.
         let front = one.blocks row (λ it. other (it.0, it.1, first it.0 it.1 it.2, it.3, it.4, it.5, it.6)) in
         let back = two.blocks row (λ it. other (it.0, it.1, second it.0 it.1 it.2, it.3, it.4, it.5, it.6)) in
@@ -65,6 +68,14 @@ module _ (db : ℤ) (One Two Both : Key → ℕ → Type 0) (first : (key : Key)
 -- a change of some units is one of these and others
 pub kept_wider : (db : ℤ) (One Both : Key → ℕ → Type 0) → ((key : Key) (n : ℕ) → One key n → Both key n) → (a b : Trees) → KeepsUnits db One a b → KeepsUnits db Both a b
 kept_wider db One Both first a b one = kept_then db One Both Both first (λ key n h. h) a b b one (kept_itself db Both b)
+
+-- where nothing stood beside in any register, nothing does
+pub alone_kept : (db : ℤ) (Changed : Key → ℕ → Type 0) (old new : Trees) → KeepsUnits db Changed old new → AreLeavesAlone old → AreLeavesAlone new
+alone_kept db Changed old new kept alone = record {
+  blocks = λ row there. elim (kept.shaped row there) [ inl was ↦ alone.blocks row was | inr leaf ↦ leaf ];
+  leaves = λ d key. kept.alone d key (alone.leaves d key);
+  alone = (kept.postings ∙ alone.alone.0, kept.dict ∙ alone.alone.1);
+}
 
 -- rows of other databases are as they were
 pub kept_beside : (db : ℤ) (Changed : Key → ℕ → Type 0) (old new : Trees) → KeepsUnits db Changed old new → KeepsRowsBeside (Int db ∷ []) old new

@@ -5,6 +5,7 @@ use Rattle.zeb_register.proofs.BlockUnits.{none_rises}
 use Rattle.zeb_register.proofs.ContentChanges.{integers_apart, told_spot, with_list}
 use Rattle.zeb_register.proofs.ContentTurns.{AreUnitsIn, InRange, list_kept, list_there, list_turned, touched, units_turned}
 use Rattle.zeb_register.proofs.KeyPlaces.{place_in, place_of, placed_at, places_rising}
+use Rattle.zeb_register.proofs.KeptLeaves.{alone_kept}
 use Rattle.zeb_register.proofs.LeafContents.{held_by_units, held_unit, one_unit, unit_unread}
 use Rattle.zeb_register.proofs.ListChanges.{changes_rise, content_changed, content_rises}
 use Rattle.zeb_register.proofs.RisingLists.{told_by}
@@ -51,7 +52,7 @@ module _ (db : ℤ) (Changed : Key → ℕ → Type 0) (told : (key : Key) (n : 
   units_held before after holds rising put same = held_by_units new after rising (λ d key n. elim (told_unit d key n) [
     | inl it ↦ subst (λ (e : ℤ). LeavesRead new e key n (places_in n (after e key))) (sym it.0) (put key n it.1)
     | inr other ↦ subst (LeavesRead new d key n) (same d key n other) ((kept.reads d key n other (places_in n (before d key))).0 (held_unit old before holds d key n))
-  ]) (kept.alone holds.alone)
+  ]) (alone_kept db Changed old new kept holds.alone)
 
 -- a list that is changed has the same places in a record whose block no change touches
 pub untouched_places : (changes : List RecordChange) (one two : List Posting) → IsStrictlySortedBy posting_cmp one → IsStrictlySortedBy posting_cmp two → AreListChanges changes one two → (n : ℕ) → ¬ IsTouched changes (n / 256) → places_in n one ≡ places_in n two

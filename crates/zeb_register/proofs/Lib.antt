@@ -28,6 +28,7 @@ pub mod WholeStatements
 pub mod LookUps
 pub mod FormatLemmas
 pub mod RisingLists
+pub mod RowCounts
 pub mod ContentLemmas
 pub mod ContentChanges
 pub mod CountLemmas
@@ -94,6 +95,7 @@ pub mod RunRows
 pub mod RunTurns
 pub mod RunSplits
 pub mod RunLaws
+pub mod WorkCounts
 pub mod RunCounts
 pub mod RecordParts
 pub mod Cited

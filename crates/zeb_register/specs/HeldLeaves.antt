@@ -22,11 +22,18 @@ pub record IsLeafAlone (Leaves : Row → Type 0) (leaf : Row) : Type 0 where
   pub within : (e : Entry) → Has entries e → Covers Leaves (leaf_key e.term e.block) leaf
   pub small : 2 ≤ length entries → length (leaf_bytes entries) ≤ LEAF_BYTES
 
+-- each leaf of the key's register is such a one
+abbrev pub AreAloneIn : Trees → ℤ → Key → Type 0
+AreAloneIn trees db key = (leaf : Row) → IsLeafOf trees db key leaf → IsLeafAlone (IsLeafOf trees db key) leaf
+
+-- the row has the columns of a leaf of some register
+abbrev pub IsAnyLeaf : Row → Type 0
+IsAnyLeaf row = (db : ℤ) × (key : Key) × (block : ℕ) × (bytes : List ℕ) × (row ≡ block_row db key block bytes)
+
 -- Each row of `blocks` is such a leaf of a register, and `postings` and `dict` have none.
 pub record AreLeavesAlone (trees : Trees) : Type 0 where
-  pub blocks : (row : Row) → HasRow trees blocks_tree row
-      → (db : ℤ) × (key : Key) × (block : ℕ) × (bytes : List ℕ) × (row ≡ block_row db key block bytes)
-  pub leaves : (db : ℤ) (key : Key) (leaf : Row) → IsLeafOf trees db key leaf → IsLeafAlone (IsLeafOf trees db key) leaf
+  pub blocks : (row : Row) → HasRow trees blocks_tree row → IsAnyLeaf row
+  pub leaves : (db : ℤ) (key : Key) → AreAloneIn trees db key
   pub alone : (trees postings_tree ≡ []) × (trees dict_tree ≡ [])
 
 -- The tables of the registers hold the content: each block of each key reads as the key's postings there, and no row and no entry stands

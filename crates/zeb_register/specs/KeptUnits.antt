@@ -1,12 +1,12 @@
 -- What a change in leaves leaves as it was. A leaf says units of many keys, and a change may part it: so what stays is told unit by unit, and
 -- row by row only where a row is of no register that is changed.
-use Rattle.std.specs.Prelude.{◌≡◌, ◌↔◌, ◌++◌, ℕ, ℤ, pos, List}
+use Rattle.std.specs.Prelude.{◌≡◌, ◌⊎◌, ◌↔◌, ◌++◌, ℕ, ℤ, pos, List}
 use Rattle.sqlite.specs.declared.types.Value.TheVariants.{Int}
 use Rattle.sqlite.specs.Order.{Row, column}
 use Rattle.sqlite.specs.Tree.{Trees}
 use Rattle.zeb_keys.specs.declared.keys.Key.{Key}
 use Rattle.zeb_register.specs.declared.registers.Place.{Place}
-use Rattle.zeb_register.specs.HeldLeaves.{AreLeavesAlone}
+use Rattle.zeb_register.specs.HeldLeaves.{AreAloneIn, IsAnyLeaf}
 use Rattle.zeb_register.specs.LeafUnits.{AreLeavesMiscounted, IsLeafMalformed, LeavesCount, LeavesRead}
 use Rattle.zeb_register.specs.PlainRows.{register_front}
 use Rattle.zeb_register.specs.Sql.{HasRow}
@@ -26,13 +26,15 @@ IsLeafAmong db Changed row =
     × (row ≡ register_front db key.index key.register ++ leaf) × (column leaf 1 ≡ Int (pos block))
 
 -- Each other unit of any database reads as it did and is malformed where it was, and each key without one of them counts as it did. Where no
--- row and no entry stood beside, none does. Each row that isn't a leaf of a register with one of them is as it was.
+-- entry of a register stood beside what is read of it, none does, whatever other registers have. A row that comes is a leaf of some register, and
+-- each row that isn't a leaf of a register with one of these units is as it was.
 pub record KeepsUnits (db : ℤ) (Changed : Key → ℕ → Type 0) (old new : Trees) : Type 0 where
   pub reads : (d : ℤ) (key : Key) (sysno : ℕ) → ¬ HasUnit db Changed d key sysno → (places : List Place) → LeavesRead old d key sysno places ↔ LeavesRead new d key sysno places
   pub malformed : (d : ℤ) (key : Key) (sysno : ℕ) → ¬ HasUnit db Changed d key sysno → IsLeafMalformed old d key sysno ↔ IsLeafMalformed new d key sysno
   pub counts : (d : ℤ) (key : Key) → ¬ HasKeyUnit db Changed d key → (records : ℕ) → LeavesCount old d key records ↔ LeavesCount new d key records
   pub miscounted : (d : ℤ) (key : Key) → ¬ HasKeyUnit db Changed d key → AreLeavesMiscounted old d key ↔ AreLeavesMiscounted new d key
-  pub alone : AreLeavesAlone old → AreLeavesAlone new
+  pub alone : (d : ℤ) (key : Key) → AreAloneIn old d key → AreAloneIn new d key
+  pub shaped : (row : Row) → HasRow new blocks_tree row → HasRow old blocks_tree row ⊎ IsAnyLeaf row
   pub blocks : (row : Row) → ¬ IsLeafAmong db Changed row → HasRow new blocks_tree row ↔ HasRow old blocks_tree row
   pub postings : new postings_tree ≡ old postings_tree
   pub dict : new dict_tree ≡ old dict_tree

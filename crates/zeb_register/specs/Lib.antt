@@ -12,7 +12,6 @@ pub mod PrivateClauses
 pub mod Answers
 pub mod Queries
 pub mod Occurring
-pub mod Tallies
 pub mod PlainRows
 pub mod PackedBlocks
 pub mod PrivateRowStatements
@@ -26,6 +25,7 @@ pub mod LeafUnits
 pub mod HeldLeaves
 pub mod Worked
 pub mod Formats
+pub mod Tallies
 pub mod Between
 pub mod Units
 pub mod Terms

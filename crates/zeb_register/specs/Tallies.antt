@@ -1,5 +1,8 @@
--- How much a call counts of the rows of the packed tables.
-use Rattle.std.specs.Prelude.{◌≡◌, ◌⊎◌, ◌+◌, ◌-◌, ◌≤◌, ◌<◌, ◌^◌, ℕ}
+-- How much a call counts of the rows of the packed tables, and of leaves.
+use Rattle.std.specs.Prelude.{◌≡◌, ◌⊎◌, ◌+◌, ◌-◌, ◌*◌, ◌≤◌, ◌<◌, ◌^◌, ℕ, length}
+use Rattle.sqlite.specs.Tree.{Trees}
+use Rattle.zeb_register.specs.Formats.{Format, packed_blocks, packed_leaves, plain_rows}
+use Rattle.zeb_register.specs.Store.{blocks_tree}
 use Rattle.zeb_register.specs.declared.registers.Work.{Work}
 
 -- a count rises by so much, or stands at its greatest value where that is above it
@@ -19,3 +22,36 @@ pub record AreInRange (work : Work) : Type 0 where
   pub dict_written : work.dict_written < 2 ^ 64
   pub block_read : work.block_read < 2 ^ 64
   pub block_written : work.block_written < 2 ^ 64
+
+-- ---- leaves
+
+-- a count rises by so much at most
+abbrev pub RisesWithin : ℕ → ℕ → ℕ → Type 0
+RisesWithin most old new = (by : ℕ) × (by ≤ most) × Rises by old new
+
+-- the table of leaves has so many rows more
+abbrev pub HasMoreLeaves : ℕ → (old new : Trees) → Type 0
+HasMoreLeaves more old new = length (new blocks_tree) ≡ length (old blocks_tree) + more
+
+-- Each of so many changes of a record's places under a key reads one leaf and writes one at most, and each leaf that comes is written
+-- besides. Where none is written, none is changed.
+pub record WorksOnLeaves (changes : ℕ) (old new : Trees) (was is : Work) : Type 0 where
+  pub reads_terms : is.dict_read ≡ was.dict_read
+  pub writes_terms : is.dict_written ≡ was.dict_written
+  pub reads_leaves : RisesWithin changes was.block_read is.block_read
+  pub more : ℕ
+  pub comes : HasMoreLeaves more old new
+  pub writes_leaves : RisesWithin (changes + more) was.block_written is.block_written
+  pub unwritten : is.block_written ≡ was.block_written → (was.block_written ≡ 2 ^ 64 - 1) ⊎ (new blocks_tree ≡ old blocks_tree)
+
+-- ---- in each format
+
+-- what so many changes of a record's places under a key count
+abbrev pub works_for : Format → (row_work changes : ℕ) → (old new : Trees) → Work → Work → Type 0
+works_for plain_rows row_work changes old new = Works (row_work * changes) (row_work * changes) (row_work * changes) (row_work * changes)
+works_for packed_blocks row_work changes old new = Works (row_work * changes) (row_work * changes) (row_work * changes) (row_work * changes)
+works_for packed_leaves row_work changes old new = WorksOnLeaves changes old new
+
+-- changes count nothing in the layout
+abbrev pub CountsNothing : Format → (row_work : ℕ) → Type 0
+CountsNothing format row_work = (format ≡ plain_rows) × (row_work ≡ 0)

@@ -1,4 +1,4 @@
--- What calls tell of the terms of a register by their counts, on any rows of a store and in either format.
+-- What calls tell of the terms of a register by their counts, on any rows of a store and in each format.
 use Rattle.std.specs.Prelude.{◌≡◌, ◌≢◌, ◌↔◌, ◌⊎◌, ◌<◌, ◌≤◌, ◌*◌, ℕ, ℤ, List, [], ◌∷◌, Result, Vec, length, sum_by, IsUtf8}
 use Rattle.std.specs.declared.alloc.Global.{Global}
 use Rattle.std.specs.declared.cmp.Ordering.TheVariants.{Less}

@@ -10,6 +10,6 @@ pub use crate::record_parts::postings_changed;
 pub use crate::statements::inside::nothing_inside;
 pub use crate::statements::keys::KeyOf;
 pub use crate::statements::queries::look_up;
-pub use crate::tallies::counts_are_numbers;
+pub use crate::tallies::{counted, counts_are_numbers};
 pub use crate::terms::text_above;
 pub use crate::values::{read, read_bytes, read_number, stored};

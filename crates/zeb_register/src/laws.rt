@@ -15,7 +15,8 @@ ghost use Rattle.zeb_register.specs.Units.{HasMalformedBetween, ListsBetween, Li
 /// of a register its terms and its totals. And they tell no damage of a content that every layout can store.
 pub fn calls_tell_of_the_content()
     ensures list { (format : Format) (trees : Trees) (db : ℤ) (key : _)
-        → TellsOfContent format trees (ListsUnits format trees db key) (has_malformed format trees db key)
+        → TellsOfContent format trees (ListsUnits format trees db key)
+        (has_malformed format trees db key)
         (λ content list. list ≡ content db key) }
     ensures between { (format : Format) (trees : Trees) (at : _) (first last : List ℕ)
         → TellsOfContent format trees (ListsBetween format trees at first last)
@@ -27,11 +28,13 @@ pub fn calls_tell_of_the_content()
         (λ content list. AreTermsOf (posted content db) index register list) }
     ensures from { (format : Format) (trees : Trees) (db : ℤ) (index : ℕ) (register : _)
         (start : List ℕ) (n : ℕ) → TellsOfContent format trees
-        (ListsFrom format trees db index register start n) (HidesFrom format trees db index register start n)
+        (ListsFrom format trees db index register start n)
+        (HidesFrom format trees db index register start n)
         (λ content list. AreTermsFrom (posted content db) index register start n list) }
     ensures before { (format : Format) (trees : Trees) (db : ℤ) (index : ℕ) (register : _)
         (start : List ℕ) (n : ℕ) → TellsOfContent format trees
-        (ListsBefore format trees db index register start n) (HidesBefore format trees db index register start n)
+        (ListsBefore format trees db index register start n)
+        (HidesBefore format trees db index register start n)
         (λ content list. AreTermsBefore (posted content db) index register start n list) }
     ensures totals { (format : Format) (trees : Trees) (db : ℤ) (index : ℕ) (register : _)
         → TellsOfContent format trees (SumsUp format trees db index register)

@@ -70,10 +70,15 @@ pub struct Totals {
     pub occurrences: u64,
 }
 
-/// Work on the packed tables: on `dict`, which has one row for each term, and on `blocks`, which has one for each block of a term's
-/// postings. A look-up counts the rows that it reads. A change counts, in each of the four, one for each key whose places it changes;
-/// a row that several records of one command change is read and written once, and so its counts are bounds from above. A count stays
-/// at its type's greatest value once it is there.
+/// Work on the tables `dict` and `blocks`: how many of their rows are read and written. A count stays at its type's greatest value once it
+/// is there.
+///
+/// In packed tables `dict` has a row for each term, and `blocks` one for each block of a term's postings. A look-up counts those that it
+/// reads. A change counts one in each of the four for each record whose places under a key it changes. A row that several records change
+/// is read and written once, so that these counts are bounds from above.
+///
+/// In tables of leaves a change counts each leaf from which it reads what it changes, and each that it writes. A look-up counts nothing.
+/// In plain tables nothing counts.
 #[derive(Clone, Copy, Debug, Default, PartialEq, Eq)]
 pub struct Work {
     pub dict_read: u64,
@@ -93,7 +98,7 @@ pub trait Layout {
     ghost use Rattle.zeb_register.specs.Content.{Content};
     ghost use Rattle.zeb_register.specs.Content.{IsWithout, TakesWhole};
     ghost use Rattle.zeb_register.specs.Expected.{IsOrdered, AreExpected};
-    ghost use Rattle.zeb_register.specs.Tallies.{Works};
+    ghost use Rattle.zeb_register.specs.Tallies.{CountsNothing, Works, works_for};
     ghost use Rattle.zeb_register.specs.Between.{AreKeysBetween};
     ghost use Rattle.zeb_register.specs.Units.{ListsKey, ListsTerms};
     ghost use Rattle.zeb_register.specs.Terms.{TellsAll, TellsBefore, TellsFrom, TellsTotals, WorksThrough};
@@ -105,10 +110,10 @@ pub trait Layout {
     /// In which format the tables keep the registers.
     ghost format: { Format };
 
-    /// What a row of `dict` or `blocks` that is read or written adds to its count: 1, or 0 in a layout that has no such rows.
+    /// What a row of a term or of its block that is read or written adds to its count: 1, or 0 in a layout that has no such rows.
     ghost row_work: { ℕ };
 
-    /// How many rows of `blocks` a list of postings has.
+    /// How many rows of `blocks` are of a list of postings alone: these a look-up counts.
     ghost block_rows: { List Posting → ℕ };
 
     /// The text that a store of this layout keeps under the name `version`.
@@ -131,16 +136,19 @@ pub trait Layout {
         ensures units { ChangesKey format db.0 key.now
             (record { sysno = sysno; old = old.entry; new = new.entry } ∷ [])
             (state S.Store tx.old.conn.now) (state S.Store tx.new.conn.now) result }
-        ensures work { OnOk result (Works row_work row_work row_work row_work work.old work.new) }
-        ensures no_work { row_work ≡ 0 → work.new ≡ work.old }
+        ensures work { InStore (state S.Store tx.old.conn.now) (state S.Store tx.new.conn.now)
+            (λ trees. OnOk result (works_for format row_work 1 trees
+            (state S.Store tx.new.conn.now).now.trees work.old work.new)) }
+        ensures no_work { CountsNothing format row_work → work.new ≡ work.old }
     {
         let change = RecordChange { sysno, old, new };
         Self::key_changes(tx, work, db, key, &[change])
     }
 
     /// Puts places of a key in several records, one after the other, each where its `old` stood. The numbers of the records don't fall. A
-    /// layout may read and write a row once for several records that stand next to each other; it counts work as if each record had been
-    /// changed alone.
+    /// layout may read and write a row once for several records that stand next to each other. In packed tables work counts as if each
+    /// record had been changed alone. Of leaves it counts those that are read and written: for each record one at most, and besides each
+    /// that comes.
     ///
     /// `Damaged` where a record has other places than its `old`, where a row that is read is malformed, and where the number of the records
     /// that have the key is kept and can't follow. `Store` also where a number of a record is 0 or above 999,999,999, one of a place 0 or
@@ -158,13 +166,13 @@ pub trait Layout {
             (λ _. GoesOn) }
         ensures units { ChangesKey format db.0 key.now changes.now
             (state S.Store tx.old.conn.now) (state S.Store tx.new.conn.now) result }
-        ensures work { OnOk result (Works (row_work * length changes.now)
-            (row_work * length changes.now)
-            (row_work * length changes.now) (row_work * length changes.now) work.old work.new) }
-        ensures no_work { row_work ≡ 0 → work.new ≡ work.old };
+        ensures work { InStore (state S.Store tx.old.conn.now) (state S.Store tx.new.conn.now)
+            (λ trees. OnOk result (works_for format row_work (length changes.now) trees
+            (state S.Store tx.new.conn.now).now.trees work.old work.new)) }
+        ensures no_work { CountsNothing format row_work → work.new ≡ work.old };
 
     /// Puts the changes of a run of keys, each where its `old` stood. A layout may read and write a row once for several keys that it keeps
-    /// there; it counts work as if each key had been changed alone.
+    /// there. Work counts as that of `key_changes` does, for the records of all keys.
     ///
     /// It is refused where `key_changes` of one of the keys is, and keys may be changed then that stand before it.
     fn run_changes<S: Alter>(
@@ -179,9 +187,10 @@ pub trait Layout {
             (λ _. GoesOn) }
         ensures units { ChangesKeys format db.0 run.now
             (state S.Store tx.old.conn.now) (state S.Store tx.new.conn.now) result }
-        ensures work { OnOk result (Works (row_work * changes_in run.now) (row_work * changes_in run.now)
-            (row_work * changes_in run.now) (row_work * changes_in run.now) work.old work.new) }
-        ensures no_work { row_work ≡ 0 → work.new ≡ work.old }
+        ensures work { InStore (state S.Store tx.old.conn.now) (state S.Store tx.new.conn.now)
+            (λ trees. OnOk result (works_for format row_work (changes_in run.now) trees
+            (state S.Store tx.new.conn.now).now.trees work.old work.new)) }
+        ensures no_work { CountsNothing format row_work → work.new ≡ work.old }
     {
         // A closed connection is refused also where there is no key.
         nothing_inside(tx)?;
@@ -251,7 +260,8 @@ pub trait Layout {
     ) -> Result<Vec<TermCount>, RegFault>
         ensures call { Reading (state S.Store conn.old) (state S.Store conn.new) result
             (λ _. IsUnchanged) }
-        ensures units { TellsAll format at (state S.Store conn.old) (state S.Store conn.new) result }
+        ensures units { TellsAll format at (state S.Store conn.old)
+            (state S.Store conn.new) result }
         ensures work { IfOk result (λ list. Works (row_work * length list.items) 0 0 0 work.old
             work.new) }
         ensures no_work { row_work ≡ 0 → work.new ≡ work.old };
@@ -290,8 +300,8 @@ pub trait Layout {
             work.new) }
         ensures no_work { row_work ≡ 0 → work.new ≡ work.old };
 
-    /// How many terms of a register some record has, and how many postings these have. Each row of its terms and of their blocks counts once
-    /// in `work`. `Damaged` only where what is kept of one of these terms is malformed, or it isn't UTF-8.
+    /// How many terms of a register some record has, and how many postings these have. Each row of a term and of a block of its own counts
+    /// once in `work`. `Damaged` only where what is kept of one of these terms is malformed, or it isn't UTF-8.
     fn totals<S: Alter>(
         alloc: Global,
         conn: &mut Connection<S>,
@@ -355,7 +365,8 @@ pub fn changed_units_are_of_a_content()
         → holds_in format trees content → IsStorable content
         → AllByRecursion IsStorableChange changes → OldsRise changes
         → (after : Content) → AreChangedAt db key changes content after
-        → (were : KeyUnits) × (are : KeyUnits) × AllowsChanges format db key changes trees were are }
+        → (were : KeyUnits) × (are : KeyUnits)
+        × AllowsChanges format db key changes trees were are }
 {}
 
 /// What tables hold in a format is one content at most, and each of its lists rises. It is told by the tables of the registers alone, and

@@ -18,7 +18,8 @@ pub fn runs_are_keys_in_turn()
         → (old mid new : Trees) → PutsAny format db one.key.now one.changes.now old mid
         → PutsKeys format db run mid new → PutsKeys format db (one ∷ run) old new }
     ensures parted { (format : Format) → KeepsRows format
-        → (db : ℤ) (one : _) (run : List _) → KeysRise (one ∷ run) → (old new : Trees) → PutsKeys format db (one ∷ run) old new
+        → (db : ℤ) (one : _) (run : List _) → KeysRise (one ∷ run) → (old new : Trees)
+        → PutsKeys format db (one ∷ run) old new
         → (mid : Trees) × PutsAny format db one.key.now one.changes.now old mid
         × PutsKeys format db run mid new }
     ensures first { (format : Format) (db : ℤ) (one : _) (run : List _) (trees : Trees) (fault : _)

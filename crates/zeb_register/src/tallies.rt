@@ -1,8 +1,17 @@
 //! The counts of the work on registers.
 
-ghost use Rattle.zeb_register.specs.Tallies.{AreInRange};
+ghost use Rattle.std.specs.Prelude.{◌≤◌};
+ghost use Rattle.zeb_register.specs.Tallies.{AreInRange, Rises};
 
 use crate::registers::Work;
+
+/// A count with so many more; it stays at its greatest value.
+pub fn counted(count: u64, more: usize) -> u64
+    ensures rises { Rises more count result }
+    ensures keeps { count ≤ result }
+{
+    count.saturating_add(more as u64)
+}
 
 /// Each count of the work is a number of its type, as one knows who reads it. Nothing is done.
 pub fn counts_are_numbers(work: &Work)

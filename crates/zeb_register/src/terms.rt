@@ -67,7 +67,8 @@ fn count_occurrence(
     sysno: u64,
 ) -> Result<(), RegFault>
     requires room { (t : _) → Has counts.old.items t → t.records + 1 < 2 ^ 64 }
-    ensures counted { OnOk result (IsCountedIn newest term sysno counts.old.items counts.new.items) }
+    ensures counted { OnOk result
+        (IsCountedIn newest term sysno counts.old.items counts.new.items) }
     ensures honest { result ≢ Err RegFault.Damaged }
     ensures unstored { result ≢ Err RegFault.Store }
 {

@@ -1,5 +1,8 @@
 -- What is read of a match.
-use Rattle.zeb_words.proofs.Cited.{◌≡◌, ℕ, ◌<◌, ◌^◌, List, [], inl, inr, Option, Some, None, Result, Ok, Err, sym, subst, ap, ◌∙◌, Bool, true, false, codes, unwrap_or, Bor, IsNumeral, ParsesUnsigned, digits_value, without_leading_plus, ReadsOne, fault_of, Row, one_of, matches_of, subcommand_of, HasKind, kind_of, Error, DisplayHelp, DisplayVersion, OutOfMemory, Usage, BadUsage, Refused, Help, Memory, AreBad, IsActRead, IsFlagRead, IsFlagText, IsNumberRead, IsRefusedAs, program_app, IsBadAct, IsOwn, IsUsageOf, option_map}
+use Rattle.zeb_words.proofs.Cited.{◌≡◌, ℕ, ◌<◌, ◌^◌, List, [], inl, inr, Option, Some, None, Result, Ok, Err, sym, subst, ap, ◌∙◌, Bool, true, false, codes, unwrap_or, Bor, IsNumeral, ParsesUnsigned, digits_value, without_leading_plus, ReadsOne, fault_of, Row, one_of, matches_of, subcommand_of, HasKind, kind_of, Error, DisplayHelp, DisplayVersion, OutOfMemory, Usage, BadUsage, Refused, Help, Memory, Misuse, Name, PastNumber, ShowsElsewhere, NoCommand, ◌≢◌, help_word, IsHelp, IsMisuseOf, IsMisusedAct, Misuses, AreBad, IsActRead, IsFlagRead, IsFlagText, IsNumberRead, IsRefusedAs, program_app, IsBadAct, IsOwn, IsUsageOf, option_map}
+use Rattle.std.proofs.Common.{◌≤◌, ◌∷◌, arith, length, map, refl, slice_index_or, string_bytes}
+use Rattle.std.specs.Prelude.{IfErr, String}
+use Rattle.std.specs.declared.alloc.Global.{Global}
 
 pub text_read : (r : Option (Bor (List ℕ))) (other : Bor (List ℕ)) (t : Option (List ℕ)) → option_map (λ s. s.now) r ≡ t
     → (unwrap_or r other).now ≡ unwrap_or t other.now
@@ -32,14 +35,24 @@ pub flag_read : (given read : Option (List ℕ)) (flag : Bool) → given ≡ rea
     → (given ≡ Some (codes "false") → flag ≡ false) → IsFlagRead read flag
 flag_read given read flag same unset set clear = record { absent = λ e. unset (same ∙ e); yes = λ e. set (same ∙ e); no = λ e. clear (same ∙ e) }
 
+-- what words that are taken, and asked for something bad, are refused with
+abbrev pub OwnRefusal : List Row → Option (List ℕ × List Row) → Usage → Type 0
+OwnRefusal rows sub usage = IsOwn (AreBad rows sub) usage × Misuses (λ misuse. IsMisuseOf misuse rows sub) usage
+
 pub own_refused : (words : List (List ℕ)) (usage : Usage) → fault_of program_app words ≡ []
-    → IsOwn (AreBad (matches_of program_app words) (subcommand_of program_app words)) usage → IsRefusedAs words usage
-own_refused words BadUsage sound own = (sound, own)
-own_refused words Memory sound own = tt
-own_refused words _ sound own = absurd own
+    → IsOwn (AreBad (matches_of program_app words) (subcommand_of program_app words)) usage
+    → Misuses (λ misuse. IsMisuseOf misuse (matches_of program_app words) (subcommand_of program_app words)) usage → IsRefusedAs words usage
+own_refused words (BadUsage misuse) sound own why = (sound, own, why)
+own_refused words Memory sound own why = tt
+own_refused words _ sound own why = absurd own
+
+-- two facts of a refusal
+pub both_errs : {T : Type 0} (r : Result T Usage) (P Q : Usage → Type 0) → IfErr r P → IfErr r Q → IfErr r (λ usage. P usage × Q usage)
+both_errs (Ok x) P Q first second = tt
+both_errs (Err usage) P Q first second = (first, second)
 
 pub own_cause : (cause other : Type 0) (usage : Usage) → (cause → other) → IsOwn cause usage → IsOwn other usage
-own_cause cause other BadUsage so own = so own
+own_cause cause other (BadUsage misuse) so own = so own
 own_cause cause other Memory so own = tt
 own_cause cause other _ so own = absurd own
 
@@ -61,16 +74,43 @@ bad_words rows sub name shows given is flagged (inl none) = inl (λ flag named r
     (subst (λ n. IsActRead n shows r.given named.act) same.0 (subst (λ s. IsActRead r.name s r.given named.act) (same_flag (one_of (codes "shows") rows) r.shows shows flag r.flagged flagged) r.act))))
 bad_words rows sub name shows given is flagged (inr past) = inr (given, is ∙ ap (λ n. Some (n, given)) past.0, past.1)
 
-pub parser_refused : (words : List (List ℕ)) (error : Error) (usage : Usage) → HasKind (fault_of program_app words) error → IsUsageOf error usage
+-- the cause that is told of a command is one of the words
+pub misused_words : (rows : List Row) (sub : Option (List ℕ × List Row)) (name : List ℕ) (shows : Bool) (given : List Row) (misuse : Misuse) → ◌≡◌ {A = Option (List ℕ × List Row)} sub (Some (name, given))
+    → IsFlagRead (one_of (codes "shows") rows) shows → IsMisusedAct misuse name shows given → IsMisuseOf misuse rows sub
+misused_words rows sub name shows given Name is flagged bad = inr (name, given, is, bad)
+misused_words rows sub name shows given PastNumber is flagged bad = (given, is ∙ ap (λ n. Some (n, given)) bad.0, bad.1)
+misused_words rows sub name shows given ShowsElsewhere is flagged bad = (subst (IsFlagRead (one_of (codes "shows") rows)) bad.0 flagged, (name, given, is, bad.1))
+misused_words rows sub name shows given NoCommand is flagged bad = inr (name, given, is, bad)
+
+pub other_misuse : (P Q : Misuse → Type 0) (usage : Usage) → ((misuse : Misuse) → P misuse → Q misuse) → Misuses P usage → Misuses Q usage
+other_misuse P Q (BadUsage misuse) so h = so misuse h
+other_misuse P Q (Refused text) so h = tt
+other_misuse P Q (Help text) so h = tt
+other_misuse P Q Memory so h = tt
+
+pub parser_refused : (words : List (List ℕ)) (error : Error) (usage : Usage) → words ≢ help_word → HasKind (fault_of program_app words) error → IsUsageOf error usage
     → IsRefusedAs words usage
-parser_refused words error BadUsage kind is = absurd is
-parser_refused words error (Refused text) (inl memory) is = absurd (is.0 memory)
-parser_refused words error (Refused text) (inr among) is = (kind_of error, among, is.1)
-parser_refused words error (Help text) (inl memory) (inl is) =
+parser_refused words error (BadUsage misuse) other kind is = absurd is
+parser_refused words error (Refused text) other (inl memory) is = absurd (is.0 memory)
+parser_refused words error (Refused text) other (inr among) is = ((kind_of error, among, is.1), other)
+parser_refused words error (Help text) other (inl memory) (inl is) =
     let bad : DisplayHelp ≡ OutOfMemory = sym is ∙ memory in
     cc
-parser_refused words error (Help text) (inl memory) (inr is) =
+parser_refused words error (Help text) other (inl memory) (inr is) =
     let bad : DisplayVersion ≡ OutOfMemory = sym is ∙ memory in
     cc
-parser_refused words error (Help text) (inr among) is = (kind_of error, among, is)
-parser_refused words error Memory kind is = tt
+parser_refused words error (Help text) other (inr among) is = inl (kind_of error, among, is)
+parser_refused words error Memory other kind is = tt
+
+-- the word for help is answered with help
+pub help_refused : (words : List (List ℕ)) (usage : Usage) → words ≡ help_word → IsHelp usage → IsRefusedAs words usage
+help_refused words (BadUsage misuse) is h = absurd h
+help_refused words (Refused text) is h = absurd h
+help_refused words (Help text) is h = inr is
+help_refused words Memory is h = tt
+
+-- a row of one word
+pub only_word : (words : List (String Global)) (other : String Global) → 1 ≤ length words → length words < 2 → map string_bytes words ≡ string_bytes (slice_index_or words 0 other) ∷ []
+only_word [] other some few = absurd (omega arith)
+only_word (w ∷ []) other some few = refl
+only_word (a ∷ b ∷ rest) other some few = absurd (omega arith)

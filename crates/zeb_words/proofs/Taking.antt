@@ -1,6 +1,8 @@
 -- Words that name a command are taken by the parser, and read as it.
-use Rattle.zeb_words.proofs.Cited.{ℕ, Option, ◌≡◌, ◌∙◌, ◌⊎◌, inl, inr, Bool, refl, sym, ap, ap₂, subst, List, [], ◌∷◌, Some, None, codes, true, false, map, cond, arith, ◌≤◌, string_bytes, unwrap_or, slice_get, bytes_eq, bytes_eq-Decides, Row, Text, has_row, one_of, rows_after, with_default, App, built, entered, matches_of, subcommand_of, check_fault, default_fault, entered_fault, fault_of, or_else, name_bytes, Config, Database, Given, IsOneOr, Setting, Shows, databases, files, shown, NamesAct, NamesNone, NamesWords, AreBad, IsActRead, IsChoiceRead, LayoutChoice, Unsaid, IsFlagRead, IsFlagText, IsNumberRead, IsPast, IsReadFrom, IsRefusedAs, path_texts, program_app, text_or, Words, Usage, BadUsage, Memory, IsAmong, Act, Init, Create, Drop, Update, Delete, Adelete, Stat, Dump, Check, Reindex, Upgrade, Find, Scan, Batch, Shell, is_some}
+use Rattle.zeb_words.proofs.Cited.{ℕ, Option, ◌≡◌, ◌∙◌, ◌⊎◌, inl, inr, Bool, refl, sym, ap, ap₂, subst, List, [], ◌∷◌, Some, None, codes, true, false, map, cond, arith, ◌≤◌, string_bytes, unwrap_or, slice_get, bytes_eq, bytes_eq-Decides, Row, Text, has_row, one_of, rows_after, with_default, App, built, entered, matches_of, subcommand_of, check_fault, default_fault, entered_fault, fault_of, or_else, name_bytes, Config, Database, Given, IsOneOr, Setting, Shows, databases, files, shown, NamesAct, NamesNone, NamesWords, AreBad, IsActRead, IsChoiceRead, LayoutChoice, Unsaid, IsFlagRead, IsFlagText, IsNumberRead, IsPast, IsReadFrom, IsRefusedAs, UnknownArgument, Refused, Help, help_word, path_texts, program_app, text_or, Words, Usage, BadUsage, Memory, IsAmong, Act, Init, Create, Drop, Update, Delete, Adelete, Stat, Dump, Check, Reindex, Upgrade, Find, Scan, Batch, Shell, is_some}
+use Rattle.clap.proofs.OnLiterals.{clap_on_literals}
 use Rattle.clap.specs.Faults.{defaults_fault}
+use Rattle.clap.specs.declared.error.kind.ErrorKind.TheVariants.{InvalidSubcommand}
 use Rattle.zeb_words.specs.Names as names
 use Rattle.zeb_words.proofs.ReadingLemmas.{pair_parts}
 use Rattle.zeb_words.proofs.Items.{AllItems, AtMostOne, Once, most_once, row, values}
@@ -281,8 +283,20 @@ names_taken words named n =
           (subst (λ c. Numbered c (rows_after (rules t.l) [] n.behind) numbers.0 numbers.1 numbers.2) same.0 numbers.3);
     }
 
+-- the parser takes the word for help for no command
+help_faulty : fault_of program_app help_word ≡ UnknownArgument ∷ InvalidSubcommand ∷ []
+unfolding clap_on_literals
+help_faulty = refl
+
+no_command : fault_of program_app help_word ≡ [] → ⊥
+no_command sound =
+    let bad : UnknownArgument ∷ InvalidSubcommand ∷ [] ≡ [] = sym help_faulty ∙ sound in
+    cc
+
 -- so words that are refused name none
 pub none_named : (words : List Text) (usage : Usage) → IsRefusedAs words usage → NamesNone words usage
-none_named words BadUsage refused = λ named n. (names_taken words named n).never refused.1
+none_named words (BadUsage misuse) refused = λ named n. (names_taken words named n).never refused.1
 none_named words Memory refused = tt
-none_named words _ refused = λ named n. subst (IsAmong refused.0) (names_taken words named n).fault refused.1
+none_named words (Refused text) refused = λ named n. subst (IsAmong refused.0.0) (names_taken words named n).fault refused.0.1
+none_named words (Help text) (inl asked) = λ named n. subst (IsAmong asked.0) (names_taken words named n).fault asked.1
+none_named words (Help text) (inr is) = λ named n. no_command (sym (ap (fault_of program_app) is) ∙ (names_taken words named n).fault)

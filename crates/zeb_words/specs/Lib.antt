@@ -1,4 +1,5 @@
 pub mod Parses
+pub mod Misuses
 pub mod PrivateParses
 pub mod Grammar
 pub mod Names

@@ -90,7 +90,7 @@ pub record NamesWords (words : List Text) (named : Words) : Type 0 where
 
 -- words that are refused name no command; where memory ran out nothing is said
 abbrev pub NamesNone : List Text → Usage → Type 0
-NamesNone words BadUsage = (named : Words) → NamesWords words named → ⊥
+NamesNone words (BadUsage misuse) = (named : Words) → NamesWords words named → ⊥
 NamesNone words (Refused text) = (named : Words) → NamesWords words named → ⊥
 NamesNone words (Help text) = (named : Words) → NamesWords words named → ⊥
 NamesNone words Memory = ⊤

@@ -1,6 +1,6 @@
 -- The command that words name, by the definition of a parse that stands with the parser, `clap`: which options, arguments and
 -- commands the parser is told of, that it finds no fault in the words, and what its matches come to.
-use Rattle.std.specs.Prelude.{ℕ, ◌≡◌, ◌≤◌, ◌<◌, ◌^◌, pos, Bool, true, false, List, [], map, Option, Some, None, codes, String, string_bytes, unwrap_or, ◌⊎◌, ⊤}
+use Rattle.std.specs.Prelude.{ℕ, ◌≡◌, ◌≤◌, ◌<◌, ◌^◌, pos, Bool, true, false, List, [], ◌∷◌, map, Option, Some, None, codes, String, string_bytes, unwrap_or, ◌⊎◌, ⊤}
 use Rattle.std.specs.Str.Parse.{IsNumeral, digits_value, without_leading_plus}
 use Rattle.zeb_image.specs.NameOf.{name_bytes}
 use Rattle.clap.specs.Walk.{Row, Rule, Text, first_of, one_of, all_of}
@@ -15,8 +15,6 @@ use Rattle.zeb_words.specs.declared.words.LayoutChoice.{LayoutChoice}
 use Rattle.zeb_words.specs.declared.words.LayoutChoice.TheVariants.{Leaves, Unsaid}
 use Rattle.zeb_words.specs.declared.words.Words.{Words}
 use Rattle.zeb_words.specs.declared.words.Act.{Act}
-use Rattle.zeb_words.specs.declared.words.Usage.{Usage}
-use Rattle.zeb_words.specs.declared.words.Usage.TheVariants.{BadUsage, Refused, Help, Memory}
 use Rattle.zeb_words.specs.declared.words.Act.TheVariants.{Init, Create, Drop, Update, Delete, Adelete, Stat, Dump, Check, Reindex, Upgrade, Find, Scan, Batch, Shell}
 
 -- ---- what the parser is told
@@ -197,10 +195,6 @@ HasRequest kinds = (kind : ErrorKind) × IsAmong kind kinds × IsRequest kind
 abbrev pub HasMistake : Kinds → Type 0
 HasMistake kinds = (kind : ErrorKind) × IsAmong kind kinds × (IsRequest kind → ⊥)
 
--- The words are refused: by the parser's text only where it finds a fault in them, with help or the version only where they ask
--- for one, and by the program itself only where the parser takes them.
-abbrev pub IsRefusedAs : List Text → Usage → Type 0
-IsRefusedAs words BadUsage = (fault_of program_app words ≡ []) × AreBad (matches_of program_app words) (subcommand_of program_app words)
-IsRefusedAs words (Refused text) = HasMistake (fault_of program_app words)
-IsRefusedAs words (Help text) = HasRequest (fault_of program_app words)
-IsRefusedAs words Memory = ⊤
+-- the word that asks for help, alone
+abbrev pub help_word : List Text
+help_word = codes "help" ∷ []

@@ -6,9 +6,12 @@ ghost use Rattle.clap.specs.Simple.{subcommand_rows_of};
 ghost use Rattle.clap.specs.Matches.{found_of};
 ghost use Rattle.zeb_image.specs.NameOf.{name_bytes};
 ghost use Rattle.zeb_image.specs.Names.{IsDatabaseName};
+ghost use Rattle.zeb_words.specs.Misuses.{IsMisuseOf};
 ghost use Rattle.zeb_words.specs.Parses.{AreBad, IsChoiceRead, IsPast, IsActRead, IsNumberRead, IsReadFrom, path_texts, text_or};
-ghost use Rattle.zeb_words.specs.PrivateParses.{IsBadAct, IsOwn};
+ghost use Rattle.zeb_words.specs.PrivateParses.{IsBadAct, IsMisusedAct, IsMisusedName, IsOwn, Misuses};
+ghost use Rattle.zeb_words.specs.declared.misuses.Misuse.TheVariants.{PastNumber};
 
+use crate::misuses::Misuse;
 use crate::words::{Act, LayoutChoice, Usage, Words};
 use clap::ArgMatches;
 use std::alloc::{AllocError, Global};
@@ -26,12 +29,14 @@ pub(crate) fn words_of(alloc: Global, matches: &ArgMatches<'_>) -> Result<Words,
         (subcommand_rows_of matches.now)) }
     ensures own { IfErr result (IsOwn (AreBad (rows_of (found_of matches.now))
         (subcommand_rows_of matches.now))) }
+    ensures why { IfErr result (Misuses (λ misuse. IsMisuseOf misuse
+        (rows_of (found_of matches.now)) (subcommand_rows_of matches.now))) }
 {
     let config = String::from_str(alloc, text_of(matches, "config", CONFIG))?;
     let database = name_of(text_of(matches, "database", DATABASE))?;
     let shows = matches.get_flag("shows");
     let Some((name, given)) = matches.subcommand() else {
-        return Err(Usage::BadUsage);
+        return Err(Usage::BadUsage(Misuse::NoCommand));
     };
     let act = act_of(alloc, name, shows, given)?;
     Ok(Words {
@@ -45,9 +50,11 @@ pub(crate) fn words_of(alloc: Global, matches: &ArgMatches<'_>) -> Result<Words,
 fn act_of(alloc: Global, name: &str, shows: bool, given: &ArgMatches<'_>) -> Result<Act, Usage>
     ensures value { IfOk result (IsActRead name.now shows (rows_of (found_of given.now))) }
     ensures own { IfErr result (IsOwn (IsBadAct name.now shows (rows_of (found_of given.now)))) }
+    ensures why { IfErr result (Misuses (λ misuse. IsMisusedAct misuse name.now shows
+        (rows_of (found_of given.now)))) }
 {
     if shows && name != "update" {
-        return Err(Usage::BadUsage);
+        return Err(Usage::BadUsage(Misuse::ShowsElsewhere));
     }
     match name {
         "init" => Ok(Act::Init(choice_of(given))),
@@ -68,7 +75,7 @@ fn act_of(alloc: Global, name: &str, shows: bool, given: &ArgMatches<'_>) -> Res
         "scan" => scanned(alloc, given),
         "batch" => Ok(Act::Batch),
         "shell" => Ok(Act::Shell),
-        _ => Err(Usage::BadUsage),
+        _ => Err(Usage::BadUsage(Misuse::NoCommand)),
     }
 }
 
@@ -100,8 +107,9 @@ fn number_of(given: &ArgMatches<'_>, name: &str, other: u32) -> u32
 fn name_of(text: &str) -> Result<DbName, Usage>
     ensures value { IfOk result (λ name. name_bytes name ≡ text.now) }
     ensures own { IfErr result (IsOwn (IsDatabaseName text.now → ⊥)) }
+    ensures why { IfErr result (Misuses (IsMisusedName text.now)) }
 {
-    DbName::read(text).ok_or(Usage::BadUsage)
+    DbName::read(text).ok_or(Usage::BadUsage(Misuse::Name))
 }
 
 /// The name of `create` and `drop`.
@@ -110,6 +118,8 @@ fn named(given: &ArgMatches<'_>) -> Result<DbName, Usage>
         (rows_of (found_of given.now))) }
     ensures own { IfErr result (IsOwn (IsDatabaseName
         (text_or (codes "name") [] (rows_of (found_of given.now))) → ⊥)) }
+    ensures why { IfErr result (Misuses (IsMisusedName
+        (text_or (codes "name") [] (rows_of (found_of given.now))))) }
 {
     name_of(text_of(given, "name", ""))
 }
@@ -163,11 +173,13 @@ fn found(alloc: Global, given: &ArgMatches<'_>) -> Result<Act, Usage>
 fn scanned(alloc: Global, given: &ArgMatches<'_>) -> Result<Act, Usage>
     ensures value { IfOk result (IsActRead (codes "scan") false (rows_of (found_of given.now))) }
     ensures own { IfErr result (IsOwn (IsPast (rows_of (found_of given.now)))) }
+    ensures why { IfErr result (Misuses (λ misuse. (misuse ≡ PastNumber)
+        × IsPast (rows_of (found_of given.now)))) }
 {
     let number = number_of(given, "number", 20);
     let position = number_of(given, "position", 1);
     if number < position {
-        return Err(Usage::BadUsage);
+        return Err(Usage::BadUsage(Misuse::PastNumber));
     }
     let query = query_of(alloc, given)?;
     Ok(Act::Scan {

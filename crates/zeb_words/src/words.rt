@@ -1,12 +1,15 @@
 //! The commands of a command line, and the call that reads them.
 
-ghost use Rattle.std.specs.Prelude.{◌≡◌, IfErr, IfOk, map, string_bytes, false, true};
+ghost use Rattle.std.specs.Prelude.{◌≡◌, ◌≢◌, IfErr, IfOk, map, string_bytes, false, true};
 ghost use Rattle.zeb_words.specs.Names.{NamesNone, NamesWords};
-ghost use Rattle.zeb_words.specs.Parses.{IsParsedAs, IsRefusedAs, IsRequest};
-ghost use Rattle.zeb_words.specs.PrivateParses.{IsUsageOf};
+ghost use Rattle.zeb_words.specs.Misuses.{IsRefusedAs};
+ghost use Rattle.zeb_words.specs.Parses.{IsParsedAs, IsRequest, help_word};
+ghost use Rattle.zeb_words.specs.PrivateParses.{IsHelp, IsRefusal, IsUsageOf};
 
+use crate::misuses::Misuse;
 use crate::program::program;
 use crate::reading::words_of;
+use crate::tips::without_tips;
 use clap::Error;
 use clap::error::ErrorKind;
 use std::alloc::{AllocError, Global};
@@ -83,10 +86,9 @@ pub enum Act {
 /// Why words name no command.
 #[derive(Debug, Drop)]
 pub enum Usage {
-    /// A name that no database may have, a position above the number of terms, or `-s` with another
-    /// command than `update`.
-    BadUsage,
-    /// The parser refused the words; its text, which says why.
+    /// The program itself takes no command from them, for this cause.
+    BadUsage(Misuse),
+    /// The parser refused the words; its text, which says why. What it advises beside is left out.
     Refused(String),
     /// Help or the version was asked for; its text.
     Help(String),
@@ -104,17 +106,45 @@ impl From<AllocError> for Usage {
     }
 }
 
-/// Reads the words of a command line, the program's name not among them.
+/// Reads the words of a command line, the program's name not among them. The word `help` alone asks for what `--help` does.
 pub fn read_words(alloc: Global, words: &[String]) -> Result<Words, Usage>
     ensures named { IfOk result (NamesWords (map string_bytes words.now)) }
     ensures parsed { IfOk result (IsParsedAs (map string_bytes words.now)) }
     ensures nameless { IfErr result (NamesNone (map string_bytes words.now)) }
     ensures refused { IfErr result (IsRefusedAs (map string_bytes words.now)) }
 {
+    if is_help(words) {
+        return Err(help(alloc));
+    }
     let program = program(alloc)?;
     match program.try_get_matches_from(words) {
         Ok(matches) => words_of(alloc, &matches),
         Err(error) => Err(usage_of(alloc, &error)),
+    }
+}
+
+/// Whether the words are the word `help` alone.
+fn is_help(words: &[String]) -> bool
+    ensures alone { result ≡ true → map string_bytes words.now ≡ help_word }
+    ensures other { result ≡ false → map string_bytes words.now ≢ help_word }
+{
+    match words {
+        [word] => word.as_str() == "help",
+        _ => false,
+    }
+}
+
+/// The help that `--help` asks for.
+fn help(alloc: Global) -> Usage
+    ensures { IsHelp result }
+{
+    let mut program = match program(alloc) {
+        Ok(program) => program,
+        Err(_) => return Usage::Memory,
+    };
+    match program.render_long_help() {
+        Ok(text) => Usage::Help(text),
+        Err(_) => Usage::Memory,
     }
 }
 
@@ -127,6 +157,16 @@ fn usage_of(alloc: Global, error: &Error) -> Usage
     }
     match format!(in alloc; "{error}") {
         Ok(text) if is_asked_for(error.kind()) => Usage::Help(text),
+        Ok(text) => refused(alloc, text.as_str()),
+        Err(_) => Usage::Memory,
+    }
+}
+
+/// A refusal with this text of the parser's, without what it advises.
+fn refused(alloc: Global, text: &str) -> Usage
+    ensures { IsRefusal result }
+{
+    match without_tips(alloc, text) {
         Ok(text) => Usage::Refused(text),
         Err(_) => Usage::Memory,
     }

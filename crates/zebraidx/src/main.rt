@@ -45,7 +45,7 @@ fn run_outside(rt: &HostRuntime) -> io::Result<u8> {
     let mut input = FromRead::new(BufReader::new(rt.alloc(), rt.reader())?);
     let mut output = Sink::new(BufWriter::new(rt.alloc(), rt.stdout())?);
     let mut fault_output = Sink::new(rt.stderr());
-    let tally = Tally::new(rt);
+    let tally = Tally::new(rt, rt.stderr().is_terminal());
     let mut files = Disk::counted(rt, &tally);
     let status = run(
         rt.alloc(),

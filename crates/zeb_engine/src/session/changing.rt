@@ -80,11 +80,12 @@ impl<S: Alter, L: Layout> Session<S, L> {
             (conditions (version_of L.format) self.old.profile self.old.limits) kind
             (name_bytes database.now)
             (state S.Store self.old.connection) (state S.Store self.new.connection) result }
+        // What it has counted, as a command that is a change.
         ensures counts { ReadersCount R.remaining R.has_failed readers.old readers.new
             (conditions (version_of L.format) self.old.profile self.old.limits) kind
             (name_bytes database.now)
             (state S.Store self.old.connection) (state S.Store self.new.connection) result
-            L.row_work self.new.work }
+            L.format L.row_work self.new.work }
     {
         let answer = self.change_from(database, kind, readers);
         // What is shown is what was committed.
@@ -98,8 +99,10 @@ impl<S: Alter, L: Layout> Session<S, L> {
         kind: Kind,
         readers: &mut [R],
     ) -> Result<Reply, Refusal>
-        ensures done { ReadersDone S.Store R.remaining R.may_fail R.has_failed readers.old readers.new
-            L.row_work (conditions (version_of L.format) self.old.profile self.old.limits) kind
+        ensures done { ReadersDone S.Store R.remaining R.may_fail R.has_failed readers.old
+            readers.new
+            L.format L.row_work
+            (conditions (version_of L.format) self.old.profile self.old.limits) kind
             (name_bytes database.now)
             self.old.connection self.new.connection result self.new.work }
         ensures under { (self.new.profile ≡ self.old.profile)

@@ -44,7 +44,7 @@ loop-nth-preserved g c =
           let was : HasCleanDisk (state g.S.Store c.loop-nth.tx.conn.now) = omega (arith, c.take_record.ensures.inside.crash.clean) in
           let so_far = c.loop-nth.invariant.stays was mode in
           continues_then _ _ _ so_far (c.in_ok-take_record.ensures.inside.stays clean so_far.mode);
-      steps = advances_then _ _ _ _ _ c.loop-nth.invariant.steps c.take_record.ensures.steps;
+      steps = advances_then _ _ _ _ _ _ c.loop-nth.invariant.steps c.take_record.ensures.steps;
       counted = omega (arith, c.loop-nth.invariant.counted, c.in_ok-take_record.ensures.counted);
       store = λ clean mode store.
           let was : HasCleanDisk (state g.S.Store c.loop-nth.tx.conn.now) = omega (arith, c.take_record.ensures.inside.crash.clean) in
@@ -102,4 +102,4 @@ returns-in_err-take_record-clause-takes g c clean mode store =
     c.read_record.new.buffer (g.R.Source.remaining c.read_record.new.reader) (record_read g (goal.at.returns-in_err-take_record-clause-takes g c).After-take_record).1 next refusal took))
 
 pub returns-in_err-take_record-clause-steps : goal.returns-in_err-take_record-clause-steps
-returns-in_err-take_record-clause-steps g c = advances_then _ _ _ _ _ c.loop-nth.invariant.steps c.take_record.ensures.steps
+returns-in_err-take_record-clause-steps g c = advances_then _ _ _ _ _ _ c.loop-nth.invariant.steps c.take_record.ensures.steps

@@ -10,7 +10,7 @@ invariant-loop-nth g l =
       able : StaysAble g.R.Source.may_fail g.R.Source.has_failed l.fn.reader l.reader;
       crash : Survives old now (λ _. ⊥);
       stays : HasCleanDisk now → IsTrue old.in_transaction → Continues old now;
-      steps : Advances l.setting.limits g.L.Layout.row_work l.fn.fold.progress l.fold.progress;
+      steps : Advances l.setting.limits g.L.Layout.format g.L.Layout.row_work l.fn.fold.progress l.fold.progress;
       counted : l.fold.tally.records + 1 ≡ l.fn.fold.tally.records + l.nth;
       store : HasCleanDisk now → IsTrue old.in_transaction → IsStore old → IsStore now;
       takes : HasCleanDisk now → IsTrue old.in_transaction → IsStore old → (failed : Bool) (end : At) (result : Result (Unit {0}) Refusal)

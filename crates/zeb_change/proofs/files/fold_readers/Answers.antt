@@ -49,7 +49,7 @@ loop-index-preserved g c =
           let was : HasCleanDisk (state g.S.Store c.loop-index.tx.conn.now) = omega (arith, c.fold_file.ensures.inside.crash.clean) in
           let so_far = c.loop-index.invariant.stays was mode in
           continues_then _ _ _ so_far (c.in_ok-fold_file.ensures.inside.stays clean so_far.mode);
-      steps = advances_then _ _ _ _ _ c.loop-index.invariant.steps c.fold_file.ensures.steps;
+      steps = advances_then _ _ _ _ _ _ c.loop-index.invariant.steps c.fold_file.ensures.steps;
       unread = λ j d behind.
           let other : j ≢ index = omega (arith, behind) in
           get_or-set_other readers index j _ d other ∙ c.loop-index.invariant.unread j d (omega (arith, behind));
@@ -110,7 +110,7 @@ returns-in_err-fold_file-clause-takes g c clean mode store =
     (λ fine. ap g.R.Source.has_failed (sym set) ∙ fine_at g.R.Source.has_failed (slice_set readers index c.fold_file.new.reader) index c.fold_file.new.reader fine within) all)
 
 pub returns-in_err-fold_file-clause-steps : goal.returns-in_err-fold_file-clause-steps
-returns-in_err-fold_file-clause-steps g c = advances_then _ _ _ _ _ c.loop-index.invariant.steps c.fold_file.ensures.steps
+returns-in_err-fold_file-clause-steps g c = advances_then _ _ _ _ _ _ c.loop-index.invariant.steps c.fold_file.ensures.steps
 
 -- ---- readers that fail
 

@@ -10,7 +10,7 @@ invariant-loop-index g l =
       able : StayAble g.R.Source.may_fail g.R.Source.has_failed l.fn.readers l.readers;
       crash : Survives old now (λ _. ⊥);
       stays : HasCleanDisk now → IsTrue old.in_transaction → Continues old now;
-      steps : Advances l.setting.limits g.L.Layout.row_work l.fn.fold.progress l.fold.progress;
+      steps : Advances l.setting.limits g.L.Layout.format g.L.Layout.row_work l.fn.fold.progress l.fold.progress;
       unread : (j : ℕ) (d : g.row.R.Denot) → l.index ≤ j → get_or l.readers j d ≡ get_or l.fn.readers j d;
       fine : (j : ℕ) → j < l.index → (d : g.row.R.Denot) → g.R.Source.has_failed (get_or l.readers j d) ≡ false;
       store : HasCleanDisk now → IsTrue old.in_transaction → IsStore old → IsStore now;

@@ -18,10 +18,10 @@ returns-clause-inside g c = record {
 }
 
 pub returns-in_err-write_pending-clause-steps : goal.returns-in_err-write_pending-clause-steps
-returns-in_err-write_pending-clause-steps g c = advances_worked _ _ _ _ _ c.fold_readers.ensures.steps c.write_pending.ensures.no_work
+returns-in_err-write_pending-clause-steps g c = advances_worked _ _ _ _ _ _ c.fold_readers.ensures.steps c.write_pending.ensures.no_work
 
 pub returns-clause-steps : goal.returns-clause-steps
-returns-clause-steps g c = advances_worked _ _ _ _ _ c.fold_readers.ensures.steps c.write_pending.ensures.no_work
+returns-clause-steps g c = advances_worked _ _ _ _ _ _ c.fold_readers.ensures.steps c.write_pending.ensures.no_work
 
 -- ---- readers that fail
 

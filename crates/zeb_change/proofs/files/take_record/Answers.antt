@@ -21,13 +21,13 @@ returns-clause-inside g c = record {
 -- ---- how far it goes
 
 pub returns-in_err-note_record-clause-steps : goal.returns-in_err-note_record-clause-steps
-returns-in_err-note_record-clause-steps g c = advanced _ _ _ _ c.note_record.ensures.steps
+returns-in_err-note_record-clause-steps g c = advanced _ _ _ _ _ c.note_record.ensures.steps
 
 pub returns-in_err-write_where_full-clause-steps : goal.returns-in_err-write_where_full-clause-steps
-returns-in_err-write_where_full-clause-steps g c = advances_worked _ _ _ _ _ (advanced _ _ _ _ c.note_record.ensures.steps) c.write_where_full.ensures.no_work
+returns-in_err-write_where_full-clause-steps g c = advances_worked _ _ _ _ _ _ (advanced _ _ _ _ _ c.note_record.ensures.steps) c.write_where_full.ensures.no_work
 
 pub returns-clause-steps : goal.returns-clause-steps
-returns-clause-steps g c = advances_worked _ _ _ _ _ (advanced _ _ _ _ c.note_record.ensures.steps) c.write_where_full.ensures.no_work
+returns-clause-steps g c = advances_worked _ _ _ _ _ _ (advanced _ _ _ _ _ c.note_record.ensures.steps) c.write_where_full.ensures.no_work
 
 -- ---- what is done, in rows
 

@@ -1,11 +1,24 @@
-use Rattle.zeb_change.proofs.Cited.{◌≡◌, ◌∙◌, List, Ok, Err, Result, OnOk, AllZip, ap, arith, map, rules, subst, sym, state, HasCleanDisk, RegFault, IsStore, Key, KeyNotes, key_order, changes_among, IsStrictlySortedBy, TakenKey, DoKeysRise, IsTakenFrom, WritesNotes}
+use Rattle.zeb_change.proofs.Cited.{◌≡◌, ◌∙◌, List, Ok, Err, Result, OnOk, AllZip, ap, arith, map, refl, rules, subst, sym, state, HasCleanDisk, RegFault, IsStore, Key, KeyNotes, key_order, changes_among, IsStrictlySortedBy, TakenKey, DoKeysRise, IsTakenFrom, WritesNotes}
 use Rattle.zeb_register.proofs.CallsInTurn.{quiet_then}
-use Rattle.zeb_change.proofs.CostLemmas.{due_nothing, due_written}
+use Rattle.zeb_change.proofs.CostLemmas.{due_noted, due_nothing, due_written}
 use Rattle.zeb_change.proofs.NotedChanges.{count_both}
 use Rattle.zeb_change.proofs.TakenKeys.{fewer_left, none_of, some_of, taken_rise}
 use Rattle.zeb_change.proofs.TransactionLemmas.{continues_then, goes_on}
 use Rattle.zeb_change.proofs.WrittenNotes.{first_refused, nothing_written, then_written}
 use Rattle.zeb_change.proofs.writing.write_runs.Goals as goal
+
+pub loop-taken-init : goal.loop-taken-init
+loop-taken-init g c =
+    let trees = (state g.S.Store c.args.tx.now.conn.now).now.trees in
+    record {
+      same = refl;
+      crash = search rules;
+      stays = search rules;
+      store = λ clean mode store. store;
+      leads = λ clean mode store end result writes. writes;
+      due = λ clean mode store. due_noted g.L.Layout.format g.L.Layout.row_work 0 trees trees c.args.work.now c.args.pending.now c.args.pending.now refl (omega arith);
+      no_work = λ none. refl;
+    }
 
 pub write_run-requires : goal.write_run-requires
 write_run-requires g c =
@@ -49,8 +62,11 @@ loop-taken-preserved g c =
           let put = (c.in_ok-write_run.ensures.rows out.entries from clean (so_far.stays was mode).mode (so_far.store was mode store)).1 in
           so_far.leads was mode store end result (subst (λ (es : List (Key × KeyNotes)). WritesNotes format c.args.db.0 es mid.now.trees end result) (sym out.first)
           (then_written format c.args.db.0 out.entries left (subst DoKeysRise out.first (out.rising some)) mid.now.trees last.now.trees put end result writes));
-      due = due_written g.L.Layout.row_work (changes_among out.entries) c.args.work.now c.loop-taken.work c.write_run.new.work c.args.pending.now c.loop-taken.pending c.take_run.new.self
-          c.counts_are_numbers.ensures so_far.due (c.in_ok-write_run.ensures.work out.entries from) (ap changes_among out.first ∙ count_both out.entries left);
+      due = λ clean mode store.
+          let was : HasCleanDisk mid = omega (arith, c.write_run.ensures.call.crash.clean) in
+          due_written format g.L.Layout.row_work (changes_among out.entries) first.now.trees mid.now.trees last.now.trees c.args.work.now c.loop-taken.work c.write_run.new.work
+          c.args.pending.now c.loop-taken.pending c.take_run.new.self c.counts_are_numbers.ensures (so_far.due was mode store)
+          (c.in_ok-write_run.ensures.work out.entries from clean (so_far.stays was mode).mode (so_far.store was mode store)) (ap changes_among out.first ∙ count_both out.entries left);
       no_work = λ none. c.write_run.ensures.no_work none ∙ so_far.no_work none;
     }
 
@@ -67,7 +83,13 @@ pub returns-then-is_empty-clause-all : goal.returns-then-is_empty-clause-all
 returns-then-is_empty-clause-all g c =
     let taken = c.in_ok-taken.taken in
     let none = c.in_ok-taken.ensures.none (none_of taken.items taken.len (omega (arith, taken.ok.0)) (sym c.if-is_empty.ensures)) in
-    (none.1, due_nothing g.L.Layout.row_work 0 c.args.work.now c.loop-taken.work c.args.pending.now c.loop-taken.pending c.take_run.new.self none.0 none.1 c.loop-taken.invariant.due)
+    let first = (state g.S.Store c.args.tx.now.conn.now).now.trees in
+    let last = (state g.S.Store c.loop-taken.tx.conn.now).now.trees in (
+      none.1,
+      λ clean mode store.
+          due_nothing g.L.Layout.format g.L.Layout.row_work 0 first last c.args.work.now c.loop-taken.work c.args.pending.now c.loop-taken.pending c.take_run.new.self none.0 none.1
+          (c.loop-taken.invariant.due clean mode store),
+    )
 
 pub returns-in_err-write_run-clause-rows : goal.returns-in_err-write_run-clause-rows
 returns-in_err-write_run-clause-rows g c clean mode store =

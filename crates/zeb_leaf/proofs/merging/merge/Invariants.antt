@@ -7,5 +7,5 @@ use Rattle.zeb_leaf.proofs.merging.merge.Given as goal
 abbrev pub invariant-loop-change : goal.invariant-loop-change
 invariant-loop-change l = record {
   left : into_iter_len l.change-iterator ≡ length (into_iter_items l.change-iterator);
-  leads : (end : List Entry) → MergesAll (into_iter_items l.change-iterator) l.left end → MergesAll l.fn.changes.items l.fn.entries (l.merged.items ++ end);
+  leads : (end : List Entry) → MergesAll (into_iter_items l.change-iterator) l.left.items end → MergesAll l.fn.changes.items l.fn.entries.items (l.merged.items ++ end);
 }

@@ -1,5 +1,5 @@
 -- An entry more takes the bytes that it takes behind the last term.
-use Rattle.zeb_leaf.proofs.Cited.{◌≡◌, ◌+◌, ◌<◌, ◌≤◌, ◌∙◌, [], ℕ, List, length, take, slice_index_or, refl, sym, ap, arith, Entry, Place, first_place, last_place, leaf_bytes}
+use Rattle.zeb_leaf.proofs.Cited.{◌≡◌, ◌<◌, ◌∙◌, [], length, take, slice_index_or, refl, sym, ap, arith, Entry, Place, first_place, last_place, leaf_bytes}
 use Rattle.zeb_leaf.specs.Leaves.{entries_bytes, entry_bytes}
 use Rattle.zeb_leaf.proofs.Fronts.{front_longer, last_of}
 use Rattle.zeb_leaf.proofs.parting.fitting.Goals.{else-count-gt0-via-then-count-gt0+else-len-most, else-count-gt0-via-else-count-gt0}

@@ -5,6 +5,7 @@ use Rattle.zeb_leaves.proofs.SpanCalls.{answers_between, uncovered_between, unsh
 use Rattle.zeb_leaves.specs.PrivateSaid.{SayAll, SomeSaysNone}
 use Rattle.zeb_leaves.specs.PrivateSpans.{SomeShowsNoKey}
 use Rattle.zeb_register.proofs.Answered.{refused_so}
+use Rattle.zeb_register.proofs.BetweenLemmas.{up_to}
 use Rattle.zeb_register.specs.Answers.{Answers, IfDamaged}
 use Rattle.zeb_register.specs.Between.{IsBetween}
 use Rattle.zeb_register.specs.declared.faults.RegFault.TheVariants.{Store}
@@ -13,6 +14,9 @@ use Rattle.zeb_leaves.proofs.between.ordered_between.Goals as goal
 -- a text that isn't above the last stands from itself to the last
 itself_between : (first last : List ℕ) → is_lt (slice_cmp nat_cmp last first) ≡ false → IsBetween first last first
 itself_between first last up = (ap is_lt (tied_itself nat_list_cmp_total first), up)
+
+pub span_leaves-requires : goal.span_leaves-requires
+span_leaves-requires g c = rw (c.as_str.ensures.value, c.in_ok-end.ensures) ((up_to c.args.last.now c.args.first.now).1 c.requires)
 
 pub returns-clause-units : goal.returns-clause-units
 returns-clause-units g c clean store =

@@ -1,30 +1,27 @@
-use Rattle.zeb_leaves.proofs.Cited.{HasCleanDisk, IsGreatest, IsUpTo, arith, own_key, state, subst}
+use Rattle.zeb_leaves.proofs.Cited.{HasCleanDisk, ◌∙◌, ℕ, List, arith, state, subst, IsCovering, IsGreatest, IsLeafIn, IsUpTo, leaf_key}
 use Rattle.sqlite.specs.Effect.{Database}
 use Rattle.std.proofs.lemmas.Result.{IfOk-weaker}
-use Rattle.zeb_leaves.proofs.CoveringLeaves.{covers_below, covers_own}
-use Rattle.zeb_leaves.proofs.InsideCalls.{inside_then, up_to_next}
-use Rattle.zeb_leaves.specs.PrivateLeafReads.{IsOfTermBelow, IsOfTermsBelow}
+use Rattle.zeb_leaves.proofs.InsideCalls.{inside_then}
+use Rattle.zeb_leaves.proofs.NextLeaves.{covers_up_to}
+use Rattle.zeb_leaves.specs.PrivateLeafReads.{IsOfTermsBelow}
 use Rattle.zeb_register.proofs.Calls.{store_same}
 use Rattle.zeb_leaves.proofs.inside.covering_leaf.Goals as goal
 
-pub returns-in-Some-clause-covers : goal.returns-in-Some-clause-covers
-returns-in-Some-clause-covers g c clean inside store =
+pub returns-then-is_up_to-clause-covers : goal.returns-then-is_up_to-clause-covers
+returns-then-is_up_to-clause-covers g c clean inside store =
     let s0 = state g.S.Store c.args.tx.now.conn.now in
-    let found = c.in_ok-leaf.ensures.finds clean inside store in
-    covers_own s0 store c.args.at.db.0 c.args.at.index c.args.at.register c.args.term.now c.args.block c.in-Some.leaf
-    (rw c.in-Some.is at (up_to_next (λ z. IsOfTermBelow c.args.at c.args.term.now z s0.now.trees) (λ row other. IsUpTo (own_key row) other) c.args.block _ c.requires found))
+    let found = subst (λ (end : List ℕ). IsGreatest (IsOfTermsBelow c.args.at end s0.now.trees) c.in_ok-last.last) (c.as_str.ensures.value ∙ c.in_ok-end.ensures) (c.in_ok-last.ensures.finds clean inside store) in
+    covers_up_to s0 store c.args.at.db.0 c.args.at.index c.args.at.register c.args.term.now c.args.block c.in_ok-last.last found
+    (λ leaf is. subst (λ (t : List ℕ). IsUpTo (leaf_key t c.args.block) leaf) c.as_bytes.ensures.value (c.is_up_to.ensures c.if-is_up_to.true leaf is))
 
-pub returns-in-None-clause-call : goal.returns-in-None-clause-call
-returns-in-None-clause-call g c = inside_then _ _ _ _ _ c.in_ok-leaf.ensures.call c.leaf_of_terms_below_inside.ensures.call
+pub returns-clause-call : goal.returns-clause-call
+returns-clause-call g c = inside_then _ _ _ _ _ c.in_ok-last.ensures.call c.covering_by_term.ensures.call
 
-pub returns-in-None-clause-covers : goal.returns-in-None-clause-covers
-returns-in-None-clause-covers g c clean inside store =
+pub returns-clause-covers : goal.returns-clause-covers
+returns-clause-covers g c clean inside store =
     let s0 = state g.S.Store c.args.tx.now.conn.now in
-    let s1 = state g.S.Store c.leaf_of_term_inside.new.tx.conn.now in
-    let clean1 : HasCleanDisk s1 = omega (arith, c.leaf_of_terms_below_inside.ensures.call.crash.clean) in
-    let read = c.in_ok-leaf.ensures.call.ok clean1 inside in
-    let found = c.in_ok-leaf.ensures.finds clean1 inside store in
-    let none = rw c.in-None.is at (up_to_next (λ z. IsOfTermBelow c.args.at c.args.term.now z s0.now.trees) (λ row other. IsUpTo (own_key row) other) c.args.block _ c.requires found) in
-    IfOk-weaker c.leaf_of_terms_below_inside.result _ _
-    (λ leaf below. covers_below s0 store c.args.at.db.0 c.args.at.index c.args.at.register c.args.term.now c.args.block none leaf (subst (λ (d : Database). IsGreatest (IsOfTermsBelow c.args.at c.args.term.now d.trees) leaf) read.now_is below))
-    (c.leaf_of_terms_below_inside.ensures.finds clean read.mode (store_same s0 s1 read.now_is store))
+    let s1 = state g.S.Store c.leaf_of_terms_below_inside.new.tx.conn.now in
+    let clean1 : HasCleanDisk s1 = omega (arith, c.covering_by_term.ensures.call.crash.clean) in
+    let read = c.in_ok-last.ensures.call.ok clean1 inside in
+    IfOk-weaker c.covering_by_term.result _ _ (λ found covers. subst (λ (d : Database). IsCovering (IsLeafIn d.trees c.args.at) (leaf_key c.args.term.now c.args.block) found) read.now_is covers)
+    (c.covering_by_term.ensures.covers clean read.mode (store_same s0 s1 read.now_is store))

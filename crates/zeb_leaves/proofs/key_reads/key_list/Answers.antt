@@ -1,5 +1,6 @@
 use Rattle.zeb_leaves.proofs.Cited.{◌≢◌, ◌∙◌, ℕ, List, Err, ap, subst, rules, state, IsLeafOf, IsUncovered, leaf_key}
 use Rattle.zeb_leaf.specs.declared.entries.Held.{Held}
+use Rattle.zeb_leaves.proofs.OnlyLeaf.{below_above}
 use Rattle.zeb_leaves.proofs.KeyCalls.{answers_listed, lacking_malformed, uncovered_lacking, unread_lacking}
 use Rattle.zeb_leaves.specs.PrivateSaid.{SayAll, SomeSaysNone}
 use Rattle.zeb_leaves.specs.PrivateSpans.{AreSpanLeaves, SomeShowsNoKey}
@@ -7,6 +8,9 @@ use Rattle.zeb_register.proofs.Answered.{refused_so}
 use Rattle.zeb_register.specs.Answers.{Answers, IfDamaged}
 use Rattle.zeb_register.specs.declared.faults.RegFault.TheVariants.{Store}
 use Rattle.zeb_leaves.proofs.key_reads.key_list.Goals as goal
+
+pub span_leaves-requires : goal.span_leaves-requires
+span_leaves-requires g c = rw (c.as_str.ensures.value, c.in_ok-end.ensures) (below_above c.as_str-term.result.now)
 
 pub returns-clause-units : goal.returns-clause-units
 returns-clause-units g c clean store =

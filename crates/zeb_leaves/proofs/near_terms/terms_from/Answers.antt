@@ -34,7 +34,7 @@ returns-in-Some-clause-call g c = reading_then _ _ _ _ _ c.in_ok-leaf.ensures.ca
 pub returns-in-Some-clause-units : goal.returns-in-Some-clause-units
 returns-in-Some-clause-units g c clean store =
     let s0 = state g.S.Store c.args.conn.now in
-    let s1 = state g.S.Store c.leaf_at.new.conn in
+    let s1 = state g.S.Store c.leaf_from.new.conn in
     let s2 = state g.S.Store c.terms_beside.new.conn in
     let at = c.args.at in
     let start = c.args.start.now in

@@ -1,6 +1,9 @@
-use Rattle.zeb_leaves.proofs.Cited.{rules}
-use Rattle.std.proofs.lemmas.Fn.{filter_same}
+use Rattle.std.specs.Option.{option_map}
+use Rattle.zeb_leaf.specs.declared.spans.BlockKey.{BlockKey}
+use Rattle.zeb_leaves.proofs.WalkedRows.{own_answers}
 use Rattle.zeb_leaves.proofs.own_entries.own_entries.Goals as goal
 
 pub returns : goal.returns
-returns c = (c.in_ok-entries.entries.items, c.in_ok-entries.ensures, filter_same _ _ _ (λ x b f' k. search rules) _ _ c.retain.ensures.filtered)
+returns c =
+    let ok = c.in_ok-bytes.ensures.ok in
+    own_answers c.args.row.now c.in_ok-bytes.bytes.now ok.0 ok.1 c.args.from.term.now c.args.from.block (option_map (λ (k : BlockKey). (k.term.now, k.block)) c.args.end) c.entries_in.result c.entries_in.ensures

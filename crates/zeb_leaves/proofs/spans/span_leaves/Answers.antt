@@ -1,13 +1,22 @@
-use Rattle.zeb_leaves.proofs.Cited.{HasCleanDisk, arith, state}
+use Rattle.zeb_leaves.proofs.Cited.{Row, ◌≡◌, ◌∙◌, ◌++◌, ◌∷◌, ℕ, List, [], HasCleanDisk, IsLeafIn, IsUncovered, ap, arith, leaf_key, state, subst, sym}
+use Rattle.sqlite.specs.Effect.{Database}
+use Rattle.zeb_leaves.proofs.OnlyLeaf.{only_spans}
+use Rattle.zeb_leaves.specs.PrivateSpans.{AreSpanLeaves}
 use Rattle.zeb_register.proofs.Calls.{store_same}
-use Rattle.zeb_leaves.proofs.SpanCalls.{answers_span}
+use Rattle.zeb_register.specs.Answers.{Answers, IfDamaged}
 use Rattle.zeb_leaves.proofs.spans.span_leaves.Goals as goal
 
-pub returns-in-Some-clause-finds : goal.returns-in-Some-clause-finds
-returns-in-Some-clause-finds g c clean store =
+pub returns-clause-finds : goal.returns-clause-finds
+returns-clause-finds g c clean store =
     let s0 = state g.S.Store c.args.conn.now in
-    let s1 = state g.S.Store c.leaf_at.new.conn in
-    let clean1 : HasCleanDisk s1 = omega (arith, c.span_from.ensures.call.crash.clean) in
+    let only = rw c.in-Some.is at (c.in_ok-leaf.ensures.finds clean store) in
+    let items = c.in_ok-push.ensures.items ∙ ap (λ (l : List Row). l ++ c.in-Some.leaf ∷ []) c.new-rows.ensures.items in
+    λ last is. subst (AreSpanLeaves (IsLeafIn s0.now.trees c.args.at) c.args.first.now last) (sym items) (only_spans (IsLeafIn s0.now.trees c.args.at) c.args.first.now c.args.end.now c.in-Some.leaf only last is)
+
+pub returns-in_default-clause-finds : goal.returns-in_default-clause-finds
+returns-in_default-clause-finds g c clean store =
+    let s0 = state g.S.Store c.args.conn.now in
+    let s1 = state g.S.Store c.only_leaf.new.conn in
+    let clean1 : HasCleanDisk s1 = omega (arith, c.many_leaves.ensures.call.crash.clean) in
     let same = (c.in_ok-leaf.ensures.call.ok clean1).0.now_is in
-    let covers = rw c.in-Some.is at (c.in_ok-leaf.ensures.finds clean1 store) in
-    answers_span s0 store c.args.at c.args.first.now c.args.end.now c.in-Some.leaf covers s1.now same c.span_from.result (c.span_from.ensures.lists clean (store_same s0 s1 same store)) c.span_from.ensures.honest
+    subst (λ (d : Database). Answers (IfDamaged (IsUncovered (IsLeafIn d.trees c.args.at) (leaf_key c.args.first.now 0))) (λ rows. (last : List ℕ) → c.args.end.now ≡ last ++ 0 ∷ [] → AreSpanLeaves (IsLeafIn d.trees c.args.at) c.args.first.now last rows.items) c.many_leaves.result) same (c.many_leaves.ensures.finds clean (store_same s0 s1 same store))

@@ -1,15 +1,21 @@
-use Rattle.zeb_leaves.proofs.Cited.{◌≡◌, all_has, arith, length, subst, AllByRecursion, Entry, IsAt}
-use Rattle.std.proofs.Common.{take}
-use Rattle.std.proofs.Math.Seq.{take-length}
+-- The entry at which the search ends is that of the key; where it ends at none, each other is below the key or above it.
+use Rattle.zeb_leaves.proofs.Cited.{◌∙◌, ap, rules}
+use Rattle.std.proofs.lemmas.Fn.{always_returns_same}
 use Rattle.zeb_register.proofs.ContentLemmas.{has_at}
+use Rattle.zeb_leaves.proofs.SearchedEntries.{key_at, lies, none_at, rise}
 use Rattle.zeb_leaves.proofs.turned_entries.entry_at.Goals as goal
 
-pub returns-then-is_at : goal.returns-then-is_at
-returns-then-is_at c = (has_at c.args.entries.now c.loop-entry.entry-index c.entry-item.result c.entry-item.is c.loop-entry-test.true, c.is_at.ensures.0 c.if-is_at.true)
+pub returns-in-Ok : goal.returns-in-Ok
+returns-in-Ok c =
+    let term = c.args.key.term.now in
+    let block = c.args.key.block in
+    let found = rw c.in-Ok.is at (c.binary_search_by.ensures.position (lies term block) (always_returns_same _ _ _ (λ a r f' k. search rules))) in
+    let e = c.index-entries-at.result in
+    (has_at c.args.entries.now c.in-Ok.at e c.index-entries-at.is (search rules), key_at term block e (ap (lies term block) c.index-entries-at.is ∙ found e))
 
-pub returns : goal.returns
-returns c e here at =
-    let entries = c.args.entries.now in
-    let Other = λ (d : Entry). ¬ IsAt c.args.key.term.now c.args.key.block d in
-    let whole : c.loop-entry.entry-index ≡ length entries = omega (arith, c.loop-entry-test.false, c.loop-entry.auto.entry-index-end) in
-    all_has Other entries e (subst (AllByRecursion Other) (take-length entries) (subst (λ i. AllByRecursion Other (take i entries)) whole c.loop-entry.invariant)) here at
+pub returns-in-Err : goal.returns-in-Err
+returns-in-Err c =
+    let term = c.args.key.term.now in
+    let block = c.args.key.block in
+    let found = rw c.in-Err.is at (c.binary_search_by.ensures.position (lies term block) (always_returns_same _ _ _ (λ a r f' k. search rules))) in
+    none_at term block c.args.entries.now c.in-Err.field-0 (found (rise term block c.args.entries.now c.requires))

@@ -1,10 +1,11 @@
 use Rattle.zeb_leaves.proofs.Cited.{HasCleanDisk, Row, ◌∙◌, Option, arith, refl, rules, state, subst, IsLeafAt, IsLeafIn, IsNextBehind, leaf_key}
 use Rattle.std.specs.Option.{option_map}
-use Rattle.std.specs.Prelude.{IsUtf8}
+use Rattle.std.specs.Prelude.{IsUtf8, OnOk}
 use Rattle.sqlite.specs.Effect.{Database}
 use Rattle.zeb_leaf.specs.declared.spans.BlockKey.{BlockKey as KeyOfBlock}
 use Rattle.zeb_register.proofs.Answered.{refused_so}
 use Rattle.zeb_register.proofs.Calls.{store_same}
+use Rattle.zeb_register.specs.Tallies.{WorksOnLeaves}
 use Rattle.zeb_register.specs.declared.registers.RegisterOf.{RegisterOf}
 use Rattle.zeb_leaves.proofs.FrontPieces.{covers_read, ends_leaf, one_key, uncovered_lacks}
 use Rattle.zeb_leaves.proofs.OwnedEntries.{end_shown}
@@ -74,3 +75,27 @@ returns-clause-turned g c clean inside store =
     subst (λ (d : Database). EndsLeaf (IsLeafIn d.trees at) leaf end → CoversFirst (IsLeafIn d.trees at) leaf pieces → PutsFront c.args.db.0 pieces d.trees s3 c.leaf_turned.result) (read2.now_is ∙ read1.now_is) turned
     (ends_leaf (IsLeafIn s0.now.trees at) key leaf covers c.in_ok-behind.behind end behind ends)
     (covers_read pieces c.requires.some p c.index-pieces-0.is c.as_str-term.result.now c.first_block-block.result c.as_str-term.ensures c.first_block-block.ensures (IsLeafIn s0.now.trees at) leaf covers)
+
+pub returns-in_default-clause-work : goal.returns-in_default-clause-work
+returns-in_default-clause-work g c clean inside store =
+    let s0 = state g.S.Store c.args.tx.now.conn.now in
+    let s1 = state g.S.Store c.leaf_inside.new.tx.conn.now in
+    let s2 = state g.S.Store c.register_begun.new.tx.conn.now in
+    let clean1 : HasCleanDisk s1 = omega (arith, c.register_begun.ensures.call.crash.clean) in
+    let read = c.in_ok-leaf.ensures.call.ok clean1 inside in
+    let counts = c.register_begun.ensures.work clean read.mode (store_same s0 s1 read.now_is store) in
+    subst (λ (d : Database). OnOk c.register_begun.result (WorksOnLeaves 1 d.trees s2.now.trees c.args.work.now c.register_begun.new.work)) read.now_is counts
+
+pub returns-clause-work : goal.returns-clause-work
+returns-clause-work g c clean inside store =
+    let s0 = state g.S.Store c.args.tx.now.conn.now in
+    let s1 = state g.S.Store c.leaf_inside.new.tx.conn.now in
+    let s2 = state g.S.Store c.leaf_behind.new.tx.conn.now in
+    let s3 = state g.S.Store c.leaf_turned.new.tx.conn.now in
+    let clean2 : HasCleanDisk s2 = omega (arith, c.leaf_turned.ensures.call.crash.clean) in
+    let clean1 : HasCleanDisk s1 = omega (arith, clean2, c.leaf_behind.ensures.call.crash.clean) in
+    let read1 = c.in_ok-leaf.ensures.call.ok clean1 inside in
+    let store1 = store_same s0 s1 read1.now_is store in
+    let read2 = c.in_ok-behind.ensures.call.ok clean2 read1.mode in
+    let counts = c.leaf_turned.ensures.work clean read2.mode (store_same s1 s2 read2.now_is store1) in
+    subst (λ (d : Database). OnOk c.leaf_turned.result (WorksOnLeaves 1 d.trees s3.now.trees c.args.work.now c.leaf_turned.new.work)) (read2.now_is ∙ read1.now_is) counts

@@ -1,6 +1,9 @@
-use Rattle.zeb_leaves.proofs.Cited.{◌∙◌, length, refl, state, sym, IsStore}
+use Rattle.zeb_leaves.proofs.Cited.{◌∙◌, ◌+◌, ap, arith, blocks_tree, length, refl, state, sym, IsStore}
+use Rattle.sqlite.specs.Effect.{Database}
 use Rattle.zeb_leaves.proofs.LastTold.{some_there}
 use Rattle.zeb_leaves.proofs.OneKey.{one_answered, one_run}
+use Rattle.zeb_register.proofs.Calls.{on_ok_so}
+use Rattle.zeb_register.proofs.WorkCounts.{leaves_still, more_leaves}
 use Rattle.zeb_register.specs.declared.registers.KeyChanges.{KeyChanges}
 use Rattle.zeb_leaves.proofs.turning.key_changes.Goals as goal
 
@@ -14,3 +17,16 @@ returns-clause-units g c clean inside store =
     let one : KeyChanges = record { key = c.args.key; changes = c.args.changes } in
     let changes = c.args.changes.now in
     one_answered c.args.db.0 one (some_there changes (length changes) refl (sym c.is_empty.ensures ∙ c.if-is_empty.false)) c.in_ok-check_changes.ensures.stored s0.now.trees s1.now.trees (IsStore s1) c.run_changes.result (c.run_changes.ensures.units clean inside store)
+
+pub returns-then-is_empty-clause-work : goal.returns-then-is_empty-clause-work
+returns-then-is_empty-clause-work g c clean inside store =
+    let s0 = state g.S.Store c.args.tx.now.conn.now in
+    let s1 = state g.S.Store c.nothing_inside.new.tx.conn.now in
+    leaves_still (length c.args.changes.now) s0.now.trees s1.now.trees c.args.work.now (ap (λ (d : Database). d.trees blocks_tree) (c.in_ok-nothing_inside.ensures.call.ok clean inside).now_is)
+
+pub returns-clause-work : goal.returns-clause-work
+returns-clause-work g c clean inside store =
+    let s0 = state g.S.Store c.args.tx.now.conn.now in
+    let s1 = state g.S.Store c.run_changes.new.tx.conn.now in
+    let many = length c.args.changes.now in
+    on_ok_so c.run_changes.result _ _ (more_leaves (many + 0) many s0.now.trees s1.now.trees c.args.work.now c.run_changes.new.work (omega arith)) (c.run_changes.ensures.work clean inside store)

@@ -1,11 +1,11 @@
-use Rattle.zeb_leaves.proofs.Cited.{◌+◌, ℕ, List, Option, true, subst, sym, rules, AllByRecursion, Entry, IsEntry, blocks_tree, entry_cmp, state}
+use Rattle.zeb_leaves.proofs.Cited.{arith, ◌+◌, ℕ, List, Option, true, subst, sym, rules, Entry, blocks_tree, entry_cmp, state}
 use Rattle.std.proofs.Common.{take}
 use Rattle.std.specs.List.Sorted.{IsStrictlySortedBy}
 use Rattle.std.specs.Option.{option_map}
-use Rattle.zeb_leaf.specs.Merging.{AreMerged}
 use Rattle.zeb_leaf.specs.declared.spans.BlockKey.{BlockKey as KeyOfBlock}
 use Rattle.zeb_register.proofs.Answered.{refused_so}
 use Rattle.zeb_register.specs.Store.{Changes}
+use Rattle.zeb_leaves.proofs.CountedLeaves.{front_counted}
 use Rattle.zeb_leaves.proofs.FrontPieces.{all_within, at_front, below_front, front_anywhere, hidden_lacks, key_shown, leaf_front_lacks, leaf_front_put, one_key}
 use Rattle.zeb_leaves.proofs.OwnedEntries.{own_are, own_rise}
 use Rattle.zeb_leaves.proofs.PieceChanges.{changes_are}
@@ -43,11 +43,11 @@ returns-in_err-changes-clause-turned g c clean inside store ends covers =
 
 pub merge-requires-clause-rising : goal.merge-requires-clause-rising
 merge-requires-clause-rising g c =
-    subst (IsStrictlySortedBy entry_cmp) (sym c.deref-2.ensures.value) (own_rise c.args.leaf.now c.in_ok-own.own.term.now c.in_ok-own.own.block (end_of c.args.end) c.in_ok-entries.entries.items c.in_ok-entries.ensures)
+    own_rise c.args.leaf.now c.in_ok-own.own.term.now c.in_ok-own.own.block (end_of c.args.end) c.in_ok-entries.entries.items c.in_ok-entries.ensures
 
 pub merge-requires-clause-each : goal.merge-requires-clause-each
 merge-requires-clause-each g c =
-    subst (AllByRecursion IsEntry) (sym c.deref-2.ensures.value) (own_are c.args.leaf.now c.in_ok-own.own.term.now c.in_ok-own.own.block (end_of c.args.end) c.in_ok-entries.entries.items c.in_ok-entries.ensures)
+    own_are c.args.leaf.now c.in_ok-own.own.term.now c.in_ok-own.own.block (end_of c.args.end) c.in_ok-entries.entries.items c.in_ok-entries.ensures
 
 pub merge-requires-clause-changes : goal.merge-requires-clause-changes
 merge-requires-clause-changes g c =
@@ -65,10 +65,15 @@ returns-clause-turned g c clean inside store ends covers =
     let changes = c.in_ok-changes.changes.items in
     let front = at_front c.args.at pieces n c.requires.some c.requires.pieces c.requires.first c.count_covered-count.ensures.register in
     let turned = subst (λ (l : List Entry). TurnAllEntries l (take (1 + n) pieces) changes) c.deref.ensures.value c.in_ok-changes.ensures in
-    let merged = subst (λ (l : List Entry). AreMerged changes l c.in_ok-merged.merged.items) c.deref-2.ensures.value c.in_ok-merged.ensures in
-    let named = subst (λ (term : List ℕ). Changes blocks_tree (IfToldPutsEntries true c.args.at term c.in_ok-own.own.block c.deref-3.result.now) s t) c.text_of.ensures (c.in_ok-entries_put.ensures.put clean inside store) in
-    let done = subst (λ (l : List Entry). Changes blocks_tree (IfToldPutsEntries true c.args.at c.in_ok-own.own.term.now c.in_ok-own.own.block l) s t) c.deref-3.ensures.value named in
+    let named = subst (λ (term : List ℕ). Changes blocks_tree (IfToldPutsEntries true c.args.at term c.in_ok-own.own.block c.deref-2.result.now) s t) c.text_of.ensures (c.in_ok-written.ensures.put clean inside store) in
+    let done = subst (λ (l : List Entry). Changes blocks_tree (IfToldPutsEntries true c.args.at c.in_ok-own.own.term.now c.in_ok-own.own.block l) s t) c.deref-2.ensures.value named in
     let count = all_within pieces n c.requires.some c.count_covered-count.ensures.within in
     let put = leaf_front_put s store c.args.at pieces n front c.args.leaf.now c.in_ok-own.own.term.now c.in_ok-own.own.block (end_of c.args.end) own c.in_ok-own.ensures.ok c.in_ok-entries.ensures (below_front (end_of c.args.end) c.args.pieces.now n c.count_covered-count.ensures.below) ends covers
-    t changes c.in_ok-merged.merged.items turned merged done in
+    t changes c.in_ok-merged.merged.items turned c.in_ok-merged.ensures done in
     (count.0, count.1, put.0, put.1)
+
+pub returns-clause-work : goal.returns-clause-work
+returns-clause-work g c clean inside store =
+    let old = (state g.S.Store c.args.tx.now.conn.now).now.trees in
+    let new = (state g.S.Store c.entries_put.new.tx.conn.now).now.trees in
+    front_counted true 1 c.in_ok-written.written old new c.args.work.now c.count_leaves.new.work (omega arith) (c.in_ok-written.ensures.rows clean inside store) c.count_leaves.ensures

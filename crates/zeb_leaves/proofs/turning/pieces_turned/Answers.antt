@@ -1,7 +1,8 @@
-use Rattle.zeb_leaves.proofs.Cited.{HasCleanDisk, ◌∙◌, arith, refl, rules, state}
+use Rattle.zeb_leaves.proofs.Cited.{HasCleanDisk, ◌∙◌, ◌+◌, arith, length, refl, rules, state}
 use Rattle.zeb_register.proofs.Answered.{refused_so}
 use Rattle.zeb_register.proofs.Calls.{stays_still, stays_then}
 use Rattle.zeb_register.proofs.CallsInTurn.{quiet_still, quiet_then}
+use Rattle.zeb_register.proofs.WorkCounts.{both_leaves, leaves_still, more_leaves}
 use Rattle.zeb_leaves.proofs.PiecesLeft.{all_put, count_within, leads_more, left_are, left_refused, some_left}
 use Rattle.zeb_leaves.proofs.turning.pieces_turned.Goals as goal
 
@@ -14,6 +15,7 @@ loop-done-init g c =
       crash = quiet_still first;
       stays = λ clean inside. stays_still first inside;
       store = λ clean inside store. store;
+      work = λ clean inside store. leaves_still 0 first.now.trees first.now.trees c.args.work.now refl;
       leads = λ clean inside store end result answers. answers;
     }
 
@@ -44,6 +46,11 @@ loop-done-preserved g c =
       store = λ clean inside store.
           let was : HasCleanDisk mid = omega (arith, c.front_turned.ensures.call.crash.clean) in
           (it.turned clean (so_far.stays was inside).inside (so_far.store was inside store)).2;
+      work = λ clean inside store.
+          let was : HasCleanDisk mid = omega (arith, c.front_turned.ensures.call.crash.clean) in
+          let one = it.work clean (so_far.stays was inside).inside (so_far.store was inside store) in
+          more_leaves (done + 1) (done + count) first.now.trees last.now.trees c.args.work.now c.front_turned.new.work (omega (arith, it.further.0))
+          (both_leaves done 1 first.now.trees mid.now.trees last.now.trees c.args.work.now c.loop-done.work c.front_turned.new.work c.counts_are_numbers.ensures (so_far.work was inside store) one);
       leads = λ clean inside store.
           let was : HasCleanDisk mid = omega (arith, c.front_turned.ensures.call.crash.clean) in
           leads_more pieces done c.requires c.args.db.0 first.now.trees mid.now.trees (so_far.leads was inside store) count last.now.trees
@@ -67,3 +74,10 @@ returns-in_err-done-clause-units g c clean inside store =
     refused_so _ _ c.from_residual.result fault (search rules)
     (left_refused c.args.pieces.now c.loop-done.done c.requires c.args.db.0 first.now.trees mid.now.trees (so_far.leads was inside store) fault
     (c.in_err-done.ensures.turned clean (so_far.stays was inside).inside (so_far.store was inside store)))
+
+pub returns-clause-work : goal.returns-clause-work
+returns-clause-work g c clean inside store =
+    let first = state g.S.Store c.args.tx.now.conn.now in
+    let now = state g.S.Store c.loop-done.tx.conn.now in
+    let so_far = c.loop-done.invariant in
+    more_leaves c.loop-done.done (length c.args.pieces.now) first.now.trees now.now.trees c.args.work.now c.loop-done.work so_far.within (so_far.work clean inside store)

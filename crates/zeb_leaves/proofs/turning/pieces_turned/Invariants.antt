@@ -5,6 +5,7 @@ use Rattle.sqlite.specs.State.{Survives}
 use Rattle.zeb_register.proofs.Calls.{Stays}
 use Rattle.zeb_register.proofs.RunTurns.{LeadsOn}
 use Rattle.zeb_register.specs.Formats.{packed_leaves}
+use Rattle.zeb_register.specs.Tallies.{WorksOnLeaves}
 use Rattle.zeb_leaves.proofs.turning.pieces_turned.Given as goal
 
 abbrev pub invariant-loop-done : goal.invariant-loop-done
@@ -17,6 +18,7 @@ invariant-loop-done g l =
       crash : Survives old now (λ _. ⊥);
       stays : HasCleanDisk now → IsTrue old.in_transaction → Stays old now;
       store : HasCleanDisk now → IsTrue old.in_transaction → IsStore old → IsStore now;
+      work : HasCleanDisk now → IsTrue old.in_transaction → IsStore old → WorksOnLeaves l.done old.now.trees now.now.trees l.fn.work l.work;
       leads : HasCleanDisk now → IsTrue old.in_transaction → IsStore old → LeadsOn packed_leaves l.db.0 l.pieces l.done old.now.trees now.now.trees;
     }
 

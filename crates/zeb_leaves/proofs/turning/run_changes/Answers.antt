@@ -1,10 +1,13 @@
-use Rattle.zeb_leaves.proofs.Cited.{HasCleanDisk, List, arith, state, subst, sym, IsStore}
+use Rattle.zeb_leaves.proofs.Cited.{HasCleanDisk, ◌≤◌, List, arith, length, state, subst, sym, IsStore}
 use Rattle.sqlite.specs.Effect.{Database}
-use Rattle.zeb_register.proofs.Calls.{store_same}
+use Rattle.zeb_register.proofs.Calls.{on_ok_so, store_same}
+use Rattle.zeb_register.proofs.WorkCounts.{more_leaves}
 use Rattle.zeb_register.specs.Answers.{Answers}
 use Rattle.zeb_register.specs.Formats.{packed_leaves}
-use Rattle.zeb_register.specs.RunChanges.{IsRunRefusedAs, PutsKeys}
+use Rattle.zeb_register.specs.RunChanges.{IsRunRefusedAs, PutsKeys, changes_in}
+use Rattle.zeb_register.specs.Tallies.{WorksOnLeaves}
 use Rattle.zeb_register.specs.declared.registers.KeyChanges.{KeyChanges}
+use Rattle.zeb_leaves.proofs.CountedLeaves.{pieces_few}
 use Rattle.zeb_leaves.proofs.PiecesOfRuns.{run_answered}
 use Rattle.zeb_leaves.proofs.TurningCalls.{reads_then_goes}
 use Rattle.zeb_leaves.specs.PrivatePieces.{ArePieces}
@@ -29,3 +32,18 @@ returns-clause-units g c clean inside store =
     let here = subst (λ (l : List KeyChanges). Answers (IsRunRefusedAs packed_leaves db l s1.now.trees) (λ done. IsStore s2 × PutsKeys packed_leaves db l s1.now.trees s2.now.trees) c.pieces_turned.result) c.deref.ensures.value told in
     run_answered db c.args.run.now pieces c.in_ok-pieces.ensures.parts c.in_ok-pieces.ensures.pieces s0.now.trees s2.now.trees (IsStore s2) c.pieces_turned.result
     (subst (λ (d : Database). Answers (IsRunRefusedAs packed_leaves db pieces d.trees) (λ done. IsStore s2 × PutsKeys packed_leaves db pieces d.trees s2.now.trees) c.pieces_turned.result) read.now_is here)
+
+pub returns-clause-work : goal.returns-clause-work
+returns-clause-work g c clean inside store =
+    let s0 = state g.S.Store c.args.tx.now.conn.now in
+    let s1 = state g.S.Store c.nothing_inside.new.tx.conn.now in
+    let s2 = state g.S.Store c.pieces_turned.new.tx.conn.now in
+    let run = c.args.run.now in
+    let cut = c.deref.result.now in
+    let clean1 : HasCleanDisk s1 = omega (arith, c.pieces_turned.ensures.call.crash.clean) in
+    let read = c.in_ok-alloc.ensures.call.ok clean1 inside in
+    let few : length cut ≤ changes_in run = subst (λ (l : List KeyChanges). length l ≤ changes_in run) (sym c.deref.ensures.value) (pieces_few run c.in_ok-pieces.pieces.items c.in_ok-pieces.ensures.parts c.in_ok-pieces.ensures.pieces.each) in
+    on_ok_so c.pieces_turned.result _ _
+    (λ works. more_leaves (length cut) (changes_in run) s0.now.trees s2.now.trees c.args.work.now c.pieces_turned.new.work few
+    (subst (λ (d : Database). WorksOnLeaves (length cut) d.trees s2.now.trees c.args.work.now c.pieces_turned.new.work) read.now_is works))
+    (c.pieces_turned.ensures.work clean read.mode (store_same s0 s1 read.now_is store))

@@ -1,7 +1,7 @@
 use Rattle.zeb_leaves.proofs.Cited.{rules, pos, to_z-of_z, register_code}
-use Rattle.zeb_register.proofs.Calls.{alters, refused_keeps}
+use Rattle.zeb_register.proofs.Calls.{alters, carried_out, refused_keeps}
 use Rattle.zeb_register.proofs.Columns.{column_is}
-use Rattle.zeb_leaves.proofs.WriteStatements.{adds_leaf}
+use Rattle.zeb_leaves.proofs.WriteStatements.{adds_leaf, adds_one}
 use Rattle.zeb_leaves.proofs.writes.leaf_add.Goals as goal
 
 pub returns-clause-call : goal.returns-clause-call
@@ -10,3 +10,7 @@ returns-clause-call g c = record {
   err = λ clean inside. refused_keeps _ _ _ _ c.execute.result (c.execute.ensures.runs clean inside);
   crash = search rules;
 }
+
+pub returns-clause-rows : goal.returns-clause-rows
+returns-clause-rows g c clean inside store =
+    carried_out _ _ _ _ _ c.execute.result (c.execute.ensures.runs clean inside) (λ count ran. adds_one c.args.at.db.0 (pos c.args.at.index) (pos (register_code c.args.at.register)) c.args.term.now c.args.number c.args.bytes.now _ _ count store (simp (c.params-to_sql.ensures, c.params-to_sql-2.ensures, c.params-to_sql-3.ensures, c.params-to_sql-4.ensures, c.params-to_sql-5.ensures, c.params-to_sql-6.ensures, to_z-of_z, column_is c.column-db.ensures.fits c.column-db.ensures.value, c.from-reg.ensures, c.code.ensures, c.ranges.number) at ran))

@@ -2,10 +2,11 @@
 use Rattle.zeb_leaves.proofs.Cited.{[], pos, ℤ, rules, subst, sym, state, blocks_tree}
 use Rattle.std.proofs.Common.{Bool}
 use Rattle.zeb_leaves.proofs.WrittenLeaves.{put_new, put_there}
-use Rattle.zeb_leaves.specs.PrivateLeafWrites.{IfToldPuts, IsLeafWith, leaf_columns}
+use Rattle.zeb_leaves.specs.PrivateLeafWrites.{IfToldPuts, IsLeafWith, coming, leaf_columns}
 use Rattle.zeb_register.proofs.Columns.{column_is}
 use Rattle.zeb_register.specs.Calls.{Alters}
 use Rattle.zeb_register.specs.PrivateRowStatements.{Gains, Renews}
+use Rattle.zeb_register.specs.Tallies.{HasMoreLeaves}
 use Rattle.zeb_leaves.proofs.writes.leaf_put.Goals as goal
 
 pub returns-then-is_there-clause-call : goal.returns-then-is_there-clause-call
@@ -39,3 +40,15 @@ returns-clause-call g c = record {
   err = search rules;
   crash = search rules;
 }
+
+pub returns-then-is_there-clause-rows : goal.returns-then-is_there-clause-rows
+returns-then-is_there-clause-rows g c clean inside store =
+    let first = state g.S.Store c.args.tx.now.conn.now in
+    let second = state g.S.Store c.leaf_set.new.tx.conn.now in
+    subst (λ (t : Bool). HasMoreLeaves (coming t) first.now.trees second.now.trees) (sym c.if-is_there.true) (c.in_ok-leaf_set.ensures.rows clean inside store)
+
+pub returns-clause-rows : goal.returns-clause-rows
+returns-clause-rows g c clean inside store =
+    let first = state g.S.Store c.args.tx.now.conn.now in
+    let second = state g.S.Store c.leaf_add.new.tx.conn.now in
+    subst (λ (t : Bool). HasMoreLeaves (coming t) first.now.trees second.now.trees) (sym c.if-is_there.false) (c.in_ok-leaf_add.ensures.rows clean inside store)

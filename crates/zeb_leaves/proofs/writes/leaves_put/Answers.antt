@@ -1,8 +1,7 @@
 -- The first leaf is put, and then those behind it.
-use Rattle.zeb_leaves.proofs.Cited.{arith, rules, pos, state, HasCleanDisk}
-use Rattle.std.proofs.lemmas.Result.{IfOk-weaker}
+use Rattle.zeb_leaves.proofs.Cited.{arith, length, refl, rules, pos, state, HasCleanDisk}
 use Rattle.zeb_leaves.proofs.WrittenLeaves.{all_put}
-use Rattle.zeb_register.proofs.Calls.{goes_keeps, goes_then, on_err_so}
+use Rattle.zeb_register.proofs.Calls.{goes_keeps, goes_then, on_err}
 use Rattle.zeb_leaves.proofs.writes.leaves_put.Goals as goal
 
 pub returns-clause-call : goal.returns-clause-call
@@ -14,11 +13,22 @@ returns-clause-call g c =
       ok = λ clean inside.
           let was : HasCleanDisk mid = omega (arith, c.new_leaves_add.ensures.call.crash.clean) in
           let goes = (c.in_ok-leaf_put.ensures.call.ok was inside).on in
-          IfOk-weaker c.new_leaves_add.result _ _ (λ _ done. goes_then first mid last goes (done goes.is_open)) (c.new_leaves_add.ensures.call.ok clean goes.mode);
+          goes_then first mid last goes (c.in_ok-new_leaves_add.ensures.call.ok clean goes.mode goes.is_open);
+      err = search rules;
+      crash = search rules;
+    }
+
+pub returns-in_err-new_leaves_add-clause-call : goal.returns-in_err-new_leaves_add-clause-call
+returns-in_err-new_leaves_add-clause-call g c =
+    let first = state g.S.Store c.args.tx.now.conn.now in
+    let mid = state g.S.Store c.leaf_put.new.tx.conn.now in
+    let last = state g.S.Store c.new_leaves_add.new.tx.conn.now in
+    record {
+      ok = search rules;
       err = λ clean inside.
           let was : HasCleanDisk mid = omega (arith, c.new_leaves_add.ensures.call.crash.clean) in
           let goes = (c.in_ok-leaf_put.ensures.call.ok was inside).on in
-          on_err_so c.new_leaves_add.result _ _ (λ kept. goes_keeps first mid last goes kept) (c.new_leaves_add.ensures.call.err clean goes.mode);
+          on_err c.from_residual-in_err-new_leaves_add.result _ (goes_keeps first mid last goes (c.in_err-new_leaves_add.ensures.call.err clean goes.mode));
       crash = search rules;
     }
 
@@ -30,4 +40,13 @@ returns-clause-put g c clean inside store =
     let was : HasCleanDisk mid = omega (arith, c.new_leaves_add.ensures.call.crash.clean) in
     let put = c.in_ok-leaf_put.ensures.call.ok was inside in
     let one = put.rows store in
-    IfOk-weaker c.new_leaves_add.result _ _ (λ _ done. all_put c.args.at c.args.term.now (pos c.args.block) c.args.bytes.now c.args.is_there c.args.leaves.now first mid last one done) (c.new_leaves_add.ensures.put clean put.on.mode one.layout)
+    all_put c.args.at c.args.term.now (pos c.args.block) c.args.bytes.now c.args.is_there c.args.leaves.now first mid last one (c.in_ok-new_leaves_add.ensures.put clean put.on.mode one.layout)
+
+pub returns-clause-rows : goal.returns-clause-rows
+returns-clause-rows g c clean inside store =
+    let mid = state g.S.Store c.leaf_put.new.tx.conn.now in
+    let was : HasCleanDisk mid = omega (arith, c.new_leaves_add.ensures.call.crash.clean) in
+    let put = c.in_ok-leaf_put.ensures.call.ok was inside in
+    let came = c.in_ok-leaf_put.ensures.rows was inside store in
+    let more = c.in_ok-new_leaves_add.ensures.rows clean put.on.mode (put.rows store).layout in
+    (length c.args.leaves.now, refl, omega (arith, came, more))

@@ -17,6 +17,7 @@ loop-leaf-init g c =
       crash = quiet_still first;
       stays = λ clean inside. stays_still first inside;
       within = omega arith;
+      rows = λ clean inside store. omega arith;
       put = λ clean inside store. changes_none blocks_tree (GainsLeaves c.args.at []) first (gains_none c.args.at first blocks_tree) store;
     }
 
@@ -27,6 +28,12 @@ loop-leaf-preserved g c = record {
   stays = λ clean inside.
       let before = c.loop-leaf.invariant.stays (omega (arith, c.new_leaf_add.ensures.call.crash.clean)) inside in stays_then _ _ _ before (c.in_ok-new_leaf_add.ensures.call.ok clean before.inside).on;
   within = omega (arith, c.loop-leaf-test.true);
+  rows = λ clean inside store.
+      let mid : HasCleanDisk (state g.S.Store c.loop-leaf.tx.conn.now) = omega (arith, c.new_leaf_add.ensures.call.crash.clean) in
+      let before = c.loop-leaf.invariant.stays mid inside in
+      let so_far = c.loop-leaf.invariant.rows mid inside store in
+      let one = c.in_ok-new_leaf_add.ensures.rows clean before.inside (c.loop-leaf.invariant.put mid inside store).layout in
+      omega (arith, so_far, one);
   put = λ clean inside store.
       let mid : HasCleanDisk (state g.S.Store c.loop-leaf.tx.conn.now) = omega (arith, c.new_leaf_add.ensures.call.crash.clean) in
       let before = c.loop-leaf.invariant.stays mid inside in
@@ -38,3 +45,8 @@ pub new_leaf_add-requires : goal.new_leaf_add-requires
 new_leaf_add-requires g c =
     let leaf = c.leaf-item.result in
     all_has (λ (l : NewLeaf). IsUtf8 l.term) c.args.leaves.now leaf c.requires (has_at c.args.leaves.now c.loop-leaf.leaf-index leaf c.loop-leaf-test.true c.leaf-item.is)
+
+pub returns-clause-rows : goal.returns-clause-rows
+returns-clause-rows g c clean inside store =
+    let so_far = c.loop-leaf.invariant.rows clean inside store in
+    omega (arith, so_far, c.loop-leaf.invariant.within, c.loop-leaf-test.false)

@@ -5,6 +5,7 @@ use Rattle.sqlite.specs.State.{Survives}
 use Rattle.zeb_leaves.specs.PrivateLeafWrites.{GainsLeaves}
 use Rattle.zeb_register.proofs.Calls.{Stays}
 use Rattle.zeb_register.specs.Store.{Changes}
+use Rattle.zeb_register.specs.Tallies.{HasMoreLeaves}
 use Rattle.zeb_leaves.proofs.writes.new_leaves_add.Given as goal
 
 abbrev pub invariant-loop-leaf : goal.invariant-loop-leaf
@@ -16,5 +17,6 @@ invariant-loop-leaf g l =
       crash : Survives old now (λ _. ⊥);
       stays : HasCleanDisk now → IsTrue old.in_transaction → Stays old now;
       within : l.leaf-index ≤ length l.leaves;
+      rows : HasCleanDisk now → IsTrue old.in_transaction → IsStore old → HasMoreLeaves l.leaf-index old.now.trees now.now.trees;
       put : HasCleanDisk now → IsTrue old.in_transaction → IsStore old → Changes blocks_tree (GainsLeaves l.at (take l.leaf-index l.leaves)) old now;
     }

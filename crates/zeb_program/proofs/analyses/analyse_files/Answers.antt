@@ -13,9 +13,12 @@ pub loop-file-init : goal.loop-file-init
 loop-file-init g c =
     record {
       paths = ap (λ p. p.now) c.in_ok-walk.ensures.paths;
-      read = begins (g.P.Paths.tells c.args.paths.now) c.args.session.now.profile c.args.session.now.limits.records (map string_bytes c.args.named.now)
-          c.begin_analysis-lines.result c.new-unmarked.result.items _ c.begin_analysis-lines.ensures c.new-unmarked.ensures.items c.in_ok-walk.ensures.left;
-      so_far = ([], walk_start (telling (g.P.Paths.tells c.args.paths.now) (g.P.Paths.stands c.args.paths.now) (g.P.Paths.lists c.args.paths.now)) c.args.named.now _ c.in_ok-walk.ensures.levels);
+      so_far = (
+        [],
+        walk_start (telling (g.P.Paths.tells c.args.paths.now) (g.P.Paths.stands c.args.paths.now) (g.P.Paths.lists c.args.paths.now)) c.args.named.now _ c.in_ok-walk.ensures.levels,
+        begins (g.P.Paths.tells c.args.paths.now) c.args.session.now.profile c.args.session.now.limits.records (map string_bytes c.args.named.now)
+            c.begin_analysis-lines.result c.new-unmarked.result.items _ c.begin_analysis-lines.ensures c.new-unmarked.ensures.items c.in_ok-walk.ensures.left,
+      );
     }
 
 pub loop-file-preserved : goal.loop-file-preserved
@@ -31,16 +34,15 @@ loop-file-preserved g c =
     let next : GivesNext tells left later (Ok c.in_ok-path.field-0) = walks_told at steps after (Ok c.in_ok-path.field-0) on in
     record {
       paths = ap (λ p. p.now) c.in_ok-path.ensures.paths ∙ c.loop-file.invariant.paths;
-      read =
-          goes_on tells c.args.session.now.profile c.args.session.now.limits.records (map string_bytes c.args.named.now) c.loop-file.file c.loop-file.lines c.loop-file.unmarked.items left later
-          c.loop-file.invariant.read c.in-Some.path c.in_ok-bytes.bytes c.deref-in-loop-file.result.now c.deref.result.now c.with_file-lines.result c.note_unmarked.new.unmarked.items
-          (subst (λ found. GivesNext tells left later (Ok found)) c.in-Some.is next)
-          (subst (λ found. Ends left (Ok found)) c.in-Some.is (walks_ended at steps after (Ok c.in_ok-path.field-0) on))
-          c.in_ok-bytes.ensures c.deref-in-loop-file.ensures.value c.deref.ensures.value c.with_file-lines.ensures c.in_ok-note_unmarked.ensures;
       so_far = (
         c.loop-file.invariant.so_far.0 ++ string_bytes c.in-Some.path ∷ [],
         walk_more at (map string_bytes c.args.named.now) c.loop-file.invariant.so_far.0 (dues_left steps) (dues_left after) c.in-Some.path c.loop-file.invariant.so_far.1
             (subst (λ found. WalksOn at (dues_left steps) (Ok found) (dues_left after)) c.in-Some.is on),
+        goes_on tells c.args.session.now.profile c.args.session.now.limits.records (map string_bytes c.args.named.now) c.loop-file.invariant.so_far.0 c.loop-file.file c.loop-file.lines c.loop-file.unmarked.items left later
+            c.loop-file.invariant.so_far.2 c.in-Some.path c.in_ok-bytes.bytes c.deref-in-loop-file.result.now c.deref.result.now c.with_file-lines.result c.note_unmarked.new.unmarked.items
+            (subst (λ found. GivesNext tells left later (Ok found)) c.in-Some.is next)
+            (subst (λ found. Ends left (Ok found)) c.in-Some.is (walks_ended at steps after (Ok c.in_ok-path.field-0) on))
+            c.in_ok-bytes.ensures c.deref-in-loop-file.ensures.value c.deref.ensures.value c.with_file-lines.ensures c.in_ok-note_unmarked.ensures,
       );
     }
 
@@ -54,8 +56,8 @@ returns-in_err-path-clause-reason g c files told =
     let left = paths_left steps in
     let later = paths_left after in
     let why = c.in_err-path.field-0.0 in
-    absurd (met_fault (λ content. Some content.items) (g.P.Paths.tells c.args.paths.now) files c.loop-file.invariant.read.contents left later why
-    (c.loop-file.invariant.read.met files told) (walks_told at steps after (Err c.in_err-path.field-0.0) on) (walks_ended at steps after (Err c.in_err-path.field-0.0) on))
+    absurd (met_fault (λ content. Some content.items) (g.P.Paths.tells c.args.paths.now) files c.loop-file.invariant.so_far.2.contents left later why
+    (c.loop-file.invariant.so_far.2.met files told) (walks_told at steps after (Err c.in_err-path.field-0.0) on) (walks_ended at steps after (Err c.in_err-path.field-0.0) on))
 
 pub returns-in_err-path-clause-met : goal.returns-in_err-path-clause-met
 returns-in_err-path-clause-met g c =
@@ -114,7 +116,7 @@ returns-in_err-bytes-clause-reason g c files told =
     let is : c.from_residual-in_err-bytes.result ≡ Err why = search rules in
     let next : GivesNext tells left later (Ok c.in_ok-path.field-0) = walks_told at steps after (Ok c.in_ok-path.field-0) on in
     subst (λ r. IfErr r (λ fault. (fault ≡ Memory) ⊎ (¬ AreShort files))) (sym is)
-    (met_refused (λ content. Some content.items) tells files c.loop-file.invariant.read.contents left later c.in-Some.path why (c.loop-file.invariant.read.met files told)
+    (met_refused (λ content. Some content.items) tells files c.loop-file.invariant.so_far.2.contents left later c.in-Some.path why (c.loop-file.invariant.so_far.2.met files told)
     (subst (λ found. GivesNext tells left later (Ok found)) c.in-Some.is next)
     (subst (λ found. Ends left (Ok found)) c.in-Some.is (walks_ended at steps after (Ok c.in_ok-path.field-0) on)) c.in_err-bytes.ensures)
 
@@ -129,15 +131,7 @@ returns-in_default-clause-reads g c =
     let later = paths_left after in
     let tells = g.P.Paths.tells c.args.paths.now in
     let next : GivesNext tells left later (Ok c.in_ok-path.field-0) = walks_told at steps after (Ok c.in_ok-path.field-0) on in
-    all_read tells c.args.session.now.profile c.args.session.now.limits.records (map string_bytes c.args.named.now) c.loop-file.file c.loop-file.lines c.loop-file.unmarked.items left later
-    c.loop-file.invariant.read _ refl refl (subst (λ found. GivesNext tells left later (Ok found)) c.in_default.is next)
-
-pub returns-in_default-clause-found : goal.returns-in_default-clause-found
-returns-in_default-clause-found g c =
-    let at = telling (g.P.Paths.tells c.args.paths.now) (g.P.Paths.stands c.args.paths.now) (g.P.Paths.lists c.args.paths.now) in
-    let steps = c.loop-file.walk.steps.items in
-    let after = c.next_file.new.self.steps.items in
-    let on : WalksOn at (dues_left steps) (Ok c.in_ok-path.field-0) (dues_left after) =
-    subst (λ p. WalksOn (telling (g.P.Paths.tells p) (g.P.Paths.stands p) (g.P.Paths.lists p)) (dues_left steps) (Ok c.in_ok-path.field-0) (dues_left after)) c.loop-file.invariant.paths c.in_ok-path.ensures.walks in
     let far = c.loop-file.invariant.so_far in
-    (far.0, dues_left steps, dues_left after, far.1, subst (λ found. WalksOn at (dues_left steps) (Ok found) (dues_left after)) c.in_default.is on)
+    all_read tells c.args.session.now.profile c.args.session.now.limits.records (map string_bytes c.args.named.now) far.0 c.loop-file.file c.loop-file.lines c.loop-file.unmarked.items left later
+    far.2 at _ refl refl refl (subst (λ found. GivesNext tells left later (Ok found)) c.in_default.is next)
+    (dues_left steps, dues_left after, far.1, subst (λ found. WalksOn at (dues_left steps) (Ok found) (dues_left after)) c.in_default.is on)

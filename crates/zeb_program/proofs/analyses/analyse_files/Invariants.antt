@@ -9,6 +9,6 @@ abbrev pub invariant-loop-file : goal.invariant-loop-file
 invariant-loop-file g l =
     record {
       paths : l.walk.paths.now ≡ l.paths;
-      read : IsRead (g.P.Paths.tells l.paths) l.session.profile l.session.limits.records (map string_bytes l.named) l.file l.lines l.unmarked.items (paths_left l.walk.steps.items);
-      so_far : (files : List (List ℕ)) × WalksFrom (telling (g.P.Paths.tells l.paths) (g.P.Paths.stands l.paths) (g.P.Paths.lists l.paths)) (map string_bytes l.named) files (dues_left l.walk.steps.items);
+      so_far : (files : List (List ℕ)) × WalksFrom (telling (g.P.Paths.tells l.paths) (g.P.Paths.stands l.paths) (g.P.Paths.lists l.paths)) (map string_bytes l.named) files (dues_left l.walk.steps.items)
+          × IsRead (g.P.Paths.tells l.paths) l.session.profile l.session.limits.records (map string_bytes l.named) files l.file l.lines l.unmarked.items (paths_left l.walk.steps.items);
     }

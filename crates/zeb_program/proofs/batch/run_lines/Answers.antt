@@ -1,6 +1,9 @@
 use Rattle.zeb_program.proofs.Cited.{◌∙◌, ◌+◌, arith, ap, length, refl, rules, subst, subst₂, sym, IsUtf8, state, HasCleanDisk, conditions, AnswersAsTold, Writes, LineOver, LeadsOn, version_of}
+use Rattle.zeb_paths.specs.Walks.{telling}
+use Rattle.zeb_program.specs.Doing.{StopsLine}
 use Rattle.zeb_program.proofs.AnswerLemmas.{answered_all, answered_line, answered_start}
-use Rattle.zeb_program.proofs.ServingLemmas.{reaches_start, reaches_line, reaches_end, reaches_failure}
+use Rattle.zeb_program.proofs.LineStopLemmas.{stop_failure}
+use Rattle.zeb_program.proofs.ServingLemmas.{reaches_start, reaches_line, reaches_end}
 use Rattle.zeb_program.proofs.ScriptLemmas.{after_first_line-IsUtf8, not_empty, is_empty, length-after_first_line}
 use Rattle.zeb_program.proofs.batch.run_lines.Goals as goal
 use Rattle.zeb_program.proofs.StatusLemmas.{max_greater}
@@ -15,7 +18,7 @@ loop-rest-init g c =
       sound = λ sound. sound;
       under = (refl, refl);
       clean = λ clean. clean;
-      over = λ sound clean. answered_start (LineOver g.S.Store (g.P.Paths.tells c.args.paths.now) g.L.Layout.format (conditions (version_of g.L.Layout.format) c.args.session.now.profile c.args.session.now.limits)) (g.W.Write.contents c.args.output.now.writer) c.args.batch.lines_before c.args.batch.text.now c.args.session.now.connection;
+      over = λ sound clean. answered_start (LineOver g.S.Store (telling (g.P.Paths.tells c.args.paths.now) (g.P.Paths.stands c.args.paths.now) (g.P.Paths.lists c.args.paths.now)) g.L.Layout.format (conditions (version_of g.L.Layout.format) c.args.session.now.profile c.args.session.now.limits)) (g.W.Write.contents c.args.output.now.writer) c.args.batch.lines_before c.args.batch.text.now c.args.session.now.connection;
       answers = λ sound clean. reaches_start (g.P.Paths.tells c.args.paths.now) k old (g.W.Write.contents c.args.output.now.writer) c.args.batch.lines_before c.args.batch.text.now;
     }
 
@@ -29,6 +32,7 @@ loop-rest-preserved g c =
     let line = c.cut_line.result.0.now in
     let number = c.loop-rest.number in
     let tells = g.P.Paths.tells c.args.paths.now in
+    let at = telling tells (g.P.Paths.stands c.args.paths.now) (g.P.Paths.lists c.args.paths.now) in
     let k = conditions (version_of g.L.Layout.format) c.args.session.now.profile c.args.session.now.limits in
     let old = state g.S.Store c.args.session.now.connection in
     record {
@@ -40,8 +44,8 @@ loop-rest-preserved g c =
       over = λ sound clean.
           let was = c.loop-rest.invariant.over (c.run_line.ensures.sound sound) (c.run_line.ensures.stays.2 clean) in
           let step = subst₂ (λ p l. Writes (g.W.Write.contents c.loop-rest.output.writer) (g.W.Write.contents c.run_line.new.output.writer)
-          (λ bytes. LineOver g.S.Store tells g.L.Layout.format (conditions (version_of g.L.Layout.format) p l) (number + 1) line c.loop-rest.session.connection bytes c.in_ok-run_line.field-0 c.run_line.new.session.connection)) same.0 same.1 (c.in_ok-run_line.ensures.over sound clean) in
-          answered_line (LineOver g.S.Store tells g.L.Layout.format k) _ _ _ _ _ _ number rest line c.cut_line.result.1.now c.loop-rest.greatest c.in_ok-run_line.field-0 c.max-greatest.result
+          (λ bytes. LineOver g.S.Store at g.L.Layout.format (conditions (version_of g.L.Layout.format) p l) (number + 1) line c.loop-rest.session.connection bytes c.in_ok-run_line.field-0 c.run_line.new.session.connection)) same.0 same.1 (c.in_ok-run_line.ensures.over sound clean) in
+          answered_line (LineOver g.S.Store at g.L.Layout.format k) _ _ _ _ _ _ number rest line c.cut_line.result.1.now c.loop-rest.greatest c.in_ok-run_line.field-0 c.max-greatest.result
           c.loop-rest.session.connection c.run_line.new.session.connection some c.cut_line.ensures.line c.cut_line.ensures.rest (c.max-greatest.ensures ∙ max_greater c.loop-rest.greatest c.in_ok-run_line.field-0) was step;
       answers = λ sound clean.
           let was = c.loop-rest.invariant.answers (c.run_line.ensures.sound sound) (c.run_line.ensures.stays.2 clean) in
@@ -58,15 +62,21 @@ returns-clause-answer g c = λ sound clean.
 
 pub returns-clause-over : goal.returns-clause-over
 returns-clause-over g c = λ sound clean.
-    answered_all (LineOver g.S.Store (g.P.Paths.tells c.args.paths.now) g.L.Layout.format (conditions (version_of g.L.Layout.format) c.args.session.now.profile c.args.session.now.limits)) _ _ _ _ _ c.loop-rest.number c.loop-rest.rest.now _ _ (is_empty c.loop-rest.rest.now c.loop-rest-test.ensures) (c.loop-rest.invariant.over sound clean)
+    answered_all (LineOver g.S.Store (telling (g.P.Paths.tells c.args.paths.now) (g.P.Paths.stands c.args.paths.now) (g.P.Paths.lists c.args.paths.now)) g.L.Layout.format (conditions (version_of g.L.Layout.format) c.args.session.now.profile c.args.session.now.limits)) _ _ _ _ _ c.loop-rest.number c.loop-rest.rest.now _ _ (is_empty c.loop-rest.rest.now c.loop-rest-test.ensures) (c.loop-rest.invariant.over sound clean)
 
 pub returns-in_err-run_line-clause-stopped : goal.returns-in_err-run_line-clause-stopped
 returns-in_err-run_line-clause-stopped g c =
     let rest = c.loop-rest.rest.now in
-    let k = conditions (version_of g.L.Layout.format) c.args.session.now.profile c.args.session.now.limits in
-    let old = state g.S.Store c.args.session.now.connection in
-    let now = state g.S.Store c.loop-rest.session.connection in
-    let clean = HasCleanDisk (state g.S.Store c.run_line.new.session.connection) in
-    rw c.in_err-run_line.ensures.stopped
-    (reaches_failure (g.P.Paths.tells c.args.paths.now) k old now (g.W.Write.contents c.args.output.now.writer) (g.W.Write.contents c.loop-rest.output.writer) c.args.batch.lines_before c.args.batch.text.now c.loop-rest.number rest c.loop-rest.greatest
-    c.from_residual.result c.loop-rest.output.failed clean (not_empty rest c.loop-rest-test.ensures) (λ sound clean. c.loop-rest.invariant.answers sound (c.run_line.ensures.stays.2 clean)))
+    let same = c.loop-rest.invariant.under in
+    let format = g.L.Layout.format in
+    let k = conditions (version_of format) c.args.session.now.profile c.args.session.now.limits in
+    let at = telling (g.P.Paths.tells c.args.paths.now) (g.P.Paths.stands c.args.paths.now) (g.P.Paths.lists c.args.paths.now) in
+    let now = c.loop-rest.session.connection in
+    let new = c.run_line.new.session.connection in
+    let stopped = c.in_err-run_line.ensures.stopped in
+    rw stopped.0
+    (stop_failure g.S.Store at format k (g.W.Write.contents c.args.output.now.writer) (g.W.Write.contents c.loop-rest.output.writer) c.args.batch.lines_before c.args.batch.text.now c.args.session.now.connection now new c.loop-rest.number rest c.loop-rest.greatest
+    c.from_residual.result c.loop-rest.output.failed (HasCleanDisk (state g.S.Store new)) (not_empty rest c.loop-rest-test.ensures)
+    (λ sound clean. c.loop-rest.invariant.over sound (c.run_line.ensures.stays.2 clean)) (λ sound clean. c.loop-rest.invariant.answers sound (c.run_line.ensures.stays.2 clean))
+    (λ clean. subst (λ line. StopsLine g.S.Store at format k line now new) c.cut_line.ensures.line
+    (subst₂ (λ p l. StopsLine g.S.Store at format (conditions (version_of format) p l) c.cut_line.result.0.now now new) same.0 same.1 (stopped.1 clean))))

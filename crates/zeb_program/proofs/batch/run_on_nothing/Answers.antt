@@ -1,4 +1,5 @@
 use Rattle.zeb_program.proofs.Cited.{refl, codes, HasCleanDisk, file_state, conditions}
+use Rattle.zeb_paths.specs.Walks.{telling}
 use Rattle.zeb_program.proofs.MemoryLemmas.{always_clean}
 use Rattle.zeb_program.proofs.ScriptAnswerLemmas.{run_from_nothing, stopped_batch}
 use Rattle.zeb_program.proofs.WordRunLemmas.{ran_on_nothing, refused_on_nothing, stopped_on_nothing}
@@ -22,7 +23,7 @@ returns-in-Ok-clause-stopped g c =
     let session = c.in-Ok.session in
     let last = c.run_lines.new.session.connection in
     let k = conditions (codes "2") session.profile session.limits in
-    stopped_batch (g.P.Paths.tells c.args.paths.now) k c.args.profile (file_state session.connection) (g.W.Write.contents c.args.output.now.writer) (g.W.Write.contents c.run_lines.new.output.writer)
+    stopped_batch _ (telling (g.P.Paths.tells c.args.paths.now) (g.P.Paths.stands c.args.paths.now) (g.P.Paths.lists c.args.paths.now)) _ k c.args.profile session.connection last (g.W.Write.contents c.args.output.now.writer) (g.W.Write.contents c.run_lines.new.output.writer)
     c.args.batch.lines_before c.args.batch.text.now c.run_lines.new.output.failed (HasCleanDisk (file_state last)) c.run_lines.result c.in-Ok.ensures.under c.in-Ok.ensures.empty (always_clean (λ _. refl) last) c.run_lines.ensures.stopped
 
 pub returns-in-Err-clause-answer : goal.returns-in-Err-clause-answer

@@ -1,19 +1,21 @@
 use Rattle.std.proofs.Common.{refl, subst, sym}
+use Rattle.std.proofs.KnownBytes.{Keeps-refl}
+use Rattle.zeb_register.proofs.Calls.{on_err}
 use Rattle.zeb_program.specs.Registers.{places}
-use Rattle.zeb_program.specs.WordRuns.{IsText}
+use Rattle.zeb_program.specs.WordRuns.{IsText, batch_silent}
 use Rattle.zeb_program.proofs.StopLemmas.{stop_batch, stop_unread}
 use Rattle.zeb_program.proofs.WordRunLemmas.{batch_refused, batch_run}
 use Rattle.zeb_program.proofs.command_line.run_batch.Goals as goal
 
 pub returns-in-Ok-clause-answer : goal.returns-in-Ok-clause-answer
 returns-in-Ok-clause-answer g c =
-    batch_run (places g.P.Store.Store g.P.Paths.tells g.P.Paths.stands g.P.Paths.lists g.P.Paths.explains g.P.Paths.opens g.P.Paths.refuses g.P.Paths.lacks g.P.Paths.has g.P.Paths.lets_go g.P.Paths.leaves c.args.paths.now c.serve_batch.new.paths) c.args.config (g.R.Source.remaining c.args.input.now) _ c.in-Ok.profile c.as_str.result.now _ _ _ _ _ _ c.serve_batch.result
-    c.in-Ok.ensures.begun.0 (subst (IsText (g.R.Source.remaining c.args.input.now)) (sym c.as_str.ensures.value) c.in-Ok.ensures.begun.1) (c.serve_batch.ensures.answer refl)
+    batch_run (places g.P.Store.Store g.P.Paths.tells g.P.Paths.stands g.P.Paths.lists g.P.Paths.explains g.P.Paths.opens g.P.Paths.refuses g.P.Paths.lacks g.P.Paths.has g.P.Paths.lets_go g.P.Paths.leaves c.args.paths.now c.serve_batch.new.paths) c.args.config c.in_ok-named.named (g.R.Source.remaining c.args.input.now) _ c.in-Ok.profile c.as_str.result.now _ _ _ _ _ _ c.serve_batch.result
+    c.in_ok-named.ensures.cases c.in-Ok.ensures.begun.0 (subst (IsText (g.R.Source.remaining c.args.input.now)) (sym c.as_str.ensures.value) c.in-Ok.ensures.begun.1) (c.serve_batch.ensures.answer refl)
 
 pub returns-in-Err-clause-answer : goal.returns-in-Err-clause-answer
 returns-in-Err-clause-answer g c =
     batch_refused (places g.P.Store.Store g.P.Paths.tells g.P.Paths.stands g.P.Paths.lists g.P.Paths.explains g.P.Paths.opens g.P.Paths.refuses g.P.Paths.lacks g.P.Paths.has g.P.Paths.lets_go g.P.Paths.leaves c.args.paths.now c.args.paths.now) c.args.config (g.R.Source.remaining c.args.input.now) _ _ _ _ c.in-Err.failure.fault c.in-Err.failure.cause _ _ c.tell_failure.result
-    c.in-Err.ensures.refused c.tell_failure.ensures.told
+    refl c.in-Err.ensures.refused c.tell_failure.ensures.told
 
 pub returns-in-Ok-clause-stopped : goal.returns-in-Ok-clause-stopped
 returns-in-Ok-clause-stopped g c =
@@ -22,4 +24,9 @@ returns-in-Ok-clause-stopped g c =
 
 pub returns-in-Err-clause-stopped : goal.returns-in-Err-clause-stopped
 returns-in-Err-clause-stopped g c =
-    stop_unread (places g.P.Store.Store g.P.Paths.tells g.P.Paths.stands g.P.Paths.lists g.P.Paths.explains g.P.Paths.opens g.P.Paths.refuses g.P.Paths.lacks g.P.Paths.has g.P.Paths.lets_go g.P.Paths.leaves c.args.paths.now c.args.paths.now) c.args.config _ _ (λ sink. g.V.Write.contents sink.writer) c.args.fault_output.now c.tell_failure.new.output _ _ c.tell_failure.result c.tell_failure.ensures.silent
+    stop_unread (places g.P.Store.Store g.P.Paths.tells g.P.Paths.stands g.P.Paths.lists g.P.Paths.explains g.P.Paths.opens g.P.Paths.refuses g.P.Paths.lacks g.P.Paths.has g.P.Paths.lets_go g.P.Paths.leaves c.args.paths.now c.args.paths.now) c.args.config _ _ (λ sink. g.V.Write.contents sink.writer) c.args.fault_output.now c.tell_failure.new.output _ _ c.tell_failure.result refl c.tell_failure.ensures.silent
+
+-- there is no memory for the name of the profile's file
+pub returns-in_err-named-clause-stopped : goal.returns-in_err-named-clause-stopped
+returns-in_err-named-clause-stopped g c =
+    on_err c.from_residual.result _ (λ _ _. batch_silent refl (Keeps-refl (g.W.Write.contents c.args.output.now.writer)) (Keeps-refl (g.V.Write.contents c.args.fault_output.now.writer)))

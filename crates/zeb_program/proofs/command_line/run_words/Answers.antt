@@ -1,4 +1,4 @@
-use Rattle.std.proofs.Common.{[], map, string_bytes, inl, inr, arith}
+use Rattle.std.proofs.Common.{[], map, string_bytes, inl, inr, arith, refl}
 use Rattle.std.proofs.KnownBytes.{Consumes-nil}
 use Rattle.zeb_program.specs.Registers.{places}
 use Rattle.zeb_program.specs.WordAnswers.{misused}
@@ -6,7 +6,7 @@ use Rattle.zeb_program.proofs.WordAnswerLemmas.{batch_words, shell_kept, shell_w
 use Rattle.zeb_program.proofs.command_line.run_words.Goals as goal
 
 pub returns-in-Err-clause-answer : goal.returns-in-Err-clause-answer
-returns-in-Err-clause-answer g c = λ sound quiet. misused c.in-Err.usage c.in-Err.ensures.nameless c.in-Err.ensures.refused (c.refuse_words.ensures.told sound quiet)
+returns-in-Err-clause-answer g c = λ sound quiet. misused c.in-Err.usage c.in-Err.ensures.nameless c.in-Err.ensures.refused refl refl (c.refuse_words.ensures.told sound quiet)
 
 -- a task takes nothing of the input
 pub returns-in-Task-clause-bounded : goal.returns-in-Task-clause-bounded
@@ -19,8 +19,8 @@ returns-in-Task-clause-answer g c =
 
 pub returns-in-Task-clause-stopped : goal.returns-in-Task-clause-stopped
 returns-in-Task-clause-stopped g c =
-    stopped_task_words (places g.P.Store.Store g.P.Paths.tells g.P.Paths.stands g.P.Paths.lists g.P.Paths.explains g.P.Paths.opens g.P.Paths.refuses g.P.Paths.lacks g.P.Paths.has g.P.Paths.lets_go g.P.Paths.leaves c.args.paths.now c.run_task.new.paths) (λ sink. g.W.Write.contents sink.writer) (λ sink. g.V.Write.contents sink.writer) (map string_bytes c.args.words.now) _ _ c.args.output.now c.run_task.new.output
-    c.args.fault_output.now c.run_task.new.fault_output c.in-Task.task _ _ c.run_task.result (c.in-Ok.words, c.in-Ok.ensures.named, c.in-Task.ensures) c.run_task.ensures.stopped
+    stopped_task_words (places g.P.Store.Store g.P.Paths.tells g.P.Paths.stands g.P.Paths.lists g.P.Paths.explains g.P.Paths.opens g.P.Paths.refuses g.P.Paths.lacks g.P.Paths.has g.P.Paths.lets_go g.P.Paths.leaves c.args.paths.now c.run_task.new.paths) (λ sink. g.W.Write.contents sink.writer) (map string_bytes c.args.words.now) _ _ c.args.output.now c.run_task.new.output
+    _ _ c.in-Ok.words c.layout_asked-choice.result c.in-Task.task _ _ c.run_task.result c.in-Ok.ensures.named c.in-Task.ensures c.layout_asked-choice.ensures c.run_task.ensures.stopped
 
 pub returns-in-Batch-clause-unread : goal.returns-in-Batch-clause-unread
 returns-in-Batch-clause-unread g c = λ other.

@@ -1,4 +1,4 @@
-use Rattle.std.proofs.Common.{◌≡◌, false, true, rules}
+use Rattle.std.proofs.Common.{◌≡◌, false, true, refl, rules}
 use Rattle.zeb_change.specs.Conditions.{conditions}
 use Rattle.zeb_register.specs.Formats.{version_of}
 use Rattle.zeb_program.specs.PrivateWordRuns.{format_of}
@@ -11,8 +11,8 @@ pub returns-then-not-uses_store-clause-answer : goal.returns-then-not-uses_store
 returns-then-not-uses_store-clause-answer g c = λ first.
     let unused : c.uses_store.result ≡ false = search rules in
     let no = c.uses_store.ensures.unused unused in
-    run_none (places g.P.Store.Store g.P.Paths.tells g.P.Paths.stands g.P.Paths.lists g.P.Paths.explains g.P.Paths.opens g.P.Paths.refuses g.P.Paths.lacks g.P.Paths.has g.P.Paths.lets_go g.P.Paths.leaves c.args.paths.now c.args.paths.now) c.args.profile c.args.batch.text.now c.args.batch.lines_before _ _ _ _ _ _ c.run_on_nothing.result first
-    no.0 (c.begins.ensures.none no.1) c.run_on_nothing.ensures.answer
+    run_none (places g.P.Store.Store g.P.Paths.tells g.P.Paths.stands g.P.Paths.lists g.P.Paths.explains g.P.Paths.opens g.P.Paths.refuses g.P.Paths.lacks g.P.Paths.has g.P.Paths.lets_go g.P.Paths.leaves c.args.paths.now c.args.paths.now) c.args.config c.args.profile c.args.batch.text.now c.args.batch.lines_before _ _ _ _ _ _ c.run_on_nothing.result first
+    no.0 (c.begins.ensures.none no.1) refl c.run_on_nothing.ensures.answer
 
 pub returns-in-Ok-clause-answer : goal.returns-in-Ok-clause-answer
 returns-in-Ok-clause-answer g c = λ first.
@@ -20,21 +20,21 @@ returns-in-Ok-clause-answer g c = λ first.
     let may = begun_or _ _ c.begins.result (c.uses_store.ensures.used uses) c.begins.ensures.some in
     let register = c.in-Ok.register in
     let format = format_of register.1 in
-    run_kept (places g.P.Store.Store g.P.Paths.tells g.P.Paths.stands g.P.Paths.lists g.P.Paths.explains g.P.Paths.opens g.P.Paths.refuses g.P.Paths.lacks g.P.Paths.has g.P.Paths.lets_go g.P.Paths.leaves c.args.paths.now c.open_register.new.paths) format c.args.profile c.args.batch.text.now (g.P.Paths.tells c.open_register.new.paths) (conditions (version_of format) register.0.profile register.0.limits) register.0.connection c.args.batch.lines_before
-    _ _ _ _ _ _ c.run_on.result first c.open_register.ensures.told may c.in-Ok.ensures.under c.in-Ok.ensures.opened c.run_on.ensures.answer
+    run_kept (places g.P.Store.Store g.P.Paths.tells g.P.Paths.stands g.P.Paths.lists g.P.Paths.explains g.P.Paths.opens g.P.Paths.refuses g.P.Paths.lacks g.P.Paths.has g.P.Paths.lets_go g.P.Paths.leaves c.args.paths.now c.open_register.new.paths) c.args.config format c.args.profile c.args.batch.text.now (conditions (version_of format) register.0.profile register.0.limits) register.0.connection c.args.batch.lines_before
+    _ _ _ _ _ _ c.run_on.result first may c.in-Ok.ensures.under c.in-Ok.ensures.opened c.run_on.ensures.answer
 
 pub returns-in-Err-clause-answer : goal.returns-in-Err-clause-answer
 returns-in-Err-clause-answer g c = λ first.
     let uses : c.uses_store.result ≡ true = search rules in
     let may = begun_or _ _ c.begins.result (c.uses_store.ensures.used uses) c.begins.ensures.some in
-    run_unopened (places g.P.Store.Store g.P.Paths.tells g.P.Paths.stands g.P.Paths.lists g.P.Paths.explains g.P.Paths.opens g.P.Paths.refuses g.P.Paths.lacks g.P.Paths.has g.P.Paths.lets_go g.P.Paths.leaves c.args.paths.now c.open_register.new.paths) c.args.profile c.args.batch.text.now _ _ _ c.in-Err.failure.fault c.in-Err.failure.cause _ _ c.tell_failure.result may c.in-Err.ensures.failed c.tell_failure.ensures.told
+    run_unopened (places g.P.Store.Store g.P.Paths.tells g.P.Paths.stands g.P.Paths.lists g.P.Paths.explains g.P.Paths.opens g.P.Paths.refuses g.P.Paths.lacks g.P.Paths.has g.P.Paths.lets_go g.P.Paths.leaves c.args.paths.now c.open_register.new.paths) c.args.config c.args.profile c.args.batch.text.now _ _ _ c.in-Err.refused.failure.fault c.in-Err.refused.failure.cause c.in-Err.refused.closed _ _ c.tell_unanswered.result may c.in-Err.ensures.failed c.tell_unanswered.ensures.told
 
 pub returns-then-not-uses_store-clause-stopped : goal.returns-then-not-uses_store-clause-stopped
 returns-then-not-uses_store-clause-stopped g c = λ first.
     let unused : c.uses_store.result ≡ false = search rules in
     let no = c.uses_store.ensures.unused unused in
     stop_none (places g.P.Store.Store g.P.Paths.tells g.P.Paths.stands g.P.Paths.lists g.P.Paths.explains g.P.Paths.opens g.P.Paths.refuses g.P.Paths.lacks g.P.Paths.has g.P.Paths.lets_go g.P.Paths.leaves c.args.paths.now c.args.paths.now) c.args.profile c.args.batch.text.now c.args.batch.lines_before _ _ (λ sink. g.V.Write.contents sink.writer) c.args.fault_output.now c.run_on_nothing.new.fault_output _ _ c.run_on_nothing.result first
-    no.0 (c.begins.ensures.none no.1) c.run_on_nothing.ensures.silent c.run_on_nothing.ensures.stopped
+    no.0 (c.begins.ensures.none no.1) refl c.run_on_nothing.ensures.silent c.run_on_nothing.ensures.stopped
 
 pub returns-in-Ok-clause-stopped : goal.returns-in-Ok-clause-stopped
 returns-in-Ok-clause-stopped g c = λ first.
@@ -42,9 +42,11 @@ returns-in-Ok-clause-stopped g c = λ first.
     let may = begun_or _ _ c.begins.result (c.uses_store.ensures.used uses) c.begins.ensures.some in
     let register = c.in-Ok.register in
     let format = format_of register.1 in
-    stop_kept (places g.P.Store.Store g.P.Paths.tells g.P.Paths.stands g.P.Paths.lists g.P.Paths.explains g.P.Paths.opens g.P.Paths.refuses g.P.Paths.lacks g.P.Paths.has g.P.Paths.lets_go g.P.Paths.leaves c.args.paths.now c.open_register.new.paths) format c.args.profile c.args.batch.text.now (g.P.Paths.tells c.open_register.new.paths) (conditions (version_of format) register.0.profile register.0.limits) register.0.connection c.args.batch.lines_before
-    _ _ _ _ _ _ c.run_on.result first c.open_register.ensures.told may c.in-Ok.ensures.under c.in-Ok.ensures.opened c.run_on.ensures.stopped
+    stop_kept (places g.P.Store.Store g.P.Paths.tells g.P.Paths.stands g.P.Paths.lists g.P.Paths.explains g.P.Paths.opens g.P.Paths.refuses g.P.Paths.lacks g.P.Paths.has g.P.Paths.lets_go g.P.Paths.leaves c.args.paths.now c.open_register.new.paths) format c.args.profile c.args.batch.text.now (conditions (version_of format) register.0.profile register.0.limits) register.0.connection c.args.batch.lines_before
+    _ _ _ _ _ _ c.run_on.result first may c.in-Ok.ensures.under c.in-Ok.ensures.opened c.run_on.ensures.stopped
 
 pub returns-in-Err-clause-stopped : goal.returns-in-Err-clause-stopped
 returns-in-Err-clause-stopped g c = λ first.
-    stop_unopened (places g.P.Store.Store g.P.Paths.tells g.P.Paths.stands g.P.Paths.lists g.P.Paths.explains g.P.Paths.opens g.P.Paths.refuses g.P.Paths.lacks g.P.Paths.has g.P.Paths.lets_go g.P.Paths.leaves c.args.paths.now c.open_register.new.paths) c.args.profile c.args.batch.text.now _ (λ sink. g.V.Write.contents sink.writer) c.args.fault_output.now c.tell_failure.new.output _ _ c.tell_failure.result c.tell_failure.ensures.silent
+    let uses : c.uses_store.result ≡ true = search rules in
+    let may = begun_or _ _ c.begins.result (c.uses_store.ensures.used uses) c.begins.ensures.some in
+    stop_unopened (places g.P.Store.Store g.P.Paths.tells g.P.Paths.stands g.P.Paths.lists g.P.Paths.explains g.P.Paths.opens g.P.Paths.refuses g.P.Paths.lacks g.P.Paths.has g.P.Paths.lets_go g.P.Paths.leaves c.args.paths.now c.open_register.new.paths) c.args.profile c.args.batch.text.now _ _ _ c.in-Err.refused.failure.fault c.in-Err.refused.failure.cause c.in-Err.refused.closed _ _ c.tell_unanswered.result may c.in-Err.ensures.failed c.tell_unanswered.ensures.stopped

@@ -4,7 +4,7 @@ use Rattle.zeb_program.specs.PrivateFaults.{IsUnread, fault_of}
 use Rattle.zeb_paths.specs.Walks.{WalksOn, dues_left, paths_left, telling}
 use Rattle.zeb_paths.proofs.WalkLemmas.{walks_ended, walks_told, walks_untold}
 use Rattle.zeb_program.specs.PrivateFiles.{sure_bytes}
-use Rattle.zeb_program.proofs.ReaderLemmas.{Ends, GivesNext, met_end, met_fault, met_next, met_start, reads_all, reads_more, reads_start, sure_of, unfound_faults}
+use Rattle.zeb_program.proofs.ReaderLemmas.{Ends, GivesNext, met_end, met_fault, met_next, met_start, reads_all, reads_more, reads_start, sure_of, sure_or_none, unfound_faults}
 use Rattle.zeb_program.proofs.files.readers_of.Goals as goal
 
 pub loop-walk-init : goal.loop-walk-init
@@ -12,7 +12,7 @@ loop-walk-init g c =
     record {
       paths = ap (λ p. p.now) c.in_ok-walk.ensures.paths;
       met = λ files told. met_start (sure_bytes g.P.Reader.Source.remaining g.P.Reader.Source.may_fail g.P.Reader.Source.has_failed) (g.P.Paths.tells c.args.paths.now) files c.new-readers.result.items _ (map string_bytes c.args.named.now) c.new-readers.ensures.items c.in_ok-walk.ensures.left told;
-      so_far = reads_start g.P.Reader.Source.remaining (telling (g.P.Paths.tells c.args.paths.now) (g.P.Paths.stands c.args.paths.now) (g.P.Paths.lists c.args.paths.now)) c.args.named.now c.new-readers.result.items _ c.new-readers.ensures.items c.in_ok-walk.ensures.levels;
+      so_far = reads_start (sure_bytes g.P.Reader.Source.remaining g.P.Reader.Source.may_fail g.P.Reader.Source.has_failed) (telling (g.P.Paths.tells c.args.paths.now) (g.P.Paths.stands c.args.paths.now) (g.P.Paths.lists c.args.paths.now)) c.args.named.now c.new-readers.result.items _ c.new-readers.ensures.items c.in_ok-walk.ensures.levels;
     }
 
 pub returns-in_err-path-clause-memory : goal.returns-in_err-path-clause-memory
@@ -43,7 +43,7 @@ returns-clause-given g c =
     let after = c.next_file.new.self.steps.items in
     let on : WalksOn at (dues_left steps) (Ok c.in_ok-path.field-0) (dues_left after) =
     subst (λ p. WalksOn (telling (g.P.Paths.tells p) (g.P.Paths.stands p) (g.P.Paths.lists p)) (dues_left steps) (Ok c.in_ok-path.field-0) (dues_left after)) c.loop-walk.invariant.paths c.in_ok-path.ensures.walks in
-    reads_all g.P.Reader.Source.remaining at (map string_bytes c.args.named.now) c.loop-walk.readers.items (dues_left steps) (dues_left after) c.loop-walk.invariant.so_far
+    reads_all (sure_bytes g.P.Reader.Source.remaining g.P.Reader.Source.may_fail g.P.Reader.Source.has_failed) at (map string_bytes c.args.named.now) c.loop-walk.readers.items (dues_left steps) (dues_left after) c.loop-walk.invariant.so_far
     (subst (λ found. WalksOn at (dues_left steps) (Ok found) (dues_left after)) c.in_default.is on)
 
 pub loop-walk-preserved : goal.loop-walk-preserved
@@ -65,8 +65,9 @@ loop-walk-preserved g c =
           (subst (λ found. Ends (paths_left steps) (Ok found)) c.in-Some.is ended)
           (λ file known. sure_of g.P.Reader.Source.remaining g.P.Reader.Source.may_fail g.P.Reader.Source.has_failed c.reader.result file (read ∙ known) (c.reader.ensures.able file known) c.reader.ensures.sound) c.in_ok-push.ensures.items;
       so_far =
-          reads_more g.P.Reader.Source.remaining at (map string_bytes c.args.named.now) c.loop-walk.readers.items c.push.new.self.items (dues_left steps) (dues_left after) c.in-Some.path c.reader.result c.loop-walk.invariant.so_far
-          (subst (λ found. WalksOn at (dues_left steps) (Ok found) (dues_left after)) c.in-Some.is on) read c.in_ok-push.ensures.items;
+          reads_more (sure_bytes g.P.Reader.Source.remaining g.P.Reader.Source.may_fail g.P.Reader.Source.has_failed) at (map string_bytes c.args.named.now) c.loop-walk.readers.items c.push.new.self.items (dues_left steps) (dues_left after) c.in-Some.path c.reader.result c.loop-walk.invariant.so_far
+          (subst (λ found. WalksOn at (dues_left steps) (Ok found) (dues_left after)) c.in-Some.is on)
+          (sure_or_none g.P.Reader.Source.remaining g.P.Reader.Source.may_fail g.P.Reader.Source.has_failed c.reader.result (tells (string_bytes c.in-Some.path)) read c.reader.ensures.able c.reader.ensures.sound) c.in_ok-push.ensures.items;
     }
 
 pub returns-in_err-path-clause-unfound : goal.returns-in_err-path-clause-unfound

@@ -1,12 +1,12 @@
-use Rattle.std.proofs.Common.{◌∙◌, [], ◌∷◌, ap, map, string_bytes}
+use Rattle.std.proofs.Common.{◌∙◌, [], ◌∷◌, ap, inl, map, refl, string_bytes}
 use Rattle.sqlite.specs.Held.{state}
 use Rattle.sqlite.specs.State.{HasCleanDisk}
 use Rattle.zeb_change.specs.Conditions.{conditions}
 use Rattle.zeb_paths.specs.Walks.{telling}
 use Rattle.zeb_register.specs.Formats.{version_of}
+use Rattle.zeb_program.proofs.LineStopLemmas.{same_err, stopped_fault, stopped_reply, stopped_silent}
 use Rattle.zeb_program.proofs.OverLemmas.{refused_path, replied_path}
 use Rattle.zeb_program.proofs.PathLemmas.{refused_file, replied_file}
-use Rattle.zeb_program.proofs.ReaderLemmas.{met_under}
 use Rattle.zeb_program.proofs.path_changes.run_path_change.Goals as goal
 
 pub returns-in_ok-render-in-Ok-clause-answer : goal.returns-in_ok-render-in-Ok-clause-answer
@@ -17,7 +17,7 @@ returns-in_ok-render-in-Ok-clause-answer g c =
     let new = state g.S.Store c.change_by_paths.new.session.connection in
     replied_file tells k c.args.change.now old new (g.W.Write.contents c.args.output.now.writer) (g.W.Write.contents c.write.new.self.writer)
     c.in-Ok.reply c.as_slice.result.now c.write.new.self.failed (HasCleanDisk new)
-    (λ clean file known. (c.in-Ok.ensures.leaves clean).serves (file ∷ []) (ap (map tells) (ap (map string_bytes) c.from_ref-named.ensures.value) ∙ ap (λ told. told ∷ []) known))
+    (λ clean file known. (c.in-Ok.ensures.changes clean).leaves.serves (file ∷ []) (inl (ap (map tells) (ap (map string_bytes) c.from_ref-named.ensures.value) ∙ ap (λ told. told ∷ []) known)))
     (c.as_slice.ensures.value ∙ c.in_ok-render-in-Ok.ensures) c.write.ensures.bytes
 
 pub returns-in-Err-clause-answer : goal.returns-in-Err-clause-answer
@@ -28,21 +28,33 @@ returns-in-Err-clause-answer g c =
     let new = state g.S.Store c.change_by_paths.new.session.connection in
     refused_file tells k c.args.change.now old new (g.W.Write.contents c.args.output.now.writer) (g.W.Write.contents c.tell.new.output.writer)
     c.in-Err.fault c.tell.new.output.failed (HasCleanDisk new) c.tell.result
-    (λ clean file known. (c.in-Err.ensures.leaves clean).serves (file ∷ []) (ap (map tells) (ap (map string_bytes) c.from_ref-named.ensures.value) ∙ ap (λ told. told ∷ []) known))
+    (λ clean file known. (c.in-Err.ensures.changes clean).leaves.serves (file ∷ []) (inl (ap (map tells) (ap (map string_bytes) c.from_ref-named.ensures.value) ∙ ap (λ told. told ∷ []) known)))
     c.tell.ensures.told
 
 pub returns-in_ok-render-in-Ok-clause-over : goal.returns-in_ok-render-in-Ok-clause-over
 returns-in_ok-render-in-Ok-clause-over g c =
     let new = state g.S.Store c.change_by_paths.new.session.connection in
-    replied_path (g.P.Paths.tells c.args.paths.now) g.L.Layout.format (conditions (version_of g.L.Layout.format) c.args.session.now.profile c.args.session.now.limits) c.args.change.now (state g.S.Store c.args.session.now.connection) new
+    replied_path (telling (g.P.Paths.tells c.args.paths.now) (g.P.Paths.stands c.args.paths.now) (g.P.Paths.lists c.args.paths.now)) g.L.Layout.format (conditions (version_of g.L.Layout.format) c.args.session.now.profile c.args.session.now.limits) c.args.change.now (state g.S.Store c.args.session.now.connection) new
     (g.W.Write.contents c.args.output.now.writer) (g.W.Write.contents c.write.new.self.writer) c.write.new.self.failed (HasCleanDisk new) c.from_ref-named.result.now
-    c.in-Ok.reply c.as_slice.result.now c.from_ref-named.ensures.value c.in-Ok.ensures.over c.in-Ok.ensures.leaves (c.as_slice.ensures.value ∙ c.in_ok-render-in-Ok.ensures) c.write.ensures.bytes
+    c.in-Ok.reply c.as_slice.result.now c.from_ref-named.ensures.value c.in-Ok.ensures.reaches c.in-Ok.ensures.changes (c.as_slice.ensures.value ∙ c.in_ok-render-in-Ok.ensures) c.write.ensures.bytes
 
 pub returns-in-Err-clause-over : goal.returns-in-Err-clause-over
 returns-in-Err-clause-over g c =
     let new = state g.S.Store c.change_by_paths.new.session.connection in
-    refused_path (g.P.Paths.tells c.args.paths.now) g.L.Layout.format (conditions (version_of g.L.Layout.format) c.args.session.now.profile c.args.session.now.limits) c.args.change.now (state g.S.Store c.args.session.now.connection) new
+    refused_path (telling (g.P.Paths.tells c.args.paths.now) (g.P.Paths.stands c.args.paths.now) (g.P.Paths.lists c.args.paths.now)) g.L.Layout.format (conditions (version_of g.L.Layout.format) c.args.session.now.profile c.args.session.now.limits) c.args.change.now (state g.S.Store c.args.session.now.connection) new
     (g.W.Write.contents c.args.output.now.writer) (g.W.Write.contents c.tell.new.output.writer) c.tell.new.output.failed (HasCleanDisk new) c.from_ref-named.result.now
     c.in-Err.fault c.tell.result c.from_ref-named.ensures.value
-    (met_under (telling (g.P.Paths.tells c.args.paths.now) (g.P.Paths.stands c.args.paths.now) (g.P.Paths.lists c.args.paths.now)) ⊥ (map string_bytes c.from_ref-named.result.now) c.in-Err.fault c.in-Err.ensures.reaches) c.in-Err.ensures.over c.in-Err.ensures.leaves
-    c.tell.ensures.told
+    c.in-Err.ensures.reaches c.in-Err.ensures.changes c.tell.ensures.told
+
+pub returns-in_err-render-in-Ok-clause-stopped : goal.returns-in_err-render-in-Ok-clause-stopped
+returns-in_err-render-in-Ok-clause-stopped g c =
+    stopped_silent c.from_residual.result _ _ (same_err c.from_residual.result refl)
+    (λ clean. stopped_reply g.S.Store (telling (g.P.Paths.tells c.args.paths.now) (g.P.Paths.stands c.args.paths.now) (g.P.Paths.lists c.args.paths.now)) g.L.Layout.format (conditions (version_of g.L.Layout.format) c.args.session.now.profile c.args.session.now.limits) c.args.change.now
+    c.args.session.now.connection c.change_by_paths.new.session.connection c.from_ref-named.result.now c.from_ref-named.ensures.value c.in-Ok.reply c.in-Ok.ensures.reaches (c.in-Ok.ensures.changes clean))
+
+pub returns-in-Err-clause-stopped : goal.returns-in-Err-clause-stopped
+returns-in-Err-clause-stopped g c =
+    stopped_silent c.tell.result _ _ c.tell.ensures.silent
+    (λ clean. stopped_fault g.S.Store (telling (g.P.Paths.tells c.args.paths.now) (g.P.Paths.stands c.args.paths.now) (g.P.Paths.lists c.args.paths.now)) g.L.Layout.format (conditions (version_of g.L.Layout.format) c.args.session.now.profile c.args.session.now.limits) c.args.change.now
+    c.args.session.now.connection c.change_by_paths.new.session.connection c.from_ref-named.result.now c.from_ref-named.ensures.value c.in-Err.fault
+    (λ unread. ap (λ session. session.connection) (c.in-Err.ensures.unread unread)) c.in-Err.ensures.reaches (c.in-Err.ensures.changes clean))

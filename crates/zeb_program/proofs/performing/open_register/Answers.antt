@@ -1,5 +1,5 @@
 use Rattle.std.proofs.Common.{◌≡◌, rules, subst, sym}
-use Rattle.std.specs.Prelude.{Err}
+use Rattle.std.specs.Prelude.{Err, IfErr}
 use Rattle.zeb_change.specs.Conditions.{conditions}
 use Rattle.zeb_register.specs.Formats.{packed_blocks, version_of}
 use Rattle.zeb_program.specs.PrivateFaults.{IsOpeningFault}
@@ -7,14 +7,14 @@ use Rattle.zeb_program.specs.PrivateWordRuns.{format_of}
 use Rattle.zeb_program.specs.Registers.{places, untold}
 use Rattle.zeb_program.specs.ScriptAnswers.{AreScriptConditions}
 use Rattle.zeb_program.proofs.LayoutLemmas.{conditions_in, looked_at, looked_over}
-use Rattle.zeb_program.proofs.WordRunLemmas.{passed_failure}
+use Rattle.zeb_program.proofs.WordRunLemmas.{opening_fault}
 use Rattle.zeb_program.proofs.performing.open_register.Goals as goal
 
 pub returns-in_err-session-clause-failed : goal.returns-in_err-session-clause-failed
 returns-in_err-session-clause-failed g c =
     let is : c.from_residual.result ≡ Err c.in_err-session.field-0.0 = search rules in
     let at = places g.P.Store.Store g.P.Paths.tells g.P.Paths.stands g.P.Paths.lists g.P.Paths.explains g.P.Paths.opens g.P.Paths.refuses g.P.Paths.lacks g.P.Paths.has g.P.Paths.lets_go g.P.Paths.leaves c.args.paths.now c.take_register.new.paths in
-    passed_failure (λ failure. IsOpeningFault at c.args.profile failure.fault failure.cause) c.from_residual.result c.in_err-session.field-0.0 is c.in_err-session.ensures.failed
+    subst (λ r. IfErr r (λ it. IsOpeningFault at c.args.profile it.failure.fault it.failure.cause it.closed)) (sym is) c.in_err-session.ensures.failed
 
 pub returns-in-Ok-clause-under : goal.returns-in-Ok-clause-under
 returns-in-Ok-clause-under g c =
@@ -34,9 +34,7 @@ returns-in-Err-clause-failed g c =
     let at = places g.P.Store.Store g.P.Paths.tells g.P.Paths.stands g.P.Paths.lists g.P.Paths.explains g.P.Paths.opens g.P.Paths.refuses g.P.Paths.lacks g.P.Paths.has g.P.Paths.lets_go g.P.Paths.leaves c.args.paths.now c.take_register.new.paths in
     let takes = c.in_ok-session.ensures.opened in
     let last = c.layout_of.new.session.connection in
-    subst (λ why. IsOpeningFault at c.args.profile why c.of_store.result.cause) (sym c.of_store.ensures.fault) (
-      c.close_register.result.cause,
-      untold c.close_register.result takes.0 c.in_ok-session.session.connection last takes.1 c.in-Err.ensures.failed
-          (looked_at g.P.Store.Store takes.0 c.in_ok-session.session.connection last c.in-Err.refusal takes.2 c.in-Err.ensures.looked) c.close_register.ensures,
-      c.of_store.ensures.cause,
-    )
+    opening_fault at c.args.profile c.in-Err.refusal c.close_register.result c.refused_opening.result
+    (untold c.close_register.result takes.0 c.in_ok-session.session.connection last takes.1 c.in-Err.ensures.failed
+    (looked_at g.P.Store.Store takes.0 c.in_ok-session.session.connection last c.in-Err.refusal takes.2 c.in-Err.ensures.looked) c.close_register.ensures)
+    c.refused_opening.ensures.fault c.refused_opening.ensures.cause c.refused_opening.ensures.closed

@@ -1,5 +1,5 @@
-use Rattle.std.proofs.Common.{◌≡◌, List, rules, subst, ℕ}
-use Rattle.std.specs.Prelude.{Err, IfOk, Option, string_bytes}
+use Rattle.std.proofs.Common.{◌≡◌, List, subst, ℕ}
+use Rattle.std.specs.Prelude.{IfOk, Option, string_bytes}
 use Rattle.std.specs.Option.{option_map}
 use Rattle.zeb_change.specs.Conditions.{conditions}
 use Rattle.zeb_register.specs.Formats.{version_of}
@@ -11,23 +11,22 @@ use Rattle.zeb_program.specs.WordRuns.{ServesUnder}
 use Rattle.zeb_program.proofs.WordRunLemmas.{answered_kept, gives_closed, unopened_register}
 use Rattle.zeb_program.proofs.performing.perform_in_register.Goals as goal
 
-pub returns-in_err-register-clause-serves : goal.returns-in_err-register-clause-serves
-returns-in_err-register-clause-serves g c =
-    let is : c.from_residual.result ≡ Err c.in_err-register.field-0.0 = search rules in
-    unopened_register (places g.P.Store.Store g.P.Paths.tells g.P.Paths.stands g.P.Paths.lists g.P.Paths.explains g.P.Paths.opens g.P.Paths.refuses g.P.Paths.lacks g.P.Paths.has g.P.Paths.lets_go g.P.Paths.leaves c.args.paths.now c.open_register.new.paths) c.args.choice c.args.profile c.args.task.now c.from_residual.result c.in_err-register.field-0.0 c.requires is c.in_err-register.ensures.failed
+pub returns-in-Err-clause-serves : goal.returns-in-Err-clause-serves
+returns-in-Err-clause-serves g c =
+    unopened_register (places g.P.Store.Store g.P.Paths.tells g.P.Paths.stands g.P.Paths.lists g.P.Paths.explains g.P.Paths.opens g.P.Paths.refuses g.P.Paths.lacks g.P.Paths.has g.P.Paths.lets_go g.P.Paths.leaves c.args.paths.now c.open_register.new.paths) c.args.choice c.args.profile c.args.task.now c.in-Err.refused.failure.fault c.in-Err.refused.failure.cause c.in-Err.refused.closed c.requires c.in-Err.ensures.failed
 
-pub returns-clause-serves : goal.returns-clause-serves
-returns-clause-serves g c =
-    let register = c.in_ok-register.register in
+pub returns-in-Ok-clause-serves : goal.returns-in-Ok-clause-serves
+returns-in-Ok-clause-serves g c =
+    let register = c.in-Ok.register in
     let format = format_of register.1 in
     let k = conditions (version_of format) register.0.profile register.0.limits in
     let tells = g.P.Paths.tells c.open_register.new.paths in
     let at = places g.P.Store.Store g.P.Paths.tells g.P.Paths.stands g.P.Paths.lists g.P.Paths.explains g.P.Paths.opens g.P.Paths.refuses g.P.Paths.lacks g.P.Paths.has g.P.Paths.lets_go g.P.Paths.leaves c.args.paths.now c.open_register.new.paths in
-    gives_closed c.serve_task.result (ServesHeld at.store at.leaves tells at.sees format k c.args.task.now register.0.connection) (ServesUnder at c.args.choice c.args.profile c.args.task.now)
-    (ExplainsFailure at.sees at.explains (paths_of c.args.task.now))
+    let Why = ExplainsFailure at.sees at.explains (paths_of c.args.task.now) in
+    gives_closed c.serve_task.result (ServesHeld at.store at.leaves tells at.sees format k c.args.task.now register.0.connection) (ServesUnder at c.args.choice c.args.profile c.args.task.now) Why Why
     (λ closed answer. answered_kept at c.args.choice format c.args.profile c.args.task.now tells k register.0.connection closed answer c.open_register.ensures.told c.requires
-    c.in_ok-register.ensures.under c.in_ok-register.ensures.opened) c.serve_task.ensures.serves
+    c.in-Ok.ensures.under c.in-Ok.ensures.opened) (λ met failure told. told) c.serve_task.ensures.serves
 
-pub returns-clause-warns : goal.returns-clause-warns
-returns-clause-warns g c =
-    subst (λ (tells : List ℕ → Option (List ℕ)). IfOk c.serve_task.result (λ told. WarnsOf tells c.args.task.now (option_map string_bytes told.warning))) c.open_register.ensures.told c.serve_task.ensures.warns
+pub returns-in-Ok-clause-warns : goal.returns-in-Ok-clause-warns
+returns-in-Ok-clause-warns g c =
+    subst (λ (tells : List ℕ → Option (List ℕ)). IfOk c.serve_task.result.told (λ told. WarnsOf tells c.args.task.now (option_map string_bytes told.warning))) c.open_register.ensures.told c.serve_task.ensures.warns

@@ -3,7 +3,8 @@ use Rattle.sqlite.specs.Files.{file_state}
 use Rattle.zeb_change.specs.Conditions.{conditions}
 use Rattle.zeb_paths.specs.Walks.{telling}
 use Rattle.zeb_register.specs.Formats.{packed_blocks, version_of}
-use Rattle.zeb_program.specs.PrivateWordRuns.{IsOwnOr, ServesOnNothing}
+use Rattle.zeb_program.specs.PrivateWordRuns.{ServesOnNothing}
+use Rattle.zeb_program.specs.WordRuns.{IsOwnOr}
 use Rattle.zeb_program.proofs.MemoryLemmas.{always_clean}
 use Rattle.zeb_program.proofs.WarningLemmas.{warns_of}
 use Rattle.zeb_program.proofs.WordRunLemmas.{gives_for, served_nothing}

@@ -1,10 +1,10 @@
 use Rattle.zeb_change.specs.Conditions.{conditions}
 use Rattle.zeb_paths.specs.Walks.{telling}
 use Rattle.zeb_register.specs.Formats.{version_of}
-use Rattle.zeb_program.specs.PrivateWordRuns.{ExplainsFailure, IsOwnOr, ServesHeld}
-use Rattle.zeb_program.specs.TaskAnswers.{paths_of}
+use Rattle.zeb_program.specs.PrivateWordRuns.{ServesHeld}
+use Rattle.zeb_program.specs.WordRuns.{IsOwnOr}
 use Rattle.zeb_program.proofs.WarningLemmas.{warns_of}
-use Rattle.zeb_program.proofs.WordRunLemmas.{closes_for, served_held}
+use Rattle.zeb_program.proofs.WordRunLemmas.{gives_for, served_held}
 use Rattle.zeb_program.proofs.performing.serve_task_in.Goals as goal
 
 pub returns-clause-serves : goal.returns-clause-serves
@@ -18,11 +18,12 @@ returns-clause-serves g c =
     let k = conditions (version_of format) c.args.session.profile c.args.session.limits in
     let held = c.args.session.connection in
     let done = c.carry_out-served.ensures.done in
-    let closed = c.close_register-closed.result in
-    closes_for c.told_of.result closed (λ answer. IsOwnOr answer done.0) (ServesHeld store leaves tells at format k task held) (ExplainsFailure at (g.P.Paths.explains c.args.paths.now) (paths_of task))
-    c.told_of.ensures.closed c.told_of.ensures.explains
-    (λ answer. served_held store leaves tells at format k task held c.carry_out-served.new.session.connection closed done.0 answer c.carry_out-served.ensures.clean done.2 c.close_register-closed.ensures)
-    (c.told_of.ensures.gives done.0 done.1)
+    let closed = c.close_register-closed.result in (
+      gives_for c.told_of.result (λ answer. IsOwnOr answer done.0) (ServesHeld store leaves tells at format k task held closed)
+          (λ answer. served_held store leaves tells at format k task held c.carry_out-served.new.session.connection closed done.0 answer c.carry_out-served.ensures.clean done.2 c.close_register-closed.ensures)
+          (c.told_of.ensures.gives done.0 done.1),
+      c.told_of.ensures.explains,
+    )
 
 pub returns-clause-warns : goal.returns-clause-warns
 returns-clause-warns g c =

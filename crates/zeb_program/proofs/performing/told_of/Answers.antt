@@ -10,7 +10,8 @@ use Rattle.zeb_program.proofs.performing.told_of.Goals as goal
 pub returns-in_ok-render-in-Ok-Replied-clause-gives : goal.returns-in_ok-render-in-Ok-Replied-clause-gives
 returns-in_ok-render-in-Ok-Replied-clause-gives g c = λ own stands.
     let it = subst (λ served. StandsFor served own) (c.in-Ok-Replied.is ∙ ap Ok c.in-Ok-Replied.field-0-is) stands in
-    (c.in-Ok-Replied.reply, c.in_ok-render-in-Ok-Replied.ensures, inl (sym it))
+    let text = rw c.in-Ok-Replied.field-0-is at c.in_ok-render-in-Ok-Replied.ensures in
+    (c.in-Ok-Replied.reply, text, inl (sym it))
 
 pub returns-in_ok-render-in-Ok-Replied-clause-warned : goal.returns-in_ok-render-in-Ok-Replied-clause-warned
 returns-in_ok-render-in-Ok-Replied-clause-warned g c =
@@ -18,8 +19,10 @@ returns-in_ok-render-in-Ok-Replied-clause-warned g c =
 
 pub returns-in_ok-warning-in-Ok-Shown-clause-warned : goal.returns-in_ok-warning-in-Ok-Shown-clause-warned
 returns-in_ok-warning-in-Ok-Shown-clause-warned g c =
+    let places = rw c.in-Ok-Shown.field-0-is at c.deref.ensures.value in
+    let records = rw c.in-Ok-Shown.field-0-is at c.records.ensures in
     shown_warned c.args.served c.in-Ok-Shown.lines c.in-Ok-Shown.unmarked _ _ _ (c.in-Ok-Shown.is ∙ ap Ok c.in-Ok-Shown.field-0-is)
-    c.deref.ensures.value c.records.ensures c.in_ok-warning-in-Ok-Shown.ensures
+    places records c.in_ok-warning-in-Ok-Shown.ensures
 
 pub returns-in_ok-warning-in-Ok-Shown-clause-warns : goal.returns-in_ok-warning-in-Ok-Shown-clause-warns
 returns-in_ok-warning-in-Ok-Shown-clause-warns g c =

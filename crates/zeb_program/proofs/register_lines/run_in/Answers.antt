@@ -2,11 +2,13 @@ use Rattle.std.proofs.Common.{◌≡◌, false, refl}
 use Rattle.sqlite.specs.Held.{state}
 use Rattle.sqlite.specs.State.{HasCleanDisk}
 use Rattle.zeb_change.specs.Conditions.{conditions}
+use Rattle.zeb_paths.specs.Walks.{telling}
 use Rattle.zeb_register.specs.Formats.{version_of}
-use Rattle.zeb_program.specs.Answers.{AnswersBatch, AnswersPart, Writes}
+use Rattle.zeb_program.specs.Answers.{AnswersBatch, Writes}
+use Rattle.zeb_program.specs.Doing.{StopsPart}
 use Rattle.zeb_program.specs.OverTables.{LinesOver}
 use Rattle.zeb_program.specs.declared.statuses.Status.{Status}
-use Rattle.zeb_program.specs.Serving.{LeadsOn, Stops}
+use Rattle.zeb_program.specs.Serving.{LeadsOn}
 use Rattle.zeb_program.specs.PrivateWordRuns.{ClosesAloud, RunsIn, StopsIn}
 use Rattle.zeb_program.proofs.SessionLemmas.{both_ok, ended_err, ended_ok}
 use Rattle.zeb_program.proofs.register_lines.run_in.Goals as goal
@@ -15,6 +17,7 @@ pub returns-clause-answer : goal.returns-clause-answer
 returns-clause-answer g c =
     let store = g.P.Store.Store in
     let tells = g.P.Paths.tells c.args.paths.now in
+    let at = telling tells (g.P.Paths.stands c.args.paths.now) (g.P.Paths.lists c.args.paths.now) in
     let leaves = g.P.Paths.leaves c.args.paths.now in
     let k = conditions (version_of g.L.Layout.format) c.args.session.profile c.args.session.limits in
     let n = c.args.batch.lines_before in
@@ -26,12 +29,12 @@ returns-clause-answer g c =
     let fault_old = g.V.Write.contents c.args.fault_output.now.writer in
     let fault_new = g.V.Write.contents c.end_session.new.fault_output.writer in
     let Over = λ (status : Status). c.run_lines-answered.new.output.failed ≡ false → HasCleanDisk (state store last)
-    → Writes old new (λ bytes. LinesOver store tells g.L.Layout.format k n text held bytes status last) in
+    → Writes old new (λ bytes. LinesOver store at g.L.Layout.format k n text held bytes status last) in
     let Answers = λ (status : Status). c.run_lines-answered.new.output.failed ≡ false → HasCleanDisk (state store last)
     → LeadsOn (state store held) (state store last) old new (λ before bytes later. AnswersBatch tells k n text before bytes status later) in
     ended_ok c.run_lines-answered.result c.end_session.result (ClosesAloud store leaves last c.end_session.new.fault_output.failed fault_old fault_new)
     (λ status. Over status × Answers status)
-    (λ status. c.run_lines-answered.new.output.failed ≡ false → c.end_session.new.fault_output.failed ≡ false → RunsIn store leaves tells g.L.Layout.format k n text held old new fault_old fault_new status)
+    (λ status. c.run_lines-answered.new.output.failed ≡ false → c.end_session.new.fault_output.failed ≡ false → RunsIn store leaves at g.L.Layout.format k n text held old new fault_old fault_new status)
     c.end_session.ensures.ends (both_ok c.run_lines-answered.result Over Answers c.run_lines-answered.ensures.over c.run_lines-answered.ensures.answer)
     (λ answered closed lines closes sound quiet. (
       answered,
@@ -49,7 +52,7 @@ returns-clause-answer g c =
 pub returns-clause-stopped : goal.returns-clause-stopped
 returns-clause-stopped g c =
     let store = g.P.Store.Store in
-    let tells = g.P.Paths.tells c.args.paths.now in
+    let at = telling (g.P.Paths.tells c.args.paths.now) (g.P.Paths.stands c.args.paths.now) (g.P.Paths.lists c.args.paths.now) in
     let leaves = g.P.Paths.leaves c.args.paths.now in
     let k = conditions (version_of g.L.Layout.format) c.args.session.profile c.args.session.limits in
     let n = c.args.batch.lines_before in
@@ -61,7 +64,7 @@ returns-clause-stopped g c =
     let fault_old = g.V.Write.contents c.args.fault_output.now.writer in
     let fault_new = g.V.Write.contents c.end_session.new.fault_output.writer in
     ended_err c.run_lines-answered.result c.end_session.result (ClosesAloud store leaves last c.end_session.new.fault_output.failed fault_old fault_new)
-    (c.run_lines-answered.new.output.failed ≡ false → HasCleanDisk (state store last) → Stops (state store held) old new (AnswersPart tells k n text))
-    (c.run_lines-answered.new.output.failed ≡ false → c.end_session.new.fault_output.failed ≡ false → StopsIn store leaves tells k n text held old new fault_old fault_new)
+    (c.run_lines-answered.new.output.failed ≡ false → HasCleanDisk (state store last) → StopsPart store at g.L.Layout.format k n text old new held last)
+    (c.run_lines-answered.new.output.failed ≡ false → c.end_session.new.fault_output.failed ≡ false → StopsIn store leaves at g.L.Layout.format k n text held old new fault_old fault_new)
     c.end_session.ensures.ends c.run_lines-answered.ensures.stopped
     (λ closed lines closes sound quiet. (closed, record { last = last; clean = c.run_lines-answered.ensures.clean; lines = lines sound; ends = closes.0; closes = closes.1 quiet }))

@@ -4,6 +4,7 @@ use Rattle.std.specs.Io.KnownBytes.{IsAtEnd}
 use Rattle.sqlite.specs.Held.{state}
 use Rattle.sqlite.specs.State.{HasCleanDisk}
 use Rattle.zeb_change.specs.Conditions.{conditions}
+use Rattle.zeb_paths.specs.Walks.{telling}
 use Rattle.zeb_register.specs.Formats.{version_of}
 use Rattle.zeb_program.specs.Closings.{TellsClosed}
 use Rattle.zeb_program.specs.Doing.{ServesText, StopsText}
@@ -23,7 +24,7 @@ returns-clause-whole g c =
 pub returns-clause-answer : goal.returns-clause-answer
 returns-clause-answer g c =
     let store = g.P.Store.Store in
-    let tells = g.P.Paths.tells c.args.paths.now in
+    let at = telling (g.P.Paths.tells c.args.paths.now) (g.P.Paths.stands c.args.paths.now) (g.P.Paths.lists c.args.paths.now) in
     let leaves = g.P.Paths.leaves c.args.paths.now in
     let k = conditions (version_of g.L.Layout.format) c.args.session.profile c.args.session.limits in
     let given = g.R.Source.remaining c.args.input.now in
@@ -38,8 +39,8 @@ returns-clause-answer g c =
     let fault_new = g.V.Write.contents c.end_session.new.fault_output.writer in
     ended_ok c.serve_lines-answered.result c.end_session.result (ClosesAloud store leaves last c.end_session.new.fault_output.failed between fault_new)
     (λ status. c.serve_lines-answered.new.output.failed ≡ false → c.serve_lines-answered.new.fault_output.failed ≡ false → HasCleanDisk (state store last)
-    → IfSome given (λ text. ServesText store tells g.L.Layout.format k text left failed old new fault_old between status held last))
-    (λ status. c.serve_lines-answered.new.output.failed ≡ false → c.end_session.new.fault_output.failed ≡ false → ServesIn store leaves tells g.L.Layout.format k given left failed held old new fault_old fault_new status)
+    → IfSome given (λ text. ServesText store at g.L.Layout.format k text left failed old new fault_old between status held last))
+    (λ status. c.serve_lines-answered.new.output.failed ≡ false → c.end_session.new.fault_output.failed ≡ false → ServesIn store leaves at g.L.Layout.format k given left failed held old new fault_old fault_new status)
     c.end_session.ensures.ends c.serve_lines-answered.ensures.answer
     (λ answered closed lines closes sound quiet. (
       between,
@@ -58,7 +59,7 @@ returns-clause-answer g c =
 pub returns-clause-stopped : goal.returns-clause-stopped
 returns-clause-stopped g c =
     let store = g.P.Store.Store in
-    let tells = g.P.Paths.tells c.args.paths.now in
+    let at = telling (g.P.Paths.tells c.args.paths.now) (g.P.Paths.stands c.args.paths.now) (g.P.Paths.lists c.args.paths.now) in
     let leaves = g.P.Paths.leaves c.args.paths.now in
     let k = conditions (version_of g.L.Layout.format) c.args.session.profile c.args.session.limits in
     let given = g.R.Source.remaining c.args.input.now in
@@ -71,10 +72,10 @@ returns-clause-stopped g c =
     let between = g.V.Write.contents c.serve_lines-answered.new.fault_output.writer in
     let fault_new = g.V.Write.contents c.end_session.new.fault_output.writer in
     let said = (c.serve_lines-answered.new.output.failed ≡ false → HasCleanDisk (state store last)
-    → IfSome given (λ text. StopsText store tells g.L.Layout.format k Memory text left old new held last)) in
+    → IfSome given (λ text. StopsText store at g.L.Layout.format k Memory text left old new held last)) in
     let same = (c.serve_lines-answered.new.fault_output ≡ c.args.fault_output.now) in
     ended_err c.serve_lines-answered.result c.end_session.result (ClosesAloud store leaves last c.end_session.new.fault_output.failed between fault_new) (said × same)
-    (c.serve_lines-answered.new.output.failed ≡ false → c.end_session.new.fault_output.failed ≡ false → StopsServing store leaves tells g.L.Layout.format k given left held old new fault_old fault_new)
+    (c.serve_lines-answered.new.output.failed ≡ false → c.end_session.new.fault_output.failed ≡ false → StopsServing store leaves at g.L.Layout.format k given left held old new fault_old fault_new)
     c.end_session.ensures.ends (both_err c.serve_lines-answered.result said same c.serve_lines-answered.ensures.stopped c.serve_lines-answered.ensures.silent)
     (λ closed facts closes sound quiet. (
       closed,

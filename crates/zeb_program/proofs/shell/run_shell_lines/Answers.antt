@@ -1,4 +1,7 @@
 use Rattle.zeb_program.proofs.Cited.{◌≡◌, ◌∙◌, ◌+◌, inr, refl, rules, subst₂, IfErr, IfSome, state, HasCleanDisk, conditions, version_of, Writes, first_line, LineOver, Memory}
+use Rattle.zeb_paths.specs.Walks.{telling}
+use Rattle.zeb_program.specs.Doing.{KeepsUnread}
+use Rattle.zeb_program.proofs.LineStopLemmas.{stopped_still}
 use Rattle.zeb_program.proofs.LineInputLemmas.{ends_before}
 use Rattle.zeb_program.proofs.ShellOverLemmas.{goes_line, goes_start}
 use Rattle.zeb_program.proofs.ShellLemmas.{AnswersNext, serves_line, serves_start}
@@ -15,13 +18,14 @@ loop-lines_before-init g c =
       sound = λ sound. sound;
       under = (refl, refl);
       clean = λ clean. clean;
-      over = λ _ _. goes_start (LineOver g.S.Store (g.P.Paths.tells c.args.paths.now) g.L.Layout.format k) (g.W.Write.contents c.args.output.now.writer) (g.R.Source.remaining c.args.input.now) c.args.session.now.connection;
+      over = λ _ _. goes_start (LineOver g.S.Store (telling (g.P.Paths.tells c.args.paths.now) (g.P.Paths.stands c.args.paths.now) (g.P.Paths.lists c.args.paths.now)) g.L.Layout.format k) (g.W.Write.contents c.args.output.now.writer) (g.R.Source.remaining c.args.input.now) c.args.session.now.connection;
       answers = λ _ _. serves_start (g.P.Paths.tells c.args.paths.now) k old (g.W.Write.contents c.args.output.now.writer) (g.R.Source.remaining c.args.input.now);
     }
 
 pub loop-lines_before-preserved : goal.loop-lines_before-preserved
 loop-lines_before-preserved g c =
     let tells = g.P.Paths.tells c.args.paths.now in
+    let at = telling tells (g.P.Paths.stands c.args.paths.now) (g.P.Paths.lists c.args.paths.now) in
     let k = conditions (version_of g.L.Layout.format) c.args.session.now.profile c.args.session.now.limits in
     let old = state g.S.Store c.args.session.now.connection in
     let now = state g.S.Store c.loop-lines_before.session.connection in
@@ -38,9 +42,9 @@ loop-lines_before-preserved g c =
       under = (c.run_next_line.ensures.stays.0 ∙ same.0, c.run_next_line.ensures.stays.1 ∙ same.1);
       clean = λ clean. c.loop-lines_before.invariant.clean (c.run_next_line.ensures.stays.2 clean);
       over = λ sound clean.
-          let step = subst₂ (λ p l. IfSome left (λ text. Writes mid writes (λ bytes. LineOver g.S.Store tells g.L.Layout.format (conditions (version_of g.L.Layout.format) p l)
+          let step = subst₂ (λ p l. IfSome left (λ text. Writes mid writes (λ bytes. LineOver g.S.Store at g.L.Layout.format (conditions (version_of g.L.Layout.format) p l)
           (n + 1) (first_line text) c.loop-lines_before.session.connection bytes c.in-Some.status c.run_next_line.new.session.connection))) same.0 same.1 (line.over sound clean) in
-          goes_line (LineOver g.S.Store tells g.L.Layout.format k) (g.W.Write.contents c.args.output.now.writer) mid writes (g.R.Source.remaining c.args.input.now) left (g.R.Source.remaining c.run_next_line.new.input)
+          goes_line (LineOver g.S.Store at g.L.Layout.format k) (g.W.Write.contents c.args.output.now.writer) mid writes (g.R.Source.remaining c.args.input.now) left (g.R.Source.remaining c.run_next_line.new.input)
           n c.loop-lines_before.greatest c.in-Some.status c.max-greatest.result c.args.session.now.connection c.loop-lines_before.session.connection c.run_next_line.new.session.connection
           (c.max-greatest.ensures ∙ max_greater c.loop-lines_before.greatest c.in-Some.status) line.some line.taken step
           (c.loop-lines_before.invariant.over (c.run_next_line.ensures.sound sound) (c.run_next_line.ensures.stays.2 clean));
@@ -58,11 +62,15 @@ pub returns-in_err-status-clause-stopped : goal.returns-in_err-status-clause-sto
 returns-in_err-status-clause-stopped g c =
     let k = conditions (version_of g.L.Layout.format) c.args.session.now.profile c.args.session.now.limits in
     let why = c.in_err-status.field-0.0 in
+    let at = telling (g.P.Paths.tells c.args.paths.now) (g.P.Paths.stands c.args.paths.now) (g.P.Paths.lists c.args.paths.now) in
+    let same = c.loop-lines_before.invariant.under in
     let given : IfErr c.from_residual.result (λ given. given ≡ why) = search rules in
     rw c.in_err-status.ensures.line.1
-    (text_failure g.S.Store (g.P.Paths.tells c.args.paths.now) g.L.Layout.format k c.from_residual.result why (g.W.Write.contents c.args.output.now.writer) (g.W.Write.contents c.loop-lines_before.output.writer)
+    (text_failure g.S.Store at g.L.Layout.format k c.from_residual.result why (g.W.Write.contents c.args.output.now.writer) (g.W.Write.contents c.loop-lines_before.output.writer)
     (g.R.Source.remaining c.args.input.now) (g.R.Source.remaining c.loop-lines_before.input) (g.R.Source.remaining c.run_next_line.new.input) c.loop-lines_before.lines_before c.loop-lines_before.greatest
-    c.args.session.now.connection c.loop-lines_before.session.connection c.run_next_line.new.session.connection c.loop-lines_before.output.failed (HasCleanDisk (state g.S.Store c.run_next_line.new.session.connection)) given c.in_err-status.ensures.line.0.0 c.in_err-status.ensures.line.0.1
+    c.args.session.now.connection c.loop-lines_before.session.connection c.run_next_line.new.session.connection c.loop-lines_before.output.failed (HasCleanDisk (state g.S.Store c.run_next_line.new.session.connection)) given
+    (λ clean. subst₂ (λ p l. IfSome (g.R.Source.remaining c.loop-lines_before.input) (λ text. KeepsUnread g.S.Store at g.L.Layout.format (conditions (version_of g.L.Layout.format) p l) why text c.loop-lines_before.session.connection c.run_next_line.new.session.connection))
+    same.0 same.1 (c.in_err-status.ensures.line.0.0 clean)) c.in_err-status.ensures.line.0.1
     (λ sound clean. c.loop-lines_before.invariant.over sound (c.run_next_line.ensures.stays.2 clean)) (λ sound clean. c.loop-lines_before.invariant.answers sound (c.run_next_line.ensures.stays.2 clean)))
 
 pub returns-in-None-clause-answer : goal.returns-in-None-clause-answer
@@ -70,7 +78,7 @@ returns-in-None-clause-answer g c =
     let k = conditions (version_of g.L.Layout.format) c.args.session.now.profile c.args.session.now.limits in
     let idle = found_end _ _ c.in_ok-status.field-0 c.in-None.is c.in_ok-status.ensures.line in
     rw (idle.2, idle.3)
-    (λ sound clean. text_done g.S.Store (g.P.Paths.tells c.args.paths.now) g.L.Layout.format k (g.W.Write.contents c.args.output.now.writer)
+    (λ sound clean. text_done g.S.Store (telling (g.P.Paths.tells c.args.paths.now) (g.P.Paths.stands c.args.paths.now) (g.P.Paths.lists c.args.paths.now)) g.L.Layout.format k (g.W.Write.contents c.args.output.now.writer)
     (g.W.Write.contents c.loop-lines_before.output.writer) (g.R.Source.remaining c.args.input.now) (g.R.Source.remaining c.loop-lines_before.input) c.loop-lines_before.lines_before c.loop-lines_before.greatest
     c.args.session.now.connection c.loop-lines_before.session.connection idle.0 (c.loop-lines_before.invariant.over sound clean) (c.loop-lines_before.invariant.answers sound clean))
 
@@ -81,6 +89,6 @@ pub returns-clause-stopped : goal.returns-clause-stopped
 returns-clause-stopped g c = λ sound clean.
     let k = conditions (version_of g.L.Layout.format) c.args.session.now.profile c.args.session.now.limits in
     let left = g.R.Source.remaining c.loop-lines_before.input in
-    text_stopped g.S.Store (g.P.Paths.tells c.args.paths.now) g.L.Layout.format k Memory (g.W.Write.contents c.args.output.now.writer) (g.W.Write.contents c.loop-lines_before.output.writer)
-    (g.R.Source.remaining c.args.input.now) left left c.loop-lines_before.lines_before c.loop-lines_before.greatest c.args.session.now.connection c.loop-lines_before.session.connection c.loop-lines_before.session.connection tt
+    text_stopped g.S.Store (telling (g.P.Paths.tells c.args.paths.now) (g.P.Paths.stands c.args.paths.now) (g.P.Paths.lists c.args.paths.now)) g.L.Layout.format k Memory (g.W.Write.contents c.args.output.now.writer) (g.W.Write.contents c.loop-lines_before.output.writer)
+    (g.R.Source.remaining c.args.input.now) left left c.loop-lines_before.lines_before c.loop-lines_before.greatest c.args.session.now.connection c.loop-lines_before.session.connection c.loop-lines_before.session.connection (stopped_still g.S.Store (telling (g.P.Paths.tells c.args.paths.now) (g.P.Paths.stands c.args.paths.now) (g.P.Paths.lists c.args.paths.now)) g.L.Layout.format k Memory left c.loop-lines_before.session.connection)
     (ends_before left) (c.loop-lines_before.invariant.over sound clean) (c.loop-lines_before.invariant.answers sound clean)

@@ -1,9 +1,12 @@
 use Rattle.std.proofs.Common.{◌≡◌, ◌∙◌, ◌<◌, ◌^◌, Err, Ok, ap, arith, map, refl, rules, string_bytes, subst, sym}
 use Rattle.zeb_engine.specs.Analysed.{HasLines}
 use Rattle.zeb_engine.proofs.AnalysedReplies.{is_analysed, is_counted, is_printed, shown_reply}
+use Rattle.zeb_paths.specs.Walks.{telling}
 use Rattle.zeb_program.specs.PrivateServing.{StandsFor}
-use Rattle.zeb_program.specs.Warnings.{unmarked_of}
+use Rattle.zeb_program.specs.Warnings.{records_in, unmarked_of, warning_of}
 use Rattle.zeb_program.specs.declared.faults.Fault.TheVariants.{Refused}
+use Rattle.zeb_profile.specs.Indexes.{index_names}
+use Rattle.zeb_program.proofs.WarningLemmas.{lines_counted}
 use Rattle.zeb_program.proofs.OverLemmas.{analysed_over, unanalysed_over, unshown_over}
 use Rattle.zeb_program.proofs.tasks.analyse_paths.Goals as goal
 
@@ -13,7 +16,7 @@ returns-in_err-lines-clause-over g c =
     let is : c.from_residual.result ≡ Err why = search rules in (
       Err why,
       subst (λ r. StandsFor r (Err why)) (sym is) refl,
-      unanalysed_over (g.P.Paths.tells c.args.paths.now) c.args.session.now.profile c.args.session.now.limits.records (map string_bytes c.args.named.now) why c.in_err-lines.ensures.unread,
+      unanalysed_over (telling (g.P.Paths.tells c.args.paths.now) (g.P.Paths.stands c.args.paths.now) (g.P.Paths.lists c.args.paths.now)) c.args.session.now.profile c.args.session.now.limits.records (map string_bytes c.args.named.now) why c.in_err-lines.ensures.unread,
     )
 
 pub returns-in-Ok-clause-over : goal.returns-in-Ok-clause-over
@@ -26,7 +29,7 @@ returns-in-Ok-clause-over g c =
     let reply = shown_reply profile limit small read.texts c.in-Ok.lines are in (
       Ok reply,
       (reply, refl, is_printed profile limit small read.texts c.in-Ok.lines are, is_counted profile limit small read.texts c.in-Ok.lines are),
-      analysed_over (g.P.Paths.tells c.args.paths.now) profile limit (map string_bytes c.args.named.now) read.texts read.short read.these reply (is_analysed profile limit small read.texts c.in-Ok.lines are),
+      analysed_over (telling (g.P.Paths.tells c.args.paths.now) (g.P.Paths.stands c.args.paths.now) (g.P.Paths.lists c.args.paths.now)) profile limit (map string_bytes c.args.named.now) _ read reply (is_analysed profile limit small read.texts c.in-Ok.lines are),
     )
 
 pub returns-in-Err-clause-over : goal.returns-in-Err-clause-over
@@ -37,13 +40,18 @@ returns-in-Err-clause-over g c =
     let why = c.in-Err.refusal in (
       Err (Refused why),
       refl,
-      unshown_over (g.P.Paths.tells c.args.paths.now) profile limit (map string_bytes c.args.named.now) read.texts read.short read.these why (subst (HasLines profile limit read.texts) c.in-Err.is read.lines),
+      unshown_over (telling (g.P.Paths.tells c.args.paths.now) (g.P.Paths.stands c.args.paths.now) (g.P.Paths.lists c.args.paths.now)) profile limit (map string_bytes c.args.named.now) _ read why (subst (HasLines profile limit read.texts) c.in-Err.is read.lines),
     )
 
 pub returns-in-Ok-clause-unmarked : goal.returns-in-Ok-clause-unmarked
 returns-in-Ok-clause-unmarked g c = λ files known.
     let read = c.in_ok-lines.ensures.reads in
-    read.unmarked ∙ ap (unmarked_of 1) (read.these files known)
+    let profile = c.args.session.now.profile in
+    let limit = c.args.session.now.limits.records in
+    let are = subst (HasLines profile limit read.texts) c.in-Ok.is read.lines in
+    let counted = lines_counted (index_names profile) profile limit read.texts c.in-Ok.lines are in
+    ap (λ these. warning_of these c.in-Ok.lines.records) read.unmarked ∙ ap (warning_of (unmarked_of 1 read.texts)) counted
+    ∙ ap (λ texts. warning_of (unmarked_of 1 texts) (records_in texts)) (read.these files known)
 
 pub returns-in-Ok-clause-reaches : goal.returns-in-Ok-clause-reaches
-returns-in-Ok-clause-reaches g c = c.in_ok-lines.ensures.found
+returns-in-Ok-clause-reaches g c = (c.in_ok-lines.ensures.reads.walked, c.in_ok-lines.ensures.reads.found)

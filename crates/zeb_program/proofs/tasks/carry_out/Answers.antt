@@ -1,4 +1,4 @@
-use Rattle.std.proofs.Common.{refl, subst, sym}
+use Rattle.std.proofs.Common.{inl, refl, subst, sym}
 use Rattle.sqlite.specs.Held.{state}
 use Rattle.zeb_change.specs.Conditions.{conditions}
 use Rattle.zeb_paths.specs.Walks.{telling}
@@ -13,6 +13,7 @@ use Rattle.zeb_program.proofs.tasks.carry_out.Goals as goal
 pub returns-in-Ask-clause-done : goal.returns-in-Ask-clause-done
 returns-in-Ask-clause-done g c =
     let told = g.P.Paths.tells c.args.paths.now in
+    let at = telling told (g.P.Paths.stands c.args.paths.now) (g.P.Paths.lists c.args.paths.now) in
     let k = conditions (version_of g.L.Layout.format) c.args.session.now.profile c.args.session.now.limits in
     let old = state g.S.Store c.args.session.now.connection in
     let new = state g.S.Store c.ask.new.session.connection in (
@@ -20,14 +21,15 @@ returns-in-Ask-clause-done g c =
       c.to_serve.ensures.reply,
       record {
         serves = λ clean. asked_task told k c.args.task.now old new c.ask.result c.in-Ask.command c.in-Ask.is (c.ask.ensures.answer clean);
-        over = λ clean. asked_task_over told g.L.Layout.format k c.args.task.now old new c.ask.result c.in-Ask.command c.in-Ask.is (c.ask.ensures.over clean) (c.ask.ensures.refused clean);
-        reaches = asked_reaches (telling (g.P.Paths.tells c.args.paths.now) (g.P.Paths.stands c.args.paths.now) (g.P.Paths.lists c.args.paths.now)) c.args.task.now c.in-Ask.command c.ask.result c.in-Ask.is c.ask.ensures.read;
+        over = λ clean. asked_task_over at g.L.Layout.format k c.args.task.now old new c.ask.result c.in-Ask.command c.in-Ask.is (c.ask.ensures.over clean) (c.ask.ensures.refused clean);
+        reaches = asked_reaches at c.args.task.now c.in-Ask.command c.ask.result c.in-Ask.is c.ask.ensures.read;
       },
     )
 
 pub returns-in-Change-clause-done : goal.returns-in-Change-clause-done
 returns-in-Change-clause-done g c =
     let told = g.P.Paths.tells c.args.paths.now in
+    let at = telling told (g.P.Paths.stands c.args.paths.now) (g.P.Paths.lists c.args.paths.now) in
     let k = conditions (version_of g.L.Layout.format) c.args.session.now.profile c.args.session.now.limits in
     let old = state g.S.Store c.args.session.now.connection in
     let new = state g.S.Store c.change_by_paths.new.session.connection in
@@ -37,17 +39,18 @@ returns-in-Change-clause-done g c =
       record {
         serves = λ clean.
             changed_task told k c.args.task.now old new own c.in-Change.kind c.in-Change.database c.in-Change.named c.deref.result.now
-            c.in-Change.is c.deref.ensures.value (c.change_by_paths.ensures.leaves clean).serves;
+            c.in-Change.is c.deref.ensures.value (λ files known. (c.change_by_paths.ensures.changes clean).leaves.serves files (inl known));
         over = λ clean.
-            changed_task_over told g.L.Layout.format k c.args.task.now old new own c.in-Change.kind c.in-Change.database c.in-Change.named c.deref.result.now
-            c.in-Change.is c.deref.ensures.value (c.change_by_paths.ensures.over clean) (c.change_by_paths.ensures.leaves clean);
-        reaches = change_reaches (telling (g.P.Paths.tells c.args.paths.now) (g.P.Paths.stands c.args.paths.now) (g.P.Paths.lists c.args.paths.now)) c.args.task.now c.in-Change.kind c.in-Change.database c.in-Change.named c.deref.result.now c.change_by_paths.result c.in-Change.is c.deref.ensures.value c.change_by_paths.ensures.reaches;
+            changed_task_over at g.L.Layout.format k c.args.task.now old new own c.in-Change.kind c.in-Change.database c.in-Change.named c.deref.result.now
+            c.in-Change.is c.deref.ensures.value (c.change_by_paths.ensures.changes clean);
+        reaches = change_reaches at c.args.task.now c.in-Change.kind c.in-Change.database c.in-Change.named c.deref.result.now c.change_by_paths.result c.in-Change.is c.deref.ensures.value c.change_by_paths.ensures.reaches;
       },
     )
 
 pub returns-in-Analyse-clause-done : goal.returns-in-Analyse-clause-done
 returns-in-Analyse-clause-done g c =
     let told = g.P.Paths.tells c.args.paths.now in
+    let at = telling told (g.P.Paths.stands c.args.paths.now) (g.P.Paths.lists c.args.paths.now) in
     let k = conditions (version_of g.L.Layout.format) c.args.session.now.profile c.args.session.now.limits in
     let held = state g.S.Store c.args.session.now.connection in
     let done = c.analyse_paths.ensures.over in (
@@ -56,10 +59,10 @@ returns-in-Analyse-clause-done g c =
       record {
         serves = λ clean.
             analysed_task told k c.args.task.now held held done.0 c.in-Analyse.named c.deref-in-Analyse.result.now c.in-Analyse.is c.deref-in-Analyse.ensures.value
-            (λ files known. analysed_files k told _ files known held done.0 done.2);
+            (λ files known. analysed_files k at _ files known held done.0 done.2);
         over = λ clean.
-            analysed_task_over told g.L.Layout.format k c.args.task.now held held done.0 c.in-Analyse.named c.deref-in-Analyse.result.now c.in-Analyse.is c.deref-in-Analyse.ensures.value done.2 refl;
-        reaches = replied_reaches (telling (g.P.Paths.tells c.args.paths.now) (g.P.Paths.stands c.args.paths.now) (g.P.Paths.lists c.args.paths.now)) (ReadsWhole c.args.task.now) (paths_of c.args.task.now) c.analyse_paths.result done.0 done.1 (analysis_reaches (telling (g.P.Paths.tells c.args.paths.now) (g.P.Paths.stands c.args.paths.now) (g.P.Paths.lists c.args.paths.now)) c.args.task.now c.in-Analyse.named c.deref-in-Analyse.result.now c.analyse_paths.result c.in-Analyse.is c.deref-in-Analyse.ensures.value c.analyse_paths.ensures.reaches);
+            analysed_task_over at g.L.Layout.format k c.args.task.now held held done.0 c.in-Analyse.named c.deref-in-Analyse.result.now c.in-Analyse.is c.deref-in-Analyse.ensures.value done.2 refl;
+        reaches = replied_reaches at (ReadsWhole c.args.task.now) (paths_of c.args.task.now) c.analyse_paths.result done.0 done.1 (analysis_reaches at c.args.task.now c.in-Analyse.named c.deref-in-Analyse.result.now c.analyse_paths.result c.in-Analyse.is c.deref-in-Analyse.ensures.value c.analyse_paths.ensures.reaches);
       },
     )
 

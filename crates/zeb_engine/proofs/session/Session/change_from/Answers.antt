@@ -1,4 +1,4 @@
-use Rattle.zeb_engine.proofs.Cited.{◌≡◌, ◌∙◌, Err, OnOk, refl, rules, arith, subst, state, HasCleanDisk, conditions, name_bytes, splits_of, Work, Costs, no_work, ElderOver, EldersOver, LeavesRows, LosesNamedOver, ReasonsOver, NeverUnready, version_of, changed_by_files, turned}
+use Rattle.zeb_engine.proofs.Cited.{◌≡◌, ◌∙◌, Err, OnOk, refl, rules, arith, subst₂, state, Database, HasCleanDisk, conditions, name_bytes, splits_of, Work, Costs, no_work, ElderOver, EldersOver, LeavesRows, LosesNamedOver, ReasonsOver, NeverUnready, version_of, changed_by_files, turned}
 use Rattle.zeb_engine.proofs.CommandsDone.{faulty_done}
 use Rattle.zeb_engine.proofs.CommitCrashes.{survives_after}
 use Rattle.zeb_engine.proofs.Readers.{named_or_none}
@@ -13,7 +13,7 @@ pub returns-in_err-check_readers-clause-done : goal.returns-in_err-check_readers
 returns-in_err-check_readers-clause-done g c =
     let told : c.from_residual.result ≡ Err c.in_err-check_readers.field-0.0 = search rules in
     let fresh : c.default-self.result ≡ no_work = search rules in
-    rw told (faulty_done g.S.Store g.R.Source.remaining g.R.Source.may_fail g.R.Source.has_failed g.L.Layout.row_work (conditions (version_of g.L.Layout.format) c.args.self.now.profile c.args.self.now.limits) c.args.kind (name_bytes c.args.database.now) c.args.self.now.connection c.args.readers.now c.in_err-check_readers.field-0.0 c.in_err-check_readers.ensures.named c.default-self.result fresh (search rules))
+    rw told (faulty_done g.S.Store g.R.Source.remaining g.R.Source.may_fail g.R.Source.has_failed g.L.Layout.format g.L.Layout.row_work (conditions (version_of g.L.Layout.format) c.args.self.now.profile c.args.self.now.limits) c.args.kind (name_bytes c.args.database.now) c.args.self.now.connection c.args.readers.now c.in_err-check_readers.field-0.0 c.in_err-check_readers.ensures.named c.default-self.result fresh (search rules))
 
 pub returns-in_err-check_ready-clause-done : goal.returns-in_err-check_ready-clause-done
 returns-in_err-check_ready-clause-done g c =
@@ -71,7 +71,9 @@ returns-clause-done g c =
       counts = record {
         costs = λ clean texts told. on_ok answer _ _ (λ works before keeps.
             let at = held_behind looked end first held.limits clean before keeps in
-            subst (λ (work : Work). Costs g.L.Layout.row_work k c.args.kind name texts work c.change_database.new.work before) fresh (works before at.2.1 (at.0, at.1) at.3)) (law.costs _ _ _ mid _ new clean answer did.transacts sound texts told);
+            let same = (looked.reads.same (first clean) at.2.1).1 in
+            subst₂ (λ (work : Work) (shown : Database). Costs g.L.Layout.format g.L.Layout.row_work k c.args.kind name texts work c.change_database.new.work shown.trees new.now.trees before) fresh same
+            (works before at.2.1 (at.0, at.1) at.3)) (law.costs _ _ _ mid _ new clean answer did.transacts sound texts told);
         none = λ none. did.no_work none ∙ fresh;
       };
     }

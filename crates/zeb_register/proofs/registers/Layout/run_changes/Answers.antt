@@ -1,4 +1,4 @@
-use Rattle.zeb_register.proofs.Cited.{Database, state, HasCleanDisk, ◌≡◌, ◌∙◌, ◌+◌, suc, Ok, Err, [], ◌∷◌, ap, arith, drop, drop-cons, refl, rules, subst, sym, all-get_or}
+use Rattle.zeb_register.proofs.Cited.{Database, state, HasCleanDisk, blocks_tree, ◌≡◌, ◌∙◌, ◌+◌, suc, Ok, Err, [], ◌∷◌, ap, arith, drop, drop-cons, refl, rules, subst, sym, all-get_or}
 use Rattle.zeb_register.proofs.Answered.{fault_met, refused_so}
 use Rattle.zeb_register.proofs.Calls.{goes_keeps, goes_then, on_err, reads_goes, store_same}
 use Rattle.zeb_register.proofs.CallsInTurn.{quiet_then}
@@ -19,7 +19,8 @@ loop-one-init g c =
       store = λ clean inside store. store_same first second (c.in_ok-nothing_inside.ensures.call.ok clean inside).now_is store;
       leads = λ clean inside store end result answers.
           subst (λ (d : Database). Answered g.Self.Layout.format c.args.db.0 c.args.run.now d.trees end result) (c.in_ok-nothing_inside.ensures.call.ok clean inside).now_is answers;
-      work = work_begun g.Self.Layout.row_work c.args.run.now c.args.work.now;
+      work = λ clean inside store.
+          work_begun g.Self.Layout.format g.Self.Layout.row_work c.args.run.now first.now.trees second.now.trees c.args.work.now (ap (λ (d : Database). d.trees blocks_tree) (c.in_ok-nothing_inside.ensures.call.ok clean inside).now_is);
       no_work = λ none. refl;
     }
 
@@ -59,7 +60,10 @@ loop-one-preserved g c =
           let rest = subst (λ n. Answered format db (drop n xs) last.now.trees end result) (sym more) answers in
           so_far.leads was inside store end result (subst (λ l. Answered format db l mid.now.trees end result) (sym is)
           (one_more format db x (drop (suc i) xs) (rise_left i xs x (drop (suc i) xs) is c.requires.rising.keys) mid.now.trees last.now.trees end result put rest));
-      work = work_more g.Self.Layout.row_work xs i x c.args.work.now c.loop-one.work c.key_changes.new.work is c.counts_are_numbers.ensures so_far.work it.work;
+      work = λ clean inside store.
+          let was : HasCleanDisk mid = omega (arith, c.key_changes.ensures.call.crash.clean) in
+          work_more format g.Self.Layout.row_work xs i x first.now.trees mid.now.trees last.now.trees c.args.work.now c.loop-one.work c.key_changes.new.work is c.counts_are_numbers.ensures (so_far.work was inside store)
+          (it.work clean (so_far.on was inside).mode (so_far.store was inside store));
       no_work = λ none. c.key_changes.ensures.no_work none ∙ so_far.no_work none;
     }
 
@@ -75,8 +79,12 @@ returns-clause-units g c clean inside store =
     )
 
 pub returns-clause-work : goal.returns-clause-work
-returns-clause-work g c =
-    work_all g.Self.Layout.row_work c.args.run.now c.loop-one.one-index c.args.work.now c.loop-one.work (none_run c.loop-one.one-index c.args.run.now c.loop-one-test.false) c.loop-one.invariant.work
+returns-clause-work g c clean inside store =
+    let first = state g.S.Store c.args.tx.now.conn.now in
+    let now = state g.S.Store c.loop-one.tx.conn.now in
+    let xs = c.args.run.now in
+    let i = c.loop-one.one-index in
+    work_all g.Self.Layout.format g.Self.Layout.row_work xs i first.now.trees now.now.trees c.args.work.now c.loop-one.work (none_run i xs c.loop-one-test.false) (c.loop-one.invariant.work clean inside store)
 
 pub returns-in_err-key_changes-clause-units : goal.returns-in_err-key_changes-clause-units
 returns-in_err-key_changes-clause-units g c clean inside store =

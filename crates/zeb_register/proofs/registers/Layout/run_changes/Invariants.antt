@@ -1,6 +1,7 @@
 use Rattle.zeb_register.proofs.Cited.{state, HasCleanDisk, Survives, ◌≡◌, IsTrue, GoesOn, IsStore}
 use Rattle.zeb_register.proofs.RunTurns.{LeadsOn}
 use Rattle.zeb_register.proofs.RunCounts.{WorksSoFar}
+use Rattle.zeb_register.specs.Tallies.{CountsNothing}
 use Rattle.zeb_register.proofs.registers.Layout.run_changes.Given as goal
 
 abbrev pub invariant-loop-one : goal.invariant-loop-one
@@ -13,6 +14,6 @@ invariant-loop-one g l =
       on : HasCleanDisk now → IsTrue old.in_transaction → GoesOn old now;
       store : HasCleanDisk now → IsTrue old.in_transaction → IsStore old → IsStore now;
       leads : HasCleanDisk now → IsTrue old.in_transaction → IsStore old → LeadsOn g.Self.Layout.format l.db.0 l.run l.one-index old.now.trees now.now.trees;
-      work : WorksSoFar g.Self.Layout.row_work l.run l.one-index l.fn.work l.work;
-      no_work : g.Self.Layout.row_work ≡ 0 → l.work ≡ l.fn.work;
+      work : HasCleanDisk now → IsTrue old.in_transaction → IsStore old → WorksSoFar g.Self.Layout.format g.Self.Layout.row_work l.run l.one-index old.now.trees now.now.trees l.fn.work l.work;
+      no_work : CountsNothing g.Self.Layout.format g.Self.Layout.row_work → l.work ≡ l.fn.work;
     }

@@ -1,0 +1,79 @@
+-- Each entry is counted, or passed over, or there are enough before it.
+use Rattle.zeb_leaves.proofs.Cited.{◌++◌, ◌∷◌, [], ℕ, List, true, false, sym, refl, subst, rules, filter}
+use Rattle.std.proofs.Common.{Bool}
+use Rattle.std.specs.Prelude.{IsUtf8}
+use Rattle.std.specs.Option.{option_map}
+use Rattle.zeb_leaf.proofs.Numbers.{step_shorter}
+use Rattle.zeb_leaf.proofs.Walked.{reaches_first, reaches_more}
+use Rattle.zeb_leaf.specs.Answers.{entry_of}
+use Rattle.zeb_leaf.specs.declared.spans.BlockKey.{BlockKey}
+use Rattle.zeb_leaves.proofs.WalkedRows.{counted_more, enough_more, stuck_none, walked_all}
+use Rattle.zeb_leaves.specs.PrivateNearTerms.{CountUntil}
+use Rattle.zeb_leaves.specs.PrivateTermReads.{is_own}
+use Rattle.zeb_register.proofs.Answered.{refused_so}
+use Rattle.zeb_leaves.proofs.until_enough.bytes_until.Goals as goal
+
+pub loop-reader-init : goal.loop-reader-init
+loop-reader-init c = ([], rw c.new-reader.ensures (reaches_first c.args.bytes.now), (refl, refl))
+
+pub returns-in_err-held : goal.returns-in_err-held
+returns-in_err-held c = refused_so _ _ c.from_residual.result c.in_err-held.field-0.0 (search rules) (
+  c.in_err-held.ensures.0,
+  λ told. stuck_none c.args.bytes.now c.loop-reader.invariant.0 c.loop-reader.reader c.loop-reader.invariant.1 (c.in_err-held.ensures.1 told),
+)
+
+-- the term of an entry of a leaf is text
+pub returns-in_err-enough : goal.returns-in_err-enough
+returns-in_err-enough c =
+    let step = rw c.in-Some.is at c.in_ok-held.ensures in
+    refused_so _ _ c.from_residual-in_err-enough.result c.in_err-enough.field-0.0 (search rules) (
+      c.in_err-enough.ensures.0,
+      λ told. absurd (c.in_err-enough.ensures.1 told (subst IsUtf8 (sym c.term.ensures) step.follows.sound.text)),
+    )
+
+pub loop-reader-smaller-then-not-enough : goal.loop-reader-smaller-then-not-enough
+loop-reader-smaller-then-not-enough c =
+    let step = rw c.in-Some.is at c.in_ok-held.ensures in
+    step_shorter c.loop-reader.reader c.next_entry.new.reader _ step
+
+pub loop-reader-preserved-then-not-enough : goal.loop-reader-preserved-then-not-enough
+loop-reader-preserved-then-not-enough c =
+    let step = rw c.in-Some.is at c.in_ok-held.ensures in
+    let done = c.loop-reader.invariant.0 in
+    let e = entry_of c.next_entry.new.reader.place.term c.in-Some.held in
+    let test = is_own c.args.from.term.now c.args.from.block (option_map (λ (k : BlockKey). (k.term.now, k.block)) c.args.end) in
+    let old = c.args.counts.now.items in
+    let mid = c.loop-reader.counts.items in
+    let new = c.own_until.new.counts.items in
+    let enough = c.in_ok-enough.enough in
+    let counts = subst (λ (b : Bool). CountUntil c.args.n (filter test done) old mid b) c.if-not-enough.true c.loop-reader.invariant.2 in
+    let next = subst (λ (t : List ℕ). CountUntil c.args.n (filter test (entry_of t c.in-Some.held ∷ [])) mid new enough) c.term.ensures c.in_ok-enough.ensures in (
+      done ++ e ∷ [],
+      reaches_more c.args.bytes.now done c.loop-reader.reader c.next_entry.new.reader e c.loop-reader.invariant.1 step,
+      counted_more c.args.n test done e old mid new enough counts next,
+    )
+
+pub loop-reader-smaller : goal.loop-reader-smaller
+loop-reader-smaller c =
+    let step = rw c.in-Some.is at c.in_ok-held.ensures in
+    step_shorter c.loop-reader.reader c.next_entry.new.reader _ step
+
+pub loop-reader-preserved : goal.loop-reader-preserved
+loop-reader-preserved c =
+    let step = rw c.in-Some.is at c.in_ok-held.ensures in
+    let done = c.loop-reader.invariant.0 in
+    let e = entry_of c.next_entry.new.reader.place.term c.in-Some.held in
+    let test = is_own c.args.from.term.now c.args.from.block (option_map (λ (k : BlockKey). (k.term.now, k.block)) c.args.end) in
+    let old = c.args.counts.now.items in
+    let mid = c.loop-reader.counts.items in
+    let enough = subst (λ (b : Bool). CountUntil c.args.n (filter test done) old mid b) c.if-not-enough.false c.loop-reader.invariant.2 in (
+      done ++ e ∷ [],
+      reaches_more c.args.bytes.now done c.loop-reader.reader c.next_entry.new.reader e c.loop-reader.invariant.1 step,
+      subst (λ (b : Bool). CountUntil c.args.n (filter test (done ++ e ∷ [])) old mid b) (sym c.if-not-enough.false) (enough_more c.args.n test done e old mid enough),
+    )
+
+pub returns : goal.returns
+returns c =
+    let ended = rw c.in_default.is at c.in_ok-held.ensures in
+    let done = c.loop-reader.invariant.0 in
+    (done, walked_all c.args.bytes.now done c.loop-reader.reader c.loop-reader.invariant.1 ended.0, c.loop-reader.invariant.2)

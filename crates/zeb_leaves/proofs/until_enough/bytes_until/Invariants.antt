@@ -1,0 +1,14 @@
+-- The entries that were walked over so far, and how those that are own were counted.
+use Rattle.zeb_leaves.proofs.Cited.{List, Entry, filter, length}
+use Rattle.std.specs.Option.{option_map}
+use Rattle.zeb_leaf.proofs.Walked.{Reaches}
+use Rattle.zeb_leaf.specs.declared.spans.BlockKey.{BlockKey}
+use Rattle.zeb_leaves.specs.PrivateNearTerms.{CountUntil}
+use Rattle.zeb_leaves.specs.PrivateTermReads.{is_own}
+use Rattle.zeb_leaves.proofs.until_enough.bytes_until.Given as goal
+
+abbrev pub invariant-loop-reader : goal.invariant-loop-reader
+invariant-loop-reader l = (done : List Entry) × Reaches l.bytes done l.reader × CountUntil l.n (filter (is_own l.from.term.now l.from.block (option_map (λ (k : BlockKey). (k.term.now, k.block)) l.end)) done) l.fn.counts.items l.counts.items l.enough
+
+abbrev pub decreases-loop-reader : goal.decreases-loop-reader
+decreases-loop-reader l = length l.reader.left

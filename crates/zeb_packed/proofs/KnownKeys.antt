@@ -1,0 +1,42 @@
+-- A key that is changed behind a look at its count, told of the tables before the look.
+use Rattle.zeb_packed.proofs.Cited.{packed_blocks, ◌≡◌, ◌≢◌, ℕ, ℤ, Result, Ok, Err, List, [], ◌∷◌, inl, inr, refl, sym, ap, subst, Database, State, Trees, Key, RegFault, Damaged, RecordChange, AllByRecursion, IsStorableChange, OnOk, Answers, CountsAs, IsRefusedAs, IsStore, PutsUnits}
+use Rattle.zeb_packed.specs.PrivateNewRows.{AreBehind, BeginsKey, TurnsKey}
+use Rattle.zeb_packed.specs.declared.new_rows.NewRows.{NewRows}
+
+abbrev Changed : ℤ → Key → List RecordChange → Trees → State → Result (Unit {0}) RegFault → Type 0
+Changed db key changes trees new = Answers (IsRefusedAs packed_blocks db key changes trees) (λ done. IsStore new × PutsUnits packed_blocks db key changes trees new.now.trees)
+
+pub known_answers : (db : ℤ) (key : Key) (changes : List RecordChange) (records : ℕ) (old mid new : State) (result : Result (Unit {0}) RegFault) → mid.now ≡ old.now → CountsAs old.now.trees db key records
+    → (CountsAs mid.now.trees db key records → Changed db key changes mid.now.trees new result) → Changed db key changes old.now.trees new result
+known_answers db key changes records old mid new result same counts answers =
+    subst (λ (d : Database). Changed db key changes d.trees new result) same (answers (subst (λ (d : Database). CountsAs d.trees db key records) (sym same) counts))
+
+abbrev Turned : ℤ → Key → List RecordChange → Trees → State → (before after : NewRows) → Result (Unit {0}) RegFault → Type 0
+Turned db key changes trees new before after = Answers (IsRefusedAs packed_blocks db key changes trees) (λ done. IsStore new × TurnsKey db key changes trees new.now.trees before after)
+
+pub known_turns : (db : ℤ) (key : Key) (changes : List RecordChange) (records : ℕ) (old mid new : State) (before after : NewRows) (result : Result (Unit {0}) RegFault) → mid.now ≡ old.now → CountsAs old.now.trees db key records
+    → (CountsAs mid.now.trees db key records → Turned db key changes mid.now.trees new before after result) → Turned db key changes old.now.trees new before after result
+known_turns db key changes records old mid new before after result same counts answers =
+    subst (λ (d : Database). Turned db key changes d.trees new before after result) same (answers (subst (λ (d : Database). CountsAs d.trees db key records) (sym same) counts))
+
+-- a key that was changed at once
+pub changed_turns : (db : ℤ) (key : Key) (changes : List RecordChange) (trees : Trees) (new : State) (before after : NewRows) (result : Result (Unit {0}) RegFault) → changes ≢ [] → after ≡ before → Changed db key changes trees new result → Turned db key changes trees new before after result
+changed_turns db key [] trees new before after result some same answers = absurd (some refl)
+changed_turns db key (change ∷ changes) trees new before after (Ok done) some same answers = (answers.0, inl (answers.1, same))
+changed_turns db key (change ∷ changes) trees new before after (Err fault) some same answers = answers
+
+-- a key whose rows are held
+pub held_turns : (db : ℤ) (key : Key) (changes : List RecordChange) (old new : State) (made before after : NewRows) → changes ≢ [] → new.now ≡ old.now → IsStore new → CountsAs old.now.trees db key 0 → BeginsKey key changes made → AreBehind before made after
+    → IsStore new × TurnsKey db key changes old.now.trees new.now.trees before after
+held_turns db key [] old new made before after some same store counts begun behind = absurd (some refl)
+held_turns db key (change ∷ changes) old new made before after some same store counts begun behind = (store, inr (made, begun, counts, behind, ap (λ (d : Database). d.trees) same))
+
+-- what holding them answers
+pub hold_answers : (db : ℤ) (key : Key) (changes : List RecordChange) (s : State) (made before after : NewRows) (result : Result (Unit {0}) RegFault) → changes ≢ [] → AllByRecursion IsStorableChange changes → IsStore s → CountsAs s.now.trees db key 0 → BeginsKey key changes made
+    → OnOk result (AreBehind before made after) → result ≢ Err Damaged → Turned db key changes s.now.trees s before after result
+hold_answers db key changes s made before after (Ok done) some stored store counts begun behind honest = held_turns db key changes s s made before after some refl store counts begun behind
+hold_answers db key changes s made before after (Err fault) some stored store counts begun behind honest = (λ none. absurd (none stored), λ told. absurd (honest (ap Err told)))
+
+pub always_ok : {A E : Type 0} (r : Result A E) (P : Type 0) → P → OnOk r P
+always_ok (Ok a) P p = p
+always_ok (Err e) P p = tt

@@ -1,0 +1,214 @@
+//! Held rows that are put: those of blocks many at once, and then those of `dict`.
+
+ghost use Rattle.std.specs.Prelude.{◌≡◌, ◌≢◌, ◌≤◌, [], ◌∷◌, length, map, IfOk, IsTrue};
+ghost use Rattle.sqlite.specs.Held.{state};
+ghost use Rattle.sqlite.specs.State.{HasCleanDisk, KeepsCommit, Survives};
+ghost use Rattle.zeb_packed.specs.PrivateNewRows.{AreApart, GainsAll, GoesOnOpen, PutsBlocks, PutsFront, PutsHeld, SomeStands, new_count_row};
+ghost use Rattle.zeb_register.specs.Calls.{GoesOn, Inside, OnlyReads};
+ghost use Rattle.zeb_register.specs.Clauses.{ChangesTable, InStore, Writes};
+ghost use Rattle.zeb_register.specs.PrivateRowStatements.{Gains};
+ghost use Rattle.zeb_register.specs.Store.{dict_tree};
+ghost use Rattle.zeb_register.specs.UnitChanges.{LacksBlock};
+
+use crate::new_rows::{NewBlock, NewCount, NewRows};
+use crate::packed_changes::{block_absent, breaks_rule};
+use crate::statements::many::{MANY, block_values, blocks_add};
+use crate::statements::packed_changes::{block_add, dict_add};
+use sqlite::{Alter, Error, Transaction};
+use std::alloc::Global;
+use zeb_register::for_layouts::{KeyOf, stored};
+use zeb_register::{DatabaseId, RegFault};
+
+/// `Damaged` where the block has a row.
+fn one_absent<S: Alter>(
+    tx: &mut Transaction<'_, S>,
+    db: DatabaseId,
+    one: &NewBlock<'_>,
+) -> Result<(), RegFault>
+    ensures same { tx.new.conn.ghost_name ≡ tx.old.conn.ghost_name }
+    ensures call { Inside (state S.Store tx.old.conn.now) (state S.Store tx.new.conn.now) result
+        (λ _. OnlyReads) }
+    ensures honest { InStore (state S.Store tx.old.conn.now) (state S.Store tx.new.conn.now)
+        (λ trees. result ≡ Err RegFault.Damaged
+        → ¬ LacksBlock db.0 one.now.key.now one.now.block trees) }
+{
+    let number = stored(one.block)?;
+    block_absent(tx, KeyOf { db, key: one.key }, number)
+}
+
+/// `Damaged` where one of the blocks has a row.
+fn all_absent<S: Alter>(
+    tx: &mut Transaction<'_, S>,
+    db: DatabaseId,
+    blocks: &[NewBlock<'_>],
+) -> Result<(), RegFault>
+    ensures same { tx.new.conn.ghost_name ≡ tx.old.conn.ghost_name }
+    ensures keeps { HasCleanDisk (state S.Store tx.new.conn.now)
+        → IsTrue (state S.Store tx.old.conn.now).in_transaction
+        → KeepsCommit (state S.Store tx.old.conn.now) (state S.Store tx.new.conn.now) }
+    ensures crash { Survives (state S.Store tx.old.conn.now) (state S.Store tx.new.conn.now)
+        (λ _. ⊥) }
+    ensures honest { InStore (state S.Store tx.old.conn.now) (state S.Store tx.new.conn.now)
+        (λ trees. result ≡ Err RegFault.Damaged → SomeStands db.0 blocks.now trees) }
+{
+    for one in blocks {
+        one_absent(tx, db, one)?;
+    }
+    Ok(())
+}
+
+/// Puts many rows of blocks by one statement. `Damaged` where one of the blocks has a row.
+fn many_put<S: Alter>(
+    alloc: Global,
+    tx: &mut Transaction<'_, S>,
+    db: DatabaseId,
+    blocks: &[NewBlock<'_>],
+) -> Result<(), RegFault>
+    requires { length blocks.now ≡ 16 }
+    ensures same { tx.new.conn.ghost_name ≡ tx.old.conn.ghost_name }
+    ensures call { Inside (state S.Store tx.old.conn.now) (state S.Store tx.new.conn.now) result
+        (λ _. GoesOn) }
+    ensures put { PutsBlocks db.0 blocks.now (state S.Store tx.old.conn.now)
+        (state S.Store tx.new.conn.now) result }
+{
+    let values = block_values(alloc, db, blocks)?;
+    match blocks_add(tx, &values) {
+        Ok(_) => Ok(()),
+        Err(error) => {
+            if !breaks_rule(&error) {
+                return Err(error.into());
+            }
+            all_absent(tx, db, blocks)?;
+            Err(error.into())
+        }
+    }
+}
+
+/// Puts the row of a block. `Damaged` where the block has one.
+fn one_put<S: Alter>(
+    tx: &mut Transaction<'_, S>,
+    db: DatabaseId,
+    one: &NewBlock<'_>,
+) -> Result<(), RegFault>
+    ensures same { tx.new.conn.ghost_name ≡ tx.old.conn.ghost_name }
+    ensures call { Inside (state S.Store tx.old.conn.now) (state S.Store tx.new.conn.now) result
+        (λ _. GoesOn) }
+    ensures put { PutsBlocks db.0 (one.now ∷ []) (state S.Store tx.old.conn.now)
+        (state S.Store tx.new.conn.now) result }
+{
+    let number = stored(one.block)?;
+    let at = KeyOf { db, key: one.key };
+    match block_add(tx, at, number, &one.bytes) {
+        Ok(_) => Ok(()),
+        Err(error) => {
+            if !breaks_rule(&error) {
+                return Err(error.into());
+            }
+            one_absent(tx, db, one)?;
+            Err(error.into())
+        }
+    }
+}
+
+/// Puts the first rows: many where there are so many, and else one. Returns how many these are.
+fn front_put<S: Alter>(
+    alloc: Global,
+    tx: &mut Transaction<'_, S>,
+    db: DatabaseId,
+    blocks: &[NewBlock<'_>],
+) -> Result<usize, RegFault>
+    requires { blocks.now ≢ [] }
+    ensures same { tx.new.conn.ghost_name ≡ tx.old.conn.ghost_name }
+    ensures call { Inside (state S.Store tx.old.conn.now) (state S.Store tx.new.conn.now) result
+        (λ _. GoesOn) }
+    ensures put { PutsFront db.0 blocks.now (state S.Store tx.old.conn.now)
+        (state S.Store tx.new.conn.now) result }
+    ensures further { IfOk result (λ count. (1 ≤ count) × (count ≤ length blocks.now)) }
+{
+    if blocks.len() < MANY {
+        one_put(tx, db, &blocks[0])?;
+        return Ok(1);
+    }
+    many_put(alloc, tx, db, &blocks[..MANY])?;
+    Ok(MANY)
+}
+
+/// Puts the rows of blocks, which are of different keys or blocks. `Damaged` where one of the blocks has a row.
+fn blocks_put<S: Alter>(
+    alloc: Global,
+    tx: &mut Transaction<'_, S>,
+    db: DatabaseId,
+    blocks: &[NewBlock<'_>],
+) -> Result<(), RegFault>
+    ensures same { tx.new.conn.ghost_name ≡ tx.old.conn.ghost_name }
+    ensures call { GoesOnOpen (state S.Store tx.old.conn.now) (state S.Store tx.new.conn.now)
+        result }
+    ensures crash { Survives (state S.Store tx.old.conn.now) (state S.Store tx.new.conn.now)
+        (λ _. ⊥) }
+    ensures put { IsTrue (state S.Store tx.old.conn.now).is_open → AreApart blocks.now
+        → PutsBlocks db.0 blocks.now (state S.Store tx.old.conn.now)
+        (state S.Store tx.new.conn.now) result }
+{
+    let mut done = 0;
+    while done < blocks.len() {
+        done += front_put(alloc, tx, db, &blocks[done..])?;
+    }
+    Ok(())
+}
+
+/// Puts the row of a key in `dict`. It is refused where the key has one.
+fn count_put<S: Alter>(
+    tx: &mut Transaction<'_, S>,
+    db: DatabaseId,
+    one: &NewCount<'_>,
+) -> Result<(), RegFault>
+    ensures same { tx.new.conn.ghost_name ≡ tx.old.conn.ghost_name }
+    ensures call { Writes dict_tree (Gains (new_count_row db.0 one.now))
+        (state S.Store tx.old.conn.now) (state S.Store tx.new.conn.now) result }
+    ensures honest { result ≢ Err RegFault.Damaged }
+{
+    let number = stored(one.records)?;
+    dict_add(tx, KeyOf { db, key: one.key }, number)?;
+    Ok(())
+}
+
+/// Puts the rows of keys in `dict`. It is refused where a key has one.
+fn counts_put<S: Alter>(
+    tx: &mut Transaction<'_, S>,
+    db: DatabaseId,
+    counts: &[NewCount<'_>],
+) -> Result<(), RegFault>
+    ensures same { tx.new.conn.ghost_name ≡ tx.old.conn.ghost_name }
+    ensures call { GoesOnOpen (state S.Store tx.old.conn.now) (state S.Store tx.new.conn.now)
+        result }
+    ensures crash { Survives (state S.Store tx.old.conn.now) (state S.Store tx.new.conn.now)
+        (λ _. ⊥) }
+    ensures put { IsTrue (state S.Store tx.old.conn.now).is_open → ChangesTable dict_tree
+        (state S.Store tx.old.conn.now) (state S.Store tx.new.conn.now) result
+        (λ _. GainsAll (map (new_count_row db.0) counts.now)) }
+    ensures honest { result ≢ Err RegFault.Damaged }
+{
+    for one in counts {
+        count_put(tx, db, one)?;
+    }
+    Ok(())
+}
+
+/// Puts the held rows. `Damaged` where one of the blocks has a row.
+pub(crate) fn held_put<S: Alter>(
+    alloc: Global,
+    tx: &mut Transaction<'_, S>,
+    db: DatabaseId,
+    held: &NewRows<'_>,
+) -> Result<(), RegFault>
+    ensures same { tx.new.conn.ghost_name ≡ tx.old.conn.ghost_name }
+    ensures call { GoesOnOpen (state S.Store tx.old.conn.now) (state S.Store tx.new.conn.now)
+        result }
+    ensures crash { Survives (state S.Store tx.old.conn.now) (state S.Store tx.new.conn.now)
+        (λ _. ⊥) }
+    ensures put { PutsHeld db.0 held.now (state S.Store tx.old.conn.now)
+        (state S.Store tx.new.conn.now) result }
+{
+    blocks_put(alloc, tx, db, &held.blocks)?;
+    counts_put(tx, db, &held.counts)
+}

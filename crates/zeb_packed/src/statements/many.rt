@@ -1,0 +1,79 @@
+//! Statements that put many rows at once, and the values that they put.
+
+ghost use Rattle.std.specs.Prelude.{◌≡◌, ◌≢◌, ◌++◌, List, map, IfOk, OnOk};
+ghost use Rattle.sqlite.specs.Held.{state};
+ghost use Rattle.sqlite.specs.Values.{bound};
+ghost use Rattle.zeb_packed.specs.PrivateNewRows.{AreBlockValues, AreLacking, GainsAll, joined, new_block_row};
+ghost use Rattle.zeb_register.specs.Calls.{GoesOn, Inside};
+ghost use Rattle.zeb_register.specs.Clauses.{ChangesTable, InStore};
+ghost use Rattle.zeb_register.specs.PrivateRowStatements.{IsUnchangedByViolation};
+ghost use Rattle.zeb_register.specs.Store.{blocks_tree};
+
+use crate::new_rows::NewBlock;
+use sqlite::types::ValueRef;
+use sqlite::{Alter, Error, Transaction, params};
+use std::alloc::Global;
+use zeb_register::for_layouts::stored;
+use zeb_register::{DatabaseId, RegFault};
+
+/// So many rows are put at once.
+pub(crate) const MANY: usize = 16;
+
+/// Puts as many rows.
+const ADD_BLOCKS: &str =
+    "INSERT INTO blocks VALUES (?, ?, ?, ?, ?, ?), (?, ?, ?, ?, ?, ?), (?, ?, ?, ?, ?, ?), (?, ?, ?, ?, ?, ?), (?, ?, ?, ?, ?, ?), (?, ?, ?, ?, ?, ?), (?, ?, ?, ?, ?, ?), (?, ?, ?, ?, ?, ?), (?, ?, ?, ?, ?, ?), (?, ?, ?, ?, ?, ?), (?, ?, ?, ?, ?, ?), (?, ?, ?, ?, ?, ?), (?, ?, ?, ?, ?, ?), (?, ?, ?, ?, ?, ?), (?, ?, ?, ?, ?, ?), (?, ?, ?, ?, ?, ?)";
+
+/// Puts as many rows of `blocks` at once, whose values these are. It is refused where one of the keys has a row for its block.
+pub(crate) fn blocks_add<S: Alter>(
+    tx: &mut Transaction<'_, S>,
+    values: &[ValueRef<'_>],
+) -> Result<usize, Error>
+    ensures same { tx.new.conn.ghost_name ≡ tx.old.conn.ghost_name }
+    ensures call { Inside (state S.Store tx.old.conn.now) (state S.Store tx.new.conn.now) result
+        (λ _. GoesOn) }
+    ensures put { (db : _) (blocks : List _) → AreBlockValues db blocks (bound values.now)
+        → ChangesTable blocks_tree (state S.Store tx.old.conn.now) (state S.Store tx.new.conn.now)
+        result (λ _. GainsAll (map (new_block_row db) blocks)) }
+    ensures lacking { (db : _) (blocks : List _) → AreBlockValues db blocks (bound values.now)
+        → InStore (state S.Store tx.old.conn.now) (state S.Store tx.new.conn.now)
+        (λ trees. OnOk result (AreLacking db blocks trees)) }
+    ensures violated { IsUnchangedByViolation (state S.Store tx.old.conn.now)
+        (state S.Store tx.new.conn.now) result }
+{
+    tx.execute(ADD_BLOCKS, values)
+}
+
+/// The values of rows of `blocks`, one row behind the other.
+pub(crate) fn block_values<'a, 'b>(
+    alloc: Global,
+    db: DatabaseId,
+    blocks: &'a [NewBlock<'b>],
+) -> Result<Vec<ValueRef<'a>>, RegFault>
+    ensures values { IfOk result (λ values.
+        bound values.items ≡ joined (map (new_block_row db.0) blocks.now)) }
+    ensures honest { result ≢ Err RegFault.Damaged }
+{
+    let mut values = Vec::new(alloc);
+    for one in blocks {
+        add_block_values(&mut values, db, one)?;
+    }
+    Ok(values)
+}
+
+/// Puts the values of a row behind those before it.
+fn add_block_values<'a, 'b>(
+    values: &mut Vec<ValueRef<'a>>,
+    db: DatabaseId,
+    one: &'a NewBlock<'b>,
+) -> Result<(), RegFault>
+    ensures added { OnOk result
+        (bound values.new.items ≡ bound values.old.items ++ new_block_row db.0 one.now) }
+    ensures honest { result ≢ Err RegFault.Damaged }
+{
+    let db = db.column();
+    let reg = u32::from(one.key.register.code());
+    let term = one.key.term.as_str();
+    let number = stored(one.block)?;
+    values.extend_from_slice(params![db, one.key.index, reg, term, number, &one.bytes])?;
+    Ok(())
+}

@@ -1,0 +1,13 @@
+use Rattle.std.proofs.Common.{◌≡◌, false, rules}
+use Rattle.zeb_program.specs.FaultLines.{left_line, left_lines}
+use Rattle.zeb_program.proofs.FailureLemmas.{line_so, log_told}
+use Rattle.zeb_program.proofs.failures.tell_left.Goals as goal
+
+pub returns-clause-told : goal.returns-clause-told
+returns-clause-told g c = λ sound.
+    let part : c.args.closed.is_whole ≡ false = search rules in
+    let old = g.W.Write.contents c.args.output.now.writer in
+    let new = g.W.Write.contents c.tell_cause.new.output.writer in
+    log_told c.args.closed.is_whole old new (left_lines c.args.closed.cause) part
+    (line_so left_line c.args.closed.cause c.store_cause.result old (g.W.Write.contents c.write_line.new.self.writer) new c.store_cause.ensures
+    (c.write_line.ensures.bytes (c.tell_cause.ensures.sound sound)) (c.tell_cause.ensures.told sound))
