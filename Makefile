@@ -3,7 +3,7 @@
 # make run        runs the first example with the program, proved and built
 # make quick      the daily check: layout, edits, names, pages, and the proofs of the crates that changed
 # make check      the gate: every proof, every test and the edits of must-fail/, from nothing; some hours of processor time
-# make words      runs the built program by words over folders of files and altered registers, and compares what it writes with rows by hand
+# make words      runs the built program by words over folders and altered registers, installs it and moves to it from Zebra; installs lowdown, yaz, idzebra-2.0
 # make session    runs the session of README.md as it stands there; installs Debian's yaz and idzebra-2.0-examples where they aren't there
 # make real       takes in real records and compares what is found in them with another count; installs the same packages
 # make examples   proves and builds a small caller of the engine as a library
@@ -21,6 +21,8 @@
 PREFIX ?= /usr/local
 # What the program is called where it is installed. Debian's idzebra-2.0-utils has a zebraidx too.
 NAME ?= zebraidx
+# Where the installed pages say that they are: below PREFIX, and in an archive where it is to be unpacked.
+SHOWN ?= $(PREFIX)
 SCRIPT ?= examples/whale.script
 SOURCES := crates.txt $(wildcard crates/*/src/*.rt crates/*/src/*/*.rt crates/*/specs/*.antt crates/*/specs/*/*.antt)
 
@@ -51,7 +53,7 @@ quick:
 
 # tools/gate proves and tries all, by a plan that keeps the processors busy, where the toolchain keeps that; the verdict is that of `rt ci` alone,
 # which takes over what passed there and tries the rest.
-check: export RT_JOBS ?= $(shell nproc)
+check cost: export RT_JOBS ?= $(shell nproc)
 check:
 	tools/quick --texts
 	-tools/gate
@@ -66,6 +68,8 @@ words: bin/zebraidx
 	@tests/words/folders
 	@tests/words/faults
 	@tests/words/nightly
+	@tests/words/install
+	@tests/words/from_zebra
 	@tests/words/front_end
 	@tests/words/one_file
 	@tests/words/leaves
@@ -112,20 +116,27 @@ bench-larger: bin/zebraidx
 	@bench/larger $(RECORDS)
 
 man:
-	@tools/man bin/man
+	@tools/man bin/man $(NAME) $(SHOWN)/share/doc/$(NAME)
 
 DOC = $(DESTDIR)$(PREFIX)/share/doc/$(NAME)
 MAN = $(DESTDIR)$(PREFIX)/share/man
 BASH_COMPLETION = $(DESTDIR)$(PREFIX)/share/bash-completion/completions/$(NAME)
 ZSH_COMPLETION = $(DESTDIR)$(PREFIX)/share/zsh/site-functions/_$(NAME)
 
+# A page as it is installed: the examples stand beside it, and what measures is in the source alone.
+PLACED = sed -E -e 's,/usr/local/share/doc/zebraidx([^-]|$$),$(SHOWN)/share/doc/$(NAME)\1,g' -e 's,\]\(\.\./examples/,](examples/,g' \
+  -e 's,\[([^]]*)\]\(\.\./bench/[^)]*\),`\1` of the source,g'
+
 install: bin/zebraidx man
 	install -D -m 755 bin/zebraidx $(DESTDIR)$(PREFIX)/bin/$(NAME)
-	install -D -m 644 bin/man/zebraidx.1 $(MAN)/man1/$(NAME).1
-	install -D -m 644 bin/man/zebraidx.cfg.5 $(MAN)/man5/$(NAME).cfg.5
-	install -D -m 644 -t $(DOC) docs/MANUAL.md docs/ZEBRA.md LICENSE VERSION
+	install -D -m 644 bin/man/$(NAME).1 $(MAN)/man1/$(NAME).1
+	install -D -m 644 bin/man/$(NAME).cfg.5 $(MAN)/man5/$(NAME).cfg.5
+	install -D -m 644 -t $(DOC) LICENSE VERSION
+	$(PLACED) docs/MANUAL.md >$(DOC)/MANUAL.md
+	$(PLACED) docs/ZEBRA.md >$(DOC)/ZEBRA.md
 	install -D -m 644 -t $(DOC)/examples examples/*.*
 	install -D -m 755 -t $(DOC)/examples examples/nightly examples/sort-records examples/front-end
+	$(PLACED) examples/nightly >$(DOC)/examples/nightly
 	install -d $(dir $(BASH_COMPLETION)) $(dir $(ZSH_COMPLETION))
 	sed 's/^\(complete .*\) zebraidx$$/\1 $(NAME)/' completions/zebraidx.bash >$(BASH_COMPLETION)
 	sed '1s/zebraidx/$(NAME)/' completions/_zebraidx >$(ZSH_COMPLETION)
@@ -135,11 +146,11 @@ uninstall:
 	rm -f $(BASH_COMPLETION) $(ZSH_COMPLETION)
 	rm -rf $(DOC)
 
-# What install puts below PREFIX, in one folder of an archive: `tar -xzf FILE --strip-components=1 -C /usr/local` installs it.
+# What install puts below PREFIX, in one folder of an archive. The manual's section "Installation" unpacks it.
 DIST = zebraidx-$(shell cat VERSION)-$(shell uname -m)
 dist:
 	rm -rf bin/dist
-	$(MAKE) --no-print-directory install DESTDIR=bin/dist PREFIX=/$(DIST)
+	$(MAKE) --no-print-directory install DESTDIR=bin/dist PREFIX=/$(DIST) SHOWN=/usr/local
 	tar -czf bin/$(DIST).tar.gz -C bin/dist $(DIST)
 	rm -rf bin/dist
 

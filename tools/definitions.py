@@ -3,14 +3,16 @@
 
 usage: tools/definitions.py [--write]     prints the page as it has to be, or writes it; tools/quick compares it
 
-The order is that of who begins at the headline, and reads on with what each definition names. A row whose definitions are met so stands in the
-written part, under its file; any other stands in the section of its crate. Rows are moved, so a new one may stand anywhere. Definitions without
-a row are passed through, and their lines are counted. A field of a record is no way to its file: the record's own name is.
+Each definition in a file of specs/ that isn't `Private` has its row by the comment right over it, which is its sentence. One without such a
+comment is a piece of what stands beside it, and has none. Neighbours in a file with short sentences share a row, their sentences in the order of
+their names. Written by hand are only what stands before the written part, and the heads of the sections and what stands right below them.
 
-A row's sentence is the page's own. Behind the rows of a file come those of its other definitions which are met and have a comment of their own:
-each begins with a dot, and that comment is its sentence. The last cell names exported functions and types whose clauses cite one of its definitions. Where only laws
-cite one, or none does, it names a function from whose clauses it is reached, and the definition that names it on the way. Rows of files
-`Private` are left as they are.
+The order is that of who begins at the headline, and reads on with what each definition names: file by file as they are met, each from its first
+line to its last. Definitions that aren't met so stand in the section of their crate. All lines of what is met are counted. A field of a record
+is no way to its file: the record's own name is.
+
+The last cell names exported functions and types whose clauses cite one of a row's definitions. Where only laws cite one, or none does, it names a
+function from whose clauses it is reached, and the definition that names it on the way.
 """
 import collections
 import pathlib
@@ -37,8 +39,8 @@ ALONE = {
 }
 # Whose clauses are all that is said of the program.
 PROGRAM = "zeb_program: run"
-# What the row of a definition begins with whose sentence is its comment.
-PIECE = "· "
+# How long the sentences of neighbours in one row are together at most.
+JOINED = 170
 # What the definitions of a crate say: of the subject, or of this program's own parts.
 SUBJECT = {
     "zeb_query": "which query a text is, and what it asks for: PQF and Bib-1",
@@ -66,53 +68,41 @@ FIRST = ("run", "Session::run_all", "Session::command", "Session::update_from", 
 MOST_NAMED = 3
 # The files of laws and of worked examples.
 LAWS = re.compile(r"(laws|examples|worked)\w*\.rt$")
+HEAD = ("definition", "what it says", "file", "named by")
 BEGIN, END = "<!-- written by tools/definitions.py -->\n", "<!-- to here -->\n"
 
 
-def lines_of(text, known):
-    """The lines of the page, each with the crate and the cells that it has as a row; of any other line these are nothing."""
+def rows(text, known):
+    """The rows of the page: the crate, the definitions, the file of its specs/, and what names them."""
     section = None
     for line in text.splitlines():
         head = re.match(r"## (\w+):", line)
         section = head[1] if head and head[1] in known else section
         cells = re.split(r"(?<!\\)\|", line)
-        is_row = len(cells) == 6 and cells[1].strip() not in ("definition", "---") and "std" not in cells[3]
-        # a row of the written part has its crate before its file
-        at, _, file = cells[3].strip().partition("/") if is_row and "/" in cells[3] else (section, "", cells[3].strip() if is_row else "")
-        is_row = is_row and at in known
-        yield line, at if is_row else None, [*cells[:3], f" {file} ", *cells[4:]] if is_row else None
+        if len(cells) == 6 and cells[1].strip() not in ("definition", "---"):
+            # a row of the written part has its crate before its file
+            before, _, file = cells[3].strip().rpartition("/")
+            if (before or section) in known:
+                yield before or section, re.findall(r"`([^`]+)`", cells[1]), [file], re.findall(r"`([\w:]+)`", cells[4])
 
 
-def names_in(cells):
-    """The definitions and the files of a row."""
-    return [it.split()[0] for it in re.findall(r"`([^`]+)`", cells[1])], [it.strip() for it in re.split(r"[,;]", cells[3])]
-
-
-def rows(text, known):
-    """The rows of the page: the crate, the definitions, the files of its specs/, and what names them."""
-    for _, crate, cells in lines_of(text, known):
-        if cells:
-            yield crate, *names_in(cells), re.findall(r"`([\w:]+)`", cells[4])
-
-
-def places_of(crate, cells):
-    """The definitions of a row, each with its crate and each of its files."""
-    names, files = names_in(cells)
-    return [(crate, file, name) for name in names for file in files]
-
-
-def fields_in(text):
-    """The fields of the records of a file of specs/."""
-    found, of, depth = set(), None, 0
+def lines_of(text):
+    """The lines of a file of specs/, each with the head of a definition that it is, and with the head of the record or the type that it stands in."""
+    of, depth = None, 0
     for line in text.splitlines():
         inside = len(line) - len(line.lstrip())
         of = of if not line.strip() or inside > depth else None
         head = None if of else public_clauses.DEFINED.match(line)
+        head = None if head and head[2] == "use" else head
+        yield line, head, of
         if head:
-            of, depth = head[2] if "record" in head[1].split() else None, inside
-        elif of and public_clauses.PART.match(line):
-            found |= {*public_clauses.PART.match(line)[1].split()}
-    return found
+            of, depth = head if {"data", "record"} & {*head[1].split()} else None, inside
+
+
+def fields_in(text):
+    """The fields of the records of a file of specs/, but for names that a definition has too."""
+    parts = [public_clauses.PART.match(line) for line, _, of in lines_of(text) if of and "record" in of[1].split()]
+    return {name for part in parts if part for name in part[1].split()} - {head[2] for _, head, _ in lines_of(text) if head}
 
 
 class Specs:
@@ -157,7 +147,6 @@ class Specs:
                 work += new
         return [*met]
 
-
     def sizes(self, definitions):
         """How many of these stand in each file, in the order in which the files are met, with their lines of code; a module has all its lines."""
         found, seen = {}, set()
@@ -172,13 +161,13 @@ class Specs:
         return found
 
 
-def comments_in(text):
-    """What stands right over each definition of a file. One that begins with a capital or a number is said of what follows it, too."""
+def sentences_in(text):
+    """The definitions of a file with a comment right over them, in their order, each with that as one line."""
     found, above = {}, []
-    for line in text.splitlines():
-        head, said = public_clauses.DEFINED.match(line), line.strip()
-        if head and above and above[0][:1].islower():
-            found.setdefault(head[2], " ".join(above))
+    for line, head, _ in lines_of(text):
+        if head and above:
+            found[head[2]] = " ".join(above).removesuffix(".")
+        said = line.strip()
         above = [*above, said[3:]] if said.startswith("-- ") and not said.startswith("-- --") else []
     return found
 
@@ -226,58 +215,43 @@ def how_much(specs, met, of_run):
     ]
 
 
-def part_of(page, specs, met, code, folders):
-    """The part of the page that is written, as it has to be; `folders` are those of the crates."""
-    of_run = specs.met_from(*HEADLINE, *dict.fromkeys(it for it, of in public_clauses.cited(code) if of == PROGRAM))
+def part_of(specs, met, of_run, paths, first):
+    """The first part that is written; `paths` are those of the files, and `first` the rows of what is met."""
     lines = how_much(specs, met, of_run)
     lines += ["## Reading order", "", "Who begins at the headline, and reads on with what each definition names, meets these files in this order.", ""]
     sizes = specs.sizes(met)
-    paths = {(crate, file): next(iter(sorted((folders[crate] / "specs").rglob(f"{file}.antt")))).relative_to(ROOT) for crate, file in sizes}
-    lines += table(("file", "definitions", "lines"), [(f"[{'/'.join(it)}](../{paths[it]})", *size) for it, size in sizes.items()])
-    lines += ["## From the headline down", "", "The rows of these files, as their definitions are met.", ""]
-    said = {place: comments_in((ROOT / path).read_text(encoding="utf-8")) for place, path in paths.items()}
-    lines += table(("definition", "what it says", "file", "named by"), rows_met(page, met, folders, said))
+    lines += table(("file", "definitions", "lines"), [(f"[{'/'.join(it)}](../{paths[it].relative_to(ROOT)})", *size) for it, size in sizes.items()])
+    lines += ["## From the headline down", "", "The definitions of these files that are met, in the order in which they stand there.", ""]
+    lines += table(HEAD, [(names, said, f"{crate}/{file}", by) for crate, file, names, said, by in first])
     return BEGIN + "\n".join(lines) + END
 
 
-def is_piece(cells):
-    """Whether a row's sentence is a comment."""
-    return cells[1].strip().startswith(PIECE)
+def joined(said):
+    """Definitions with their sentences, in the rows in which they stand: neighbours in a file whose sentences are short, and each one sentence."""
+    found = []
+    for definition, sentence in said:
+        last = found[-1] if found else None
+        is_plain = not re.search(r"; |\. ", sentence)
+        if last and last[2] and is_plain and last[0][0][:2] == definition[:2] and sum(map(len, [*last[1], sentence])) <= JOINED:
+            last[0].append(definition)
+            last[1].append(sentence)
+        else:
+            found.append(([definition], [sentence], is_plain))
+    return [(definitions, "; ".join(sentences)) for definitions, sentences, _ in found]
 
 
-def rows_met(page, met, known, said):
-    """The cells of the rows of which a definition is met, in the order of the files and of the definitions in them, and then the rows of those
-    definitions in them that have none on the page, and a comment; `said` are the comments of the files."""
-    files = {it: number for number, it in enumerate(dict.fromkeys(it[:2] for it in met))}
-    place = {it: (files[it[:2]], 0, number) for number, it in enumerate(met)}
-    found, left = [], {it: files[it[:2]] for it in met if it[2] in said.get(it[:2], {})}
-    for _, crate, cells in lines_of(page, known):
-        if cells and not is_piece(cells):
-            places = places_of(crate, cells)
-            at = [place[it] for it in places if it in place]
-            found += [(min(at), [cells[1].strip(), cells[2].strip(), f"{crate}/{cells[3].strip()}", cells[4].strip()])] if at else []
-            left = {it: file for it, file in left.items() if it not in places}
-    for (crate, file, name), number in left.items():
-        sentence = said[crate, file][name].replace("|", "\\|")
-        found.append(((number, 1, place[crate, file, name][2]), [f"{PIECE}`{name}`", sentence, f"{crate}/{file}", ""]))
-    return [cells for _, cells in sorted(found, key=lambda it: it[0])]
+def rows_of(said, naming):
+    """The rows of definitions with their sentences: the crate, the file, and the cells."""
+    for definitions, sentence in joined(said):
+        names = ", ".join(f"`{it[2]}`" for it in definitions)
+        yield *definitions[0][:2], names, sentence.replace("|", "\\|"), naming.of(definitions)
 
 
-def sections_of(page, met, known):
-    """What stands behind the written part: the sections of the crates, without the rows that are met, and with those that aren't any more."""
-    part, rest = page.partition(BEGIN)[2].partition(END)[::2]
-    left = collections.defaultdict(list)
-    for _, crate, cells in lines_of(part, known):
-        if cells and not is_piece(cells) and not any(it in met for it in places_of(crate, cells)):
-            left[crate].append("|".join(cells))
-    section, in_table = None, False
-    for line, crate, cells in [*lines_of(rest, known), ("", None, None)]:
-        if in_table and not line.startswith("|"):
-            yield from left.pop(section, ())
-        head = re.match(r"## (\w+):", line)
-        section, in_table = head[1] if head else section, line.startswith("|")
-        if not cells or not any(it in met for it in places_of(crate, cells)):
-            yield line
+def sections_of(text, left):
+    """What stands behind the first part: the sections of the crates, each with the rows that are left for it, which are taken out of them."""
+    for head, crate, below in re.findall(r"^(## (\w+):[^\n]*\n)(.*?)(?=^## |\Z)", text, re.M | re.S):
+        by_hand = "\n".join(it for it in below.splitlines() if not it.startswith("|")).strip()
+        yield "\n".join([head, *([by_hand, ""] if by_hand else []), *table(HEAD, left.pop(crate, ()))])
 
 
 def told(names):
@@ -300,14 +274,16 @@ class Naming:
         self.functions, self.laws = collections.defaultdict(list), laws_in(code)
         for definition, of in public_clauses.cited(code):
             self.functions[definition].append(of.partition(": ")[2])
-        cited = {it: min(self.calls(it), key=self.rank) for it in self.functions if self.calls(it)}
-        # a function from which each definition is reached, and what names it on the way
-        self.reached = {it: (name, None) for it, name in sorted(cited.items(), key=lambda it: (self.rank(it[1]), it))}
-        work = [*self.reached]
-        for definition in work:
-            new = [it for it in specs.named_by(definition) if it not in self.reached]
-            self.reached |= {it: (self.reached[definition][0], definition[2]) for it in new}
-            work += new
+        # a function from which each definition is reached, and what names it on the way: a law only where there is no other
+        self.reached = {}
+        for by in (self.calls, lambda it: self.functions[it]):
+            cited = {it: min(by(it), key=self.rank) for it in [*self.functions] if it not in self.reached and by(it)}
+            self.reached |= {it: (name, None) for it, name in sorted(cited.items(), key=lambda it: (self.rank(it[1]), it))}
+            work = [*self.reached]
+            for definition in work:
+                new = [it for it in specs.named_by(definition) if it not in self.reached]
+                self.reached |= {it: (self.reached[definition][0], definition[2]) for it in new}
+                work += new
 
     def calls(self, definition):
         """The functions and types that cite it, without laws."""
@@ -319,32 +295,29 @@ class Naming:
         return (0, FIRST.index(name)) if name in FIRST else (kind, 0)
 
     def of(self, definitions):
-        """The cell of a row of these; nothing where nothing is found."""
+        """The cell of a row of these."""
         cited = sorted((name for it in definitions for name in self.functions.get(it, ())), key=self.rank)
-        reached = next((self.reached[it] for it in definitions if it in self.reached), None)
-        if reached and all(it in self.laws for it in cited):
-            return "; ".join([f"`{reached[0]}`, through `{reached[1]}`", *([told(cited)] if cited else [])])
-        return told(cited) if cited else None
-
-
-def with_naming(page, code, folders, specs=None):
-    """The page, with what each row of files that aren't `Private` is named by."""
-    naming = Naming(code, specs or Specs(code))
-    lines = []
-    for line, crate, cells in lines_of(page, folders):
-        places = places_of(crate, cells) if cells else ()
-        by = naming.of([it for it in places if not it[1].startswith("Private")])
-        lines.append("|".join([*line.rsplit("|", 2)[:1], f" {by} ", ""]) if by else line)
-    return "\n".join(lines) + "\n"
+        by, through = min((self.reached[it] for it in definitions), key=lambda it: self.rank(it[0]))
+        if through and all(it in self.laws for it in cited):
+            return "; ".join([f"`{by}`, through `{through}`", *([told(cited)] if cited else [])])
+        return told(cited or [by])
 
 
 def as_it_has_to_be(page, code, folders):
-    """The page with what is counted, its order, and with what its rows are named by."""
+    """The page by its sources, and the crates that have rows and no section."""
     specs = Specs(code)
+    naming = Naming(code, specs)
     met = specs.met_from(*HEADLINE)
-    sections = "\n".join(sections_of(page, {*met}, folders)).rstrip("\n") + "\n"
-    text = page.partition(BEGIN)[0] + part_of(page, specs, met, code, folders) + sections
-    return with_naming(text, code, folders, specs)
+    of_run = specs.met_from(*met, *dict.fromkeys(it for it, of in public_clauses.cited(code) if of == PROGRAM))
+    paths = {(crate, path.stem): path for crate, folder in folders.items() for path in sorted((folder / "specs").rglob("*.antt"))}
+    files = [it for it in dict.fromkeys(it[:2] for it in [*of_run, *naming.reached]) if it in paths and not it[1].startswith("Private")]
+    said = [((*it, name), sentence) for it in files for name, sentence in sentences_in(paths[it].read_text(encoding="utf-8")).items()]
+    first, left = {*met}, collections.defaultdict(list)
+    for crate, file, *cells, by in rows_of([it for it in said if it[0] in naming.reached and it[0] not in first], naming):
+        left[crate].append((*cells, file, by))
+    part = part_of(specs, met, of_run, paths, rows_of([it for it in said if it[0] in naming.reached and it[0] in first], naming))
+    sections = "\n".join(sections_of(page.partition(END)[2], left)).rstrip("\n") + "\n"
+    return f"{page.partition(BEGIN)[0]}{part}\n{sections}", [*left]
 
 
 def wrong(code, folders):
@@ -352,7 +325,9 @@ def wrong(code, folders):
     page = PAGE.read_text(encoding="utf-8")
     if BEGIN not in page or END not in page.partition(BEGIN)[2]:
         return [f"it has no part between {BEGIN.strip()} and {END.strip()}"]
-    wanted = as_it_has_to_be(page, code, folders)
+    wanted, without = as_it_has_to_be(page, code, folders)
+    if without:
+        return [f"it has no section for {it}" for it in without]
     return [] if wanted == page else ["run tools/definitions.py --write", *(f"it has {old}" for old, new in zip(page.splitlines(), wanted.splitlines()) if old != new)]
 
 
@@ -363,7 +338,7 @@ def code_of(rt, crates):
 
 def main():
     crates = read_crates()
-    wanted = as_it_has_to_be(PAGE.read_text(encoding="utf-8"), code_of(load_rt(), crates), {it.name: it.folder for it in crates})
+    wanted, _ = as_it_has_to_be(PAGE.read_text(encoding="utf-8"), code_of(load_rt(), crates), {it.name: it.folder for it in crates})
     if sys.argv[1:] == ["--write"]:
         PAGE.write_text(wanted, encoding="utf-8")
     elif sys.argv[1:]:

@@ -43,14 +43,9 @@ CODE = {
     }
 }
 ROWS = "## a: words\n\n| definition | what it says | file | named by |\n|---|---|---|---|\n"
-OLD = ROWS + "| `IsSaid` | it is one | Words | `old` |\n| `one` | 1 | Words | `old` |\n| `two` | 2 | Words | `old` |\n| `step` | a step | PrivateSteps | `old` |\n"
-NEW = ROWS + "| `IsSaid` | it is one | Words | `call`, `it_stays` |\n| `one` | 1 | Words | `call`, through `IsSaid` |\n| `two` | 2 | Words | `old` |\n| `step` | a step | PrivateSteps | `old` |\n"
-PAGE = "# Page\n\n## below: parts\n\n| definition | what it says | file | named by |\n|---|---|---|---|\n| `Deep n`, `Last` | deep | Parts, More | `run`, through `Runs` |\n| `Io` | read | std | `read` |\n"
-# The same definitions on a page whose rows stand in sections: one that is met, one that isn't, and in the written part one that isn't any more.
-MOVED = (
-    f"# Page\n\n{definitions.BEGIN}| `Beside` | beside | below/Parts | `run` |\n{definitions.END}\n## below: parts\n\n"
-    "| definition | what it says | file | named by |\n|---|---|---|---|\n| `Last` | last | Parts | `run` |\n| `Deep` | deep | Parts | `run` |\n\nText.\n"
-)
+PAGE = ROWS + "| `IsSaid`, `one` | it is one; 1 | Words | `call`, through `one` |\n| `two` | a \\| b | c/Words | `old` |\n"
+# The head of a section, with text and rows that are no more.
+SECTIONS = "## a: words\n\nText.\n\n| definition |\n|---|\n| `gone` |\n\n## b: nothing\n\n| definition |\n"
 COMMENTED = """\
 -- ---- a part
 
@@ -59,22 +54,34 @@ COMMENTED = """\
 abbrev pub one : ℕ
 one = 1
 
--- Of the next two.
-abbrev pub two : ℕ
-two = 2
-
 -- far above
 
 abbrev pub three : ℕ
 three = 3
 
+-- a record
+pub record Turn : Type 0 where
+  -- no definition
+  pub one : ℕ
+  pub other : ℕ
+
 module _ (n : ℕ) where
-  -- a kind
-  pub data kind : Type 0 where
+  -- A kind.
+  pub data Kind : Type 0 where
+    -- a case
+    Case : Kind
+
+-- passed on
+pub use Rattle.a.specs.Words.{one}
 """
+# Sentences of definitions: two that share a row, one with parts, one of another file, and one that is too long.
+SHORT, PARTS, OTHER, LONG = (("a", "Words", "one"), "1"), (("a", "Words", "two"), "2; or 3"), (("a", "More", "four"), "4"), (("a", "More", "five"), "5" * definitions.JOINED)
 HEAD = definitions.HEADLINE[0]
 SIZES = definitions.Specs(SPECS)
 MET = SIZES.met_from(HEAD)
+NAMING = definitions.Naming(CODE, definitions.Specs(CODE))
+IS_SAID, ONE = ("a", "Words", "IsSaid"), ("a", "Words", "one")
+LAW_ALONE = CODE["a"] | {"src/calls.rt": ""}
 # What is wanted and what is found, each with its name.
 TRIALS = [
     ("what is met, in its order", MET, [
@@ -84,20 +91,21 @@ TRIALS = [
     ("sizes", SIZES.sizes(MET), {("zeb_engine", "Headline"): (1, 2), ("zeb_engine", "Works"): (2, 4), ("below", "Parts"): (3, 6)}),
     ("sizes together", definitions.added([(1, 2), (2, 4)]), (3, 6)),
     ("no sizes", definitions.added([]), (0, 0)),
-    ("rows that are met", definitions.rows_met(MOVED, MET, {"below"}, {}), [
-        ["`Deep`", "deep", "below/Parts", "`run`"], ["`Last`", "last", "below/Parts", "`run`"],
+    ("fields, but for names of definitions", definitions.fields_in(COMMENTED), {"other"}),
+    ("sentences of definitions", definitions.sentences_in(COMMENTED), {"one": "first of two lines", "Turn": "a record", "Kind": "A kind"}),
+    ("sentences in one row", definitions.joined([SHORT, SHORT, PARTS, SHORT, OTHER, LONG]), [
+        ([SHORT[0], SHORT[0]], "1; 1"), ([PARTS[0]], "2; or 3"), ([SHORT[0]], "1"), ([OTHER[0]], "4"), ([LONG[0]], LONG[1]),
     ]),
-    ("rows of comments behind them", definitions.rows_met(definitions.PIECE.join(MOVED.split("| `Last`")), MET, {"below"}, {("below", "Parts"): {"Last": "a | b", "No": "no"}})[1:], [
-        ["· `Last`", "a \\| b", "below/Parts", ""],
+    ("rows", [*definitions.rows_of([(IS_SAID, "it is one"), (ONE, "1 | 1")], NAMING)], [("a", "Words", "`IsSaid`, `one`", "it is one; 1 \\| 1", "`call`, `it_stays`")]),
+    ("sections", [*definitions.sections_of(SECTIONS, {"a": [("`new`", "is new", "Words", "`call`")]})], [
+        "## a: words\n\nText.\n\n| definition | what it says | file | named by |\n|---|---|---|---|\n| `new` | is new | Words | `call` |\n",
+        "## b: nothing\n\n| definition | what it says | file | named by |\n|---|---|---|---|\n",
     ]),
-    ("comments of definitions", definitions.comments_in(COMMENTED), {"one": "first of two lines", "kind": "a kind"}),
-    ("sections without them", [*definitions.sections_of(MOVED, {*MET}, {"below"})], [
-        "", "## below: parts", "", "| definition | what it says | file | named by |", "|---|---|---|---|", "| `Beside` | beside | Parts | `run` |", "", "Text.", "",
-    ]),
-    ("rows of the page", [*definitions.rows(PAGE, {"below"})], [("below", ["Deep", "Last"], ["Parts", "More"], ["run", "Runs"])]),
-    ("rows of the written part", [*definitions.rows(MOVED, {"below"})][0], ("below", ["Beside"], ["Parts"], ["run"])),
-    ("rows of no crate", [*definitions.rows(PAGE, {"above"})], []),
-    ("what rows are named by", definitions.with_naming(OLD, CODE, {"a"}), NEW),
+    ("rows of the page", [*definitions.rows(PAGE, {"a", "c"})], [("a", ["IsSaid", "one"], ["Words"], ["call", "one"]), ("c", ["two"], ["Words"], ["old"])]),
+    ("rows of no crate", [*definitions.rows(PAGE, {"b"})], []),
+    ("what a definition is named by", [NAMING.of([it]) for it in (IS_SAID, ONE)], ["`call`, `it_stays`", "`call`, through `IsSaid`"]),
+    ("what only a law cites", definitions.Naming({"a": LAW_ALONE}, definitions.Specs({"a": LAW_ALONE})).of([IS_SAID]), "`it_stays`"),
+    ("what clauses reach", [it for _, _, it in NAMING.reached], ["IsSaid", "one"]),
     ("more names than are told", definitions.told(["a", "b", "a", "c", "d", "e"]), "`a`, `b`, `c` and 2 more"),
 ]
 NUMBER = len(TRIALS)

@@ -37,6 +37,7 @@ standing_from file nth [] None = []
 standing_from file nth [] (Some fault) = at_place file nth (Err fault) ∷ []
 standing_from file nth (slice ∷ slices) last = at_place file nth (Ok slice) ∷ standing_from file (nth + 1) slices last
 
+-- what stands in a file: its slices in order, and behind them its fault, if there is one
 unfoldable pub standing_in : ℕ → List ℕ → List Standing
 standing_in file text = standing_from file 1 (split_of text).slices (split_of text).fault
 
@@ -50,6 +51,7 @@ standing_in_all file (text ∷ texts) = standing_in file text ++ standing_in_all
 abbrev pub units_in : List ℕ → List UnitText
 units_in bytes = units_of (fields_of bytes)
 
+-- the place of what stands at this number in a file
 abbrev pub place_at : ℕ → ℕ → Place
 place_at file nth = record { file = file; nth = nth }
 
@@ -87,10 +89,12 @@ pub record Analysed : Type 0 where
   pub ident : List ℕ
   pub occurrences : List Occurrence
 
+-- what an analysis stands for, as a value
 abbrev pub analysed : Analysis → Analysed
 analysed a = record { file = a.place.file; nth = a.place.nth; ident = string_bytes a.ident; occurrences = a.occurrences.items }
 
--- the analysis of the record that stands there: its identifier, and its occurrences, just these, in rising order
+-- the analysis of the record that stands there: it has no fault, this is its identifier, and the occurrences rise and
+-- are just its own
 pub record IsAnalysisOf (profile : List Directive) (standing : Standing) (analysis : Analysed) : Type 0 where
   pub bytes : List ℕ
   pub stands : standing.content ≡ Ok bytes
@@ -101,7 +105,7 @@ pub record IsAnalysisOf (profile : List Directive) (standing : Standing) (analys
   pub rising : IsRising analysis.occurrences
   pub members : (o : Occurrence) → Contains analysis.occurrences o ↔ IsOccurrence (unit_targets profile) (units_in bytes) o
 
--- an analysis for each, in their order
+-- an analysis for each that stands there, in their order
 abbrev pub AreAnalysesOf : List Directive → List Standing → List Analysed → Type 0
 AreAnalysesOf profile [] [] = ⊤
 AreAnalysesOf profile (standing ∷ others) (analysis ∷ analyses) =

@@ -16,7 +16,7 @@ pub record IsFirstRefused (profile : List Directive) (limit : ℕ) (standings : 
   pub earlier : (k : ℕ) (other : Standing) → k < before → slice_get standings k ≡ Some other
       → refusal_at profile limit k other ≡ None
 
--- a refusal by what files hold, and not by a reader or by want of memory
+-- a refusal by what files hold, not by a reader that failed and not by want of memory
 abbrev pub IsRefusal : AnalysisFault → Type 0
 IsRefusal (Marc place fault) = fault ≢ ReadFault
 IsRefusal (Ident place fault) = fault ≢ ident.Memory

@@ -13,7 +13,8 @@ use Rattle.zeb_analysis.specs.Printing.{analysis_text}
 abbrev pub lines_of : List (List ℕ) → Analysis → List ℕ
 lines_of names analysis = analysis_text names (analysed analysis)
 
--- these are the lines of the records of files with these texts, of which none is refused
+-- these are the lines of all records of files with these texts, of which none is refused, with how many records they are of and the
+-- names of the indexes
 pub record AreLines (names : List (List ℕ)) (profile : List Directive) (limit : ℕ) (texts : List (List ℕ)) (lines : AnalysedLines) : Type 0 where
   -- the analyses, in the order of the records
   pub analyses : List Analysis

@@ -17,6 +17,7 @@ ended text = text ++ 10 ∷ []
 abbrev pub printed_number : List ℕ → List ℕ
 printed_number term = if length term == 18 && list_all is_ascii_digit term then decimal (digits_value 10 term) else term
 
+-- a term as it is printed: a number without leading zeros, and a word or a phrase as it is
 abbrev pub printed_term : Register → List ℕ → List ℕ
 printed_term Word term = term
 printed_term Phrase term = term

@@ -11,6 +11,7 @@ use Rattle.zeb_analysis.specs.declared.faults.AnalysisFault.TheVariants.{Marc, I
 abbrev pub record_fault_text : Place → List ℕ → List ℕ
 record_fault_text place name = codes "file " ++ decimal place.file ++ codes " record " ++ decimal place.nth ++ codes ": " ++ name
 
+-- the text of an analysis's refusal: the record with the name of its fault, that there are too many records, or that memory ran out
 abbrev pub analysis_fault_text : AnalysisFault → List ℕ
 analysis_fault_text (Marc place fault) = record_fault_text place (marc_name fault)
 analysis_fault_text (Ident place fault) = record_fault_text place (ident_name fault)

@@ -31,7 +31,8 @@ gaps_in_record before p =
     then record { sysno = 0; seq = 0; pos = p.pos - before.pos }
     else record { sysno = 0; seq = p.seq - before.seq; pos = p.pos }
 
--- those of any posting: in another record the gap of the system number, and unit and place as they are
+-- the three numbers that tell any posting from the one before it: of system number, unit and word, 0 for those that are the same, the gap for the
+-- first that differs, and those behind it as they are
 abbrev pub gaps_of : Posting → Posting → Gaps
 gaps_of before p =
     if p.sysno == before.sysno
@@ -42,12 +43,12 @@ gaps_of before p =
 unfoldable pub bytes_of : Gaps → List ℕ
 bytes_of gaps = uleb gaps.sysno ++ (uleb gaps.seq ++ uleb gaps.pos)
 
--- the bytes of a list, its first posting counted from another
+-- the bytes of each posting's three numbers, one posting behind the other
 unfoldable pub spelled_from : Posting → List Posting → List ℕ
 spelled_from before [] = []
 spelled_from before (p ∷ list) = bytes_of (gaps_of before p) ++ spelled_from p list
 
--- the bytes spell the list in the block
+-- the list isn't empty and lies in the block, and these are its bytes
 pub record BlockSpells (block : ℕ) (list : List Posting) (bytes : List ℕ) : Type 0 where
   pub some : list ≢ []
   pub lies : LiesIn block list

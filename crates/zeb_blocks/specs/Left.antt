@@ -32,7 +32,7 @@ posting_after before gaps =
 abbrev pub gaps_at : List ℕ → Gaps
 gaps_at bytes = record { sysno = number_at bytes; seq = number_at (behind bytes); pos = number_at (behind (behind bytes)) }
 
--- so many postings, the first counted from another
+-- so many postings, read one after the other from the front of the bytes, the first by its gaps from this one
 unfoldable pub postings_at : ℕ → Posting → List ℕ → List Posting
 postings_at zero before bytes = []
 postings_at (suc more) before bytes =
@@ -43,7 +43,7 @@ pub record Follows (before p : Posting) : Type 0 where
   pub above : posting_cmp before p ≡ Less
   pub numbered : IsNumbered p
 
--- each posting follows the one before it
+-- each posting is above the one before it, and its numbers are at least 1 and fit 64 bits
 abbrev pub EachFollows : Posting → List Posting → Type 0
 EachFollows before [] = Unit {0}
 EachFollows before (p ∷ list) = Follows before p × EachFollows p list
@@ -58,7 +58,7 @@ pub record SpellsFrom (before : Posting) (list : List Posting) (bytes : List ℕ
   pub follow : EachFollows before list
   pub spelled : bytes ≡ spelled_from before list
 
--- a block that is being written: its number, and the list so far
+-- the number of a block that is being written, and its list so far
 pub record Written : Type 0 where
   pub block : ℕ
   pub list : List Posting

@@ -9,5 +9,6 @@ pub record Conditions : Type 0 where
   pub profile : List Directive
   pub limits : Limits
 
+-- a version, directives and limits as what a session works under
 abbrev pub conditions : List ℕ → List Directive → Limits → Conditions
 conditions version profile limits = record { version = version; profile = profile; limits = limits }

@@ -29,7 +29,7 @@ abbrev pub PlacesDiffer : (elder newer : Occurrence → Type 0) → Key → Type
 PlacesDiffer elder newer key =
     ¬ ((seq pos : ℕ) → elder (record { key = key; seq = seq; pos = pos }) ↔ newer (record { key = key; seq = seq; pos = pos }))
 
--- so many keys have places that differ
+-- just so many keys have places that differ between two records
 pub record IsRecordCost (elder newer : Occurrence → Type 0) (n : ℕ) : Type 0 where
   pub keys : List Key
   pub once : IsStrictlySortedBy key_order keys
@@ -47,7 +47,8 @@ newer_of Update bytes = Some bytes
 newer_of Delete bytes = None
 newer_of Adelete bytes = None
 
--- what a record costs a database: the elder is the one that the database keeps then under the record's identifier
+-- what a record costs a database: how many keys have other places in the record that is kept under its identifier than in what is kept
+-- there once it is taken; where none is kept, there are no places
 abbrev pub IsCostIn : List Directive → Kind → List ℕ → Base → ℕ → Type 0
 IsCostIn profile kind bytes base n =
     (ident : List ℕ) × (ident_in profile bytes ≡ Ok ident)

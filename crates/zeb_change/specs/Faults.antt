@@ -3,6 +3,7 @@ use Rattle.std.specs.Prelude.{ℕ, List, codes}
 use Rattle.zeb_change.specs.declared.faults.RecordFault.{RecordFault}
 use Rattle.zeb_change.specs.declared.faults.RecordFault.TheVariants.{LengthDigits, LengthRange, Truncated, NoTerminator, LeaderCounts, BaseAddress, DirectoryLength, EntryDigits, EntryTag, EntryRange, FieldEnd, TooManySeparators, NoIdentifier, BadIdentifier}
 
+-- the name of each fault of a record, as it is printed
 abbrev pub fault_name : RecordFault → List ℕ
 fault_name LengthDigits = codes "LengthDigits"
 fault_name LengthRange = codes "LengthRange"

@@ -31,12 +31,15 @@ abbrev pub deleted : Result Changed Why → List ℕ → Base → Option Kept �
 deleted absent ident base (Some kept) = Ok (without_ident ident base, Deleted)
 deleted absent ident base None = absent
 
+-- what becomes of a sound record by the kind of the change: an update puts it in its elder's place, or without one under the number
+-- after the last, unless the database is full; a delete and an adelete take its elder out, and without one a delete refuses it and an
+-- adelete passes over it
 abbrev pub changed_by : Conditions → Kind → ℕ → ℕ → List ℕ → List ℕ → Base → Result Changed Why
 changed_by c Update file nth bytes ident base = updated c ident bytes base (kept_as ident base)
 changed_by c Delete file nth bytes ident base = deleted (Err (unknown file nth)) ident base (kept_as ident base)
 changed_by c Adelete file nth bytes ident base = deleted (Ok (base, PassedOver)) ident base (kept_as ident base)
 
--- a record with a fault is refused by it, and then one without a sound identifier
+-- a record without a sound identifier is refused; what becomes of another goes by its identifier and the kind of the change
 abbrev pub with_ident : Conditions → Kind → ℕ → ℕ → List ℕ → Base → Result (List ℕ) IdentFault → Result Changed Why
 with_ident c kind file nth bytes base (Ok ident) = changed_by c kind file nth bytes ident base
 with_ident c kind file nth bytes base (Err fault) = Err (why_of (identifier_refusal file nth fault))
@@ -44,15 +47,22 @@ with_ident c kind file nth bytes base (Err fault) = Err (why_of (identifier_refu
 abbrev pub ident_in : List Directive → List ℕ → Result (List ℕ) IdentFault
 ident_in profile bytes = identifier_of profile (units_of (fields_of bytes))
 
+-- a record with a fault is refused by it, and then one without a sound identifier; what becomes of another goes by that and the kind of
+-- the change
 abbrev pub with_record : Conditions → Kind → ℕ → ℕ → List ℕ → Base → Option MarcFault → Result Changed Why
 with_record c kind file nth bytes base (Some fault) = Err (why_of (marc_refusal file nth fault))
 with_record c kind file nth bytes base None = with_ident c kind file nth bytes base (ident_in c.profile bytes)
 
+-- what becomes of one record: it is refused by its fault, by its identifier's, where the limits leave an update no number, or where a
+-- delete doesn't know its identifier; else it is added under the number after the last, put in its elder's place, passed over, or its
+-- elder is taken out
 unfoldable pub changed_record : Conditions → Kind → ℕ → ℕ → List ℕ → Base → Result Changed Why
 changed_record c kind file nth bytes base = with_record c kind file nth bytes base (first_fault bytes)
 
 -- ---- a change on its way: the database, how many records were taken, and what became of them
 
+-- a change on its way: the database, how many records were taken, and how many of them came in, took an elder's place
+-- and took one away
 pub record Progress : Type 0 where
   pub base : Base
   pub taken : ℕ
@@ -95,6 +105,7 @@ abbrev pub slices_folded : Conditions → Kind → ℕ → ℕ → List (List �
 slices_folded c kind file nth [] last p = at_end file nth last p
 slices_folded c kind file nth (slice ∷ slices) last p = record_folded c kind file nth slice p then slices_folded c kind file (nth + 1) slices last
 
+-- the records of a file are folded in one after the other, and the first that is refused, or a fault behind the last, refuses the whole
 unfoldable pub file_folded : Conditions → Kind → ℕ → Split → Progress → Result Progress Why
 file_folded c kind file split p = slices_folded c kind file 1 split.slices split.fault p
 

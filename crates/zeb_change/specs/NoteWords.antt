@@ -24,6 +24,7 @@ change_words change =
     number_words change.sysno ++ (number_words (length change.old) ++ (number_words (length change.new)
     ++ (place_words change.old ++ place_words change.new)))
 
+-- the words of several changes, one change behind the other
 unfoldable pub words_of_changes : List KeyChange → List ℕ
 words_of_changes [] = []
 words_of_changes (change ∷ changes) = change_words change ++ words_of_changes changes

@@ -41,6 +41,7 @@ changes_among (entry ∷ entries) = entry.1.count + changes_among entries
 abbrev pub noted_count : Pending → ℕ
 noted_count pending = changes_among pending.notes.entries
 
+-- no change is noted
 abbrev pub IsNothingNoted : Pending → Type 0
 IsNothingNoted pending = pending.notes.entries ≡ []
 

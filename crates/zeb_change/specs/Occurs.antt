@@ -10,7 +10,7 @@ use Rattle.zeb_keys.specs.declared.keys.Occurrence.{Occurrence}
 use Rattle.zeb_extract.specs.Occurrences.{IsOccurrence}
 use Rattle.zeb_change.specs.Base.{Kept}
 
--- the occurrences of the record with these bytes, rising
+-- these are just the occurrences of the record with these bytes, rising
 pub record AreOccurrencesOf (profile : List Directive) (bytes : List ℕ) (occurrences : List Occurrence) : Type 0 where
   pub rising : IsRising occurrences
   pub each : (o : Occurrence) → Contains occurrences o ↔ IsOccurrence (unit_targets profile) (units_of (fields_of bytes)) o

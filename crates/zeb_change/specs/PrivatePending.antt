@@ -59,6 +59,7 @@ AreGivenAs (change ∷ changes) [] = ⊥
 AreGivenAs (change ∷ changes) (first ∷ given) =
     (first.sysno ≡ change.sysno) × (first.old.now ≡ change.old) × (first.new.now ≡ change.new) × AreGivenAs changes given
 
+-- the number of a change's record
 abbrev pub number_in : RecordChange → ℕ
 number_in change = change.sysno
 

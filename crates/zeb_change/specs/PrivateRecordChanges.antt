@@ -16,10 +16,11 @@ use Rattle.zeb_change.specs.RecordChanges.{Point, Answers, TellsFailure, IsInser
 
 -- ---- how far a change is, and what calls do to that
 
+-- the same of a connection
 abbrev pub point : State → Pending → ℕ → Point
 point s pending last = record { tables = s.now; pending = pending; last = last }
 
--- the database stays, and the counts of work; the last number rises by one at most, and not above the limit
+-- the database stays, the last number rises by one at most and not above the limit, and the counts of work stay
 pub record Steps (limits : Limits) (old new : Progress) : Type 0 where
   pub database : new.database ≡ old.database
   pub work : new.work ≡ old.work

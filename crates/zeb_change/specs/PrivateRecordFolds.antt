@@ -11,6 +11,8 @@ use Rattle.zeb_change.specs.declared.settings.Setting.{Setting}
 use Rattle.zeb_change.specs.Folding.{splits_of}
 use Rattle.zeb_change.specs.RecordFolds.{At, TakesRest, TakesFiles}
 
+-- how far a change is, of a connection; what is read of a reader is what its text is cut into, where it hasn't
+-- failed; the same of readers; what is read so is taken in
 abbrev pub at : State → Pending → Fold → At
 at s pending fold = record { tables = s.now; pending = pending; fold = fold }
 

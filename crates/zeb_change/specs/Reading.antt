@@ -23,7 +23,7 @@ abbrev pub NamesFailed : {R : Type 0} → (R → Bool) → List R → Refusal �
 NamesFailed has_failed readers refusal =
     (file : ℕ) × HasFailedAt has_failed readers file × ((other : ℕ) → HasFailedAt has_failed readers other → file ≤ other) × (refusal ≡ ReadFault file)
 
--- this is no refusal for a reader that failed
+-- a call isn't refused as for a reader that failed
 abbrev pub NoReadFault : {T : Type 0} → Result T Refusal → Type 0
 NoReadFault result = (file : ℕ) → result ≢ Err (ReadFault file)
 
@@ -35,7 +35,7 @@ TellsFailed has_failed old new result = NoneFailed has_failed old → (file : �
 abbrev pub BlamesFailed : {R T : Type 0} → (R → Bool) → List R → Result T Refusal → Type 0
 BlamesFailed has_failed readers result = (file : ℕ) → result ≡ Err (ReadFault file) → HasFailedAt has_failed readers file
 
--- readers that can't fail stay so, and none of them has failed that hadn't, one by one
+-- readers that can't fail stay so, and none of them has failed that hadn't, one by one (`StaysAble`)
 abbrev pub StayAble : {R : Type 0} → (may_fail has_failed : R → Bool) → (old new : List R) → Type 0
 StayAble may_fail has_failed = AllZip (StaysAble may_fail has_failed)
 

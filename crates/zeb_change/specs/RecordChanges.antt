@@ -125,7 +125,8 @@ IsFull limits last refusal = (refusal ≡ DatabaseFull) × (limits.numbers ≤ l
 abbrev pub IsUnsound : List Directive → (ident : List ℕ) → Elder → Refusal → Type 0
 IsUnsound profile ident elder refusal = (refusal ≡ Damaged) × ¬ IsSound profile ident elder.bytes.items
 
--- A sound record is accepted so, by the kind of the change and its elder.
+-- what becomes of a sound record that is accepted: an update puts it in its elder's place, or without one under the number after the
+-- last; a delete and an adelete take its elder out; and without one an adelete passes over it, and no delete is accepted
 abbrev pub Turns : Setting → ℤ → (ident bytes : List ℕ) → Kind → Option Elder → Point → Point → Fate → Type 0
 Turns setting db ident bytes Update None old new fate = IsInserted setting db ident bytes old new fate
 Turns setting db ident bytes Update (Some elder) old new fate = IsSupplanted setting db ident bytes elder old new fate
@@ -134,7 +135,8 @@ Turns setting db ident bytes Delete None old new fate = ⊥
 Turns setting db ident bytes Adelete (Some elder) old new fate = IsWithdrawn setting db ident elder old new fate
 Turns setting db ident bytes Adelete None old new fate = (fate ≡ PassedOver) × (new ≡ old)
 
--- and refused so
+-- why a sound record is refused: its elder isn't sound; or it has none, and the limits leave an update no number, or a delete doesn't
+-- know its identifier; an adelete without one is never refused so
 abbrev pub RefusesTurn : Setting → (file nth : ℕ) → (ident : List ℕ) → Option Elder → Kind → (last : ℕ) → Refusal → Type 0
 RefusesTurn setting file nth ident (Some elder) kind last refusal = IsUnsound setting.profile.now ident elder refusal
 RefusesTurn setting file nth ident None Update last refusal = IsFull setting.limits last refusal

@@ -96,10 +96,11 @@ abbrev pub TakesRest : Setting → Format → (row_work : ℕ) → ℤ → (file
 TakesRest setting format row_work db file nth split =
     Each (λ n bytes. TakesRecord setting format row_work db file n bytes) (EndsFile file split.fault) nth split.slices
 
--- the same of files, from this one on
+-- no file is left: it is accepted, and nothing changes
 abbrev pub EndsAll : At → At → Result (Unit {0}) Refusal → Type 0
 EndsAll old new result = (result ≡ Ok tt) × (new ≡ old)
 
+-- the records of files are taken in, one file after the other, from this one on, up to the first that is refused
 abbrev pub TakesFiles : Setting → Format → (row_work : ℕ) → ℤ → (file : ℕ) → List Split
     → At → At → Result (Unit {0}) Refusal → Type 0
 TakesFiles setting format row_work db =
@@ -122,7 +123,8 @@ pub record FoldsFiles (setting : Setting) (format : Format) (row_work : ℕ) (db
 
 -- ---- what readers tell
 
--- this is done with what is read of all readers: it is what their texts are cut into, where none has failed or the call is accepted
+-- `Does` is said of the slices that are read of all readers; where `Fine` holds, or the call is accepted, these are what the texts are
+-- cut into that the readers tell
 abbrev pub OfReaders : (Fine : Type 0) → (remains : List (Option (List ℕ))) → (Does : List Split → Result (Unit {0}) Refusal → Type 0)
     → Result (Unit {0}) Refusal → Type 0
 OfReaders Fine remains Does result = (splits : List Split)

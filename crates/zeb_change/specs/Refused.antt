@@ -23,6 +23,7 @@ pub data Why : Type 0 where
   store_failed : Why
   out_of_memory : Why
 
+-- the reason that a refusal stands for
 abbrev pub why_of : Refusal → Why
 why_of refusal.NotInitialised = not_initialised
 why_of refusal.OldFormat = old_format
@@ -39,11 +40,11 @@ why_of (refusal.ReadFault file) = read_fault file
 why_of refusal.Store = store_failed
 why_of refusal.Memory = out_of_memory
 
--- the store or the memory failed
+-- the store failed, or memory ran out
 abbrev pub IsFailing : Why → Type 0
 IsFailing why = (why ≡ store_failed) ⊎ (why ≡ out_of_memory)
 
--- this is no refusal of a register that isn't ready
+-- a call isn't refused as for a register that isn't ready
 abbrev pub NeverUnready : {T : Type 0} → Result T Refusal → Type 0
 NeverUnready result = (result ≢ Err refusal.NotInitialised) × (result ≢ Err refusal.OldFormat) × (result ≢ Err refusal.ProfileChanged)
 

@@ -14,7 +14,7 @@ use Rattle.zeb_change.specs.Conditions.{Conditions, conditions}
 use Rattle.zeb_change.specs.Folding.{Changed, Progress}
 use Rattle.zeb_change.specs.Stored.{IsBase, AreStored}
 
--- what a change works under
+-- what a change works under: this version, and the profile and the limits that it was given
 abbrev pub conditions_of : List ℕ → Setting → Conditions
 conditions_of version setting = conditions version setting.profile.now setting.limits
 

@@ -6,7 +6,7 @@ ghost use Rattle.zeb_change.specs.Noted.{IsNotedIn};
 ghost use Rattle.zeb_change.specs.PrivateNoteWords.{TakesChange, counts_in, places_in};
 ghost use Rattle.zeb_change.specs.PrivatePending.{change_in};
 
-use crate::words::{put_number, put_places, take_number, take_places};
+use crate::words::{Words, put_number, put_places, take_number, take_places};
 use std::alloc::{AllocError, Global};
 use zeb_register::{Place, RecordChange};
 
@@ -24,7 +24,7 @@ pub(crate) struct PlaceCounts {
 #[derive(Drop)]
 pub struct KeyNotes {
     count: u64,
-    words: Vec<u16>,
+    words: Words,
 }
 
 impl KeyNotes {
@@ -34,7 +34,7 @@ impl KeyNotes {
     {
         KeyNotes {
             count: 0,
-            words: Vec::new(alloc),
+            words: Words::new(alloc),
         }
     }
 
@@ -60,8 +60,8 @@ impl KeyNotes {
         ensures told { IfOk result (λ read. (changes : List KeyChange) → IsNotedIn self.now changes
             → (read.0.items ≡ map counts_in changes) × (read.1.items ≡ places_in changes)) }
     {
-        let mut counts = Vec::new(alloc);
-        let mut places = Vec::new(alloc);
+        let mut counts = Vec::with_capacity(alloc, self.count as usize)?;
+        let mut places = Vec::with_capacity(alloc, self.count as usize)?;
         let mut left = self.words.as_slice();
         for _ in 0..self.count {
             left = take_change(left, &mut counts, &mut places)?;

@@ -14,9 +14,9 @@ use zeb_register::{Place, RecordChange};
 /// its key 160 more: those of a whole command could take 640 MB, and these take 1 MB. A layout reads and writes at most one row more a run.
 const RUN_CHANGES: usize = 4096;
 
-/// How many bytes a key takes beside its term and the words of its changes: 64 in the map, whose nodes are two thirds full or more, and
-/// what the allocator keeps beside two blocks of memory.
-const KEY_WEIGHT: usize = 144;
+/// How many bytes a key takes in the map, whose nodes are two thirds full or more. Its term's bytes and the memory of words that its notes have no
+/// room for are counted beside.
+const KEY_WEIGHT: usize = size_of::<(Key, KeyNotes)>() * 3 / 2;
 
 /// A key that is noted no longer, with its changes: of each its record and how many places it has, and the places of all, one behind the
 /// other.

@@ -4,8 +4,12 @@ ghost use Rattle.std.specs.Prelude.{◌≡◌, ◌+◌, ◌*◌, ◌++◌, ◌�
 ghost use Rattle.zeb_change.specs.NoteWords.{number_words, place_words};
 ghost use Rattle.zeb_change.specs.PrivateNoteWords.{TakesNumber, TakesPlaces};
 
+use smallvec::SmallVec;
 use std::alloc::AllocError;
 use zeb_register::Place;
+
+/// The words of a key's changes. Most keys are changed in one record, or in few: eight words have room for a change of two places.
+pub(crate) type Words = SmallVec<u16, 8>;
 
 /// How many values a word has.
 const VALUES: u64 = 65_536;
@@ -14,7 +18,7 @@ const VALUES: u64 = 65_536;
 const WIDE: u16 = 65_535;
 
 /// Puts a number at the end.
-pub(crate) fn put_number(words: &mut Vec<u16>, number: u64) -> Result<(), AllocError>
+pub(crate) fn put_number(words: &mut Words, number: u64) -> Result<(), AllocError>
     ensures { OnOk result (words.new.items ≡ words.old.items ++ number_words number) }
 {
     if number < u64::from(WIDE) {
@@ -60,7 +64,7 @@ pub(crate) fn take_number<'a>(words: &'a [u16]) -> (u64, &'a [u16])
 }
 
 /// Puts places at the end, each as its unit and its place in that.
-pub(crate) fn put_places(words: &mut Vec<u16>, places: &[Place]) -> Result<(), AllocError>
+pub(crate) fn put_places(words: &mut Words, places: &[Place]) -> Result<(), AllocError>
     ensures { OnOk result (words.new.items ≡ words.old.items ++ place_words places.now) }
 {
     for place in places {

@@ -27,8 +27,8 @@ IsAnalysed profile limit texts answer = (said : Result (List Analysed) AnalysisF
 abbrev pub IsAnalysis : Conditions → List (List ℕ) → Result Reply Refusal → Type 0
 IsAnalysis c texts answer = IsAnalysed c.profile c.limits.records texts (answer_of answer) ⊎ (answer ≡ Err Memory)
 
--- what comes of files with these texts that are analysed one after the other: the lines of their records, or the first refusal, or memory
--- ran out
+-- what comes of files that are analysed one after the other: the lines of their records under the names of the
+-- profile's indexes, or the first refusal, or memory ran out
 abbrev pub HasLines : List Directive → ℕ → List (List ℕ) → Result AnalysedLines Refusal → Type 0
 HasLines profile limit texts (Ok lines) = AreLines (index_names profile) profile limit texts lines
 HasLines profile limit texts (Err refusal) = IsAnalysed profile limit texts (refused (why_of refusal)) ⊎ (refusal ≡ Memory)

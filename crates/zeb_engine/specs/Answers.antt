@@ -16,6 +16,8 @@ pub record Extent : Type 0 where
   pub terms : ℕ
   pub occurrences : ℕ
 
+-- what a command comes to: done, counts of changed records, what is found, terms with their counts, how much a
+-- database has, the bytes of records, what records are analysed to, or a refusal with its reason
 pub data Answer : Type 0 where
   done : Answer
   -- records inserted, updated and deleted
@@ -44,11 +46,12 @@ reply_answer (reply.Counted records last holdings) = counted records last (map e
 reply_answer (reply.Dumped bytes) = dumped bytes.items
 reply_answer (reply.Analysed names records) = analysed (map string_bytes names.items) (map analysing.analysed records.items)
 
+-- the answer that a reply or a refusal stands for
 abbrev pub answer_of : Result Reply Refusal → Answer
 answer_of (Ok reply) = reply_answer reply
 answer_of (Err refusal) = refused (why_of refusal)
 
--- the store or the memory failed
+-- an answer is the refusal that the store failed or that memory ran out
 abbrev pub IsFailure : Answer → Type 0
 IsFailure (refused why) = IsFailing why
 IsFailure answer = ⊥

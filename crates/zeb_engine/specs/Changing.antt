@@ -35,7 +35,7 @@ ElderOver profile name texts trees result =
 abbrev pub AreFewRecords : Limits → (texts : List (List ℕ)) → Type 0
 AreFewRecords limits texts = length (flat_map (λ (split : Split). split.slices) (splits_of texts)) ≤ limits.records
 
--- what a database keeps under the identifier of any record of these files is whole
+-- what a database keeps under the identifier of any record of these files, under whatever number, is whole
 abbrev pub EachFindsWhole : List Directive → (texts : List (List ℕ)) → Trees → ℤ → Type 0
 EachFindsWhole profile texts trees id = (split : Split) → Has (splits_of texts) split → (slice : List ℕ) → Has split.slices slice
     → (ident : List ℕ) → IsNamed profile slice ident → KeepsWhole profile trees id ident
@@ -46,7 +46,8 @@ abbrev pub EldersOver : {T : Type 0} → List Directive → Limits → (name : L
 EldersOver profile limits name texts trees result = OnOk result (AreFewRecords limits texts
     × ((id last : ℤ) → HasDatabase trees id name last → (given : ℕ) × (last ≡ pos given) × EachFindsWhole profile texts trees id))
 
--- the database of the name has this id and this last number; or none has the name, and it is one that an update makes
+-- the database of the name has this id and this last number; or no database has the name, the change is an update, which makes one, and
+-- this last number is 0
 abbrev pub IsOrBecomes : Kind → Trees → (name : List ℕ) → (id : ℤ) → (last : ℕ) → Type 0
 IsOrBecomes kind trees name id last =
     HasDatabase trees id name (pos last) ⊎ ((kind ≡ Update) × IsDatabaseOf trees name None × (last ≡ 0))
@@ -64,7 +65,9 @@ abbrev pub ReasonsOver : {T : Type 0} → List Directive → Kind → Limits →
 ReasonsOver profile kind limits name texts trees result =
     IfErr result (λ refusal. HasReason profile kind limits name texts trees refusal ⊎ ((refusal ≡ Damaged) ⊎ IsFailing (why_of refusal)))
 
--- all three on the tables of a store that keep the session's version and profile
+-- what is said of a change on the tables of a store that keep the session's version and profile: of its first record's elder
+-- (`ElderOver`); of how many records it has, the last number and all its elders, where it is accepted (`EldersOver`); and of why it is
+-- refused (`ReasonsOver`)
 abbrev pub ChangesReady : {T : Type 0} → (version : List ℕ) → List Directive → Kind → Limits → (name : List ℕ) → (texts : List (List ℕ)) → State
     → Result T Refusal → Type 0
 ChangesReady version profile kind limits name texts s result =
@@ -115,6 +118,8 @@ LosesNamedOver profile name texts old new = (id last : ℤ) → HasDatabase old 
 abbrev pub LosesNamed : {T : Type 0} → List Directive → (name : List ℕ) → (texts : List (List ℕ)) → (old new : State) → Result T Refusal → Type 0
 LosesNamed profile name texts old new result = IsStore old → OnOk result (LosesNamedOver profile name texts old.now.trees new.now.trees)
 
+-- what a change by files does on any tables of a store: which texts of the store refuse it, which elders it finds whole, why else it is
+-- refused, and what it leaves and loses once it is accepted
 pub record ChangeDoes (c : Conditions) (kind : Kind) (name : List ℕ) (texts : List (List ℕ)) (old new : State) (answer : Result Reply Refusal) : Type 0 where
   pub ready : GoesByTexts c.version c.profile old answer
   -- It finds what is kept under its first record's identifier whole, or is refused as damage or by a failure. Accepted, it has found so what is

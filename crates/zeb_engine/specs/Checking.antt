@@ -28,6 +28,8 @@ TellsImage trees result =
 abbrev pub ChecksTables : List ℕ → List Directive → State → Result Reply Refusal → Type 0
 ChecksTables version profile s result = IsStore s → IsReadyFor version profile s.now.trees → TellsImage s.now.trees result
 
+-- what a check does on any tables of a store: it changes nothing, goes by the texts of the store, and of a register that is ready tells
+-- whether the tables are an image, unless the store or the memory fails
 pub record CheckDoes (c : Conditions) (old new : State) (answer : Result Reply Refusal) : Type 0 where
   pub looks : OnlyLooks old new answer
   pub ready : GoesByTexts c.version c.profile old answer

@@ -1,4 +1,4 @@
--- What an accepted update or delete counts of the rows that it reads and writes.
+-- What an accepted update or delete counts as read and as written.
 use Rattle.std.specs.Prelude.{◌≡◌, ℕ, List, Result, Ok, OnOk}
 use Rattle.sqlite.specs.State.{State}
 use Rattle.sqlite.specs.Tree.{Trees}
@@ -24,16 +24,18 @@ pub record IsChangeCost (c : Conditions) (kind : Kind) (name : List ℕ) (texts 
   pub starts : start_of kind name (base_named name bases) ≡ Ok start
   pub cost : IsFilesCost c kind 1 (splits_of texts) (at_first start) n
 
--- The counts rise by the work for what the records cost. In packed blocks each of the four rises by the number of changed keys. In leaves it is a bound:
--- a leaf read and one written for each of these at most, and each leaf that comes written besides.
+-- The four counts rise by the work for what the records cost, capped. In rows and in blocks each rises by the layout's work of a row
+-- for each changed key: 1 in packed blocks, 0 in plain rows. In leaves two are bounded: at most as many leaves count as read, and as
+-- written as many and those that come; where none counts as written, and the count isn't at its greatest, none is changed. How many
+-- leaves are read and written isn't said.
 abbrev pub Costs : Format → (row_work : ℕ) → Conditions → Kind → List ℕ → List (List ℕ) → (was is : Work) → (old new : Trees) → Holdings → Type 0
 Costs format row_work c kind name texts was is old new before = (n : ℕ) × IsChangeCost c kind name texts before n × works_for format row_work n old new was is
 
--- no row was read or written
+-- the work whose four counts are 0
 abbrev pub no_work : Work
 no_work = record { dict_read = 0; dict_written = 0; block_read = 0; block_written = 0 }
 
--- an accepted change has counted the work for what its records cost, and no other
+-- from an image an accepted change has counted the work for what the records of its files cost (`Costs`), beginning with none
 abbrev pub CostsAlone : Format → (row_work : ℕ) → Conditions → Kind → List ℕ → List (List ℕ) → (old new : State) → Result Reply Refusal → Work → Type 0
 CostsAlone format row_work c kind name texts old new result work =
     OnOk result ((before : Holdings) → Keeps old before → Costs format row_work c kind name texts no_work work old.now.trees new.now.trees before)

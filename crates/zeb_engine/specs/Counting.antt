@@ -29,14 +29,14 @@ use Rattle.zeb_register.specs.Terms.{HidesSums, SumsUp}
 abbrev pub Target : Type 0
 Target = ℕ × Register
 
--- the register, where some line has it as a target
+-- the register alone where some line has it as a target, and else none
 abbrev pub target_in : List Directive → ℕ → Register → List Target
 target_in profile index register = if has_pair profile (index, register) then (index, register) ∷ [] else []
 
 abbrev pub targets_of_index : List Directive → ℕ → List Target
 targets_of_index profile index = target_in profile index Word ++ (target_in profile index Phrase ++ target_in profile index Number)
 
--- those of the indexes below a number
+-- the registers of the indexes below a number that some line has as a target
 abbrev pub targets_below : List Directive → ℕ → List Target
 targets_below profile zero = []
 targets_below profile (suc index) = targets_below profile index ++ targets_of_index profile index
@@ -64,7 +64,8 @@ module _ (profile : List Directive) where
     pub name : extent.name ≡ name_of_index profile target.0
     pub register : extent.register ≡ target.1
 
-  -- `IsSized` tells how much is there
+  -- the answer has this number of records, this last number, and in their order an extent for each register that the profile names, as
+  -- `IsSized` tells it
   abbrev pub IsCountedBy : (IsSized : Target → Extent → Type 0) → (records last : ℕ) → Answer → Type 0
   IsCountedBy IsSized records last answer = (extents : List Extent) × Paired IsSized (target_list profile) extents × (answer ≡ counted records last extents)
 
@@ -74,12 +75,15 @@ module _ (O : ℕ → Occurrence → Type 0) (profile : List Directive) where
     pub under : IsUnder profile target extent
     pub totals : AreTotals O target.0 target.1 (record { terms = extent.terms; occurrences = extent.occurrences })
 
+  -- a stat over a set of occurrences answers this number of records, this last number, and the totals of each register that the profile
+  -- names, capped where they are above the greatest number of 64 bits
   abbrev pub IsCounted : (records last : ℕ) → Answer → Type 0
   IsCounted = IsCountedBy profile IsExtent
 
 -- ---- a command on any tables of a store
 
--- its records are counted, and none of them is read
+-- what a stat answers by the postings: how many records the table of records has of the database, its last number, which is 0 or more,
+-- and the totals of each register that the profile names
 abbrev pub StatSays : List Directive → Said
 StatSays profile trees content db last answer =
     (kept : ℕ) × (given : ℕ) × IsRecordCount trees db kept × (last ≡ pos given) × IsCounted (posted content db) profile kept given answer
@@ -94,6 +98,8 @@ abbrev pub StatTells : Format → List Directive → Trees → OfDatabase
 StatTells format profile trees db last answer =
     (kept : ℕ) × (given : ℕ) × IsRecordCount trees db kept × (last ≡ pos given) × IsCountedBy profile (IsSummedUp format profile trees db) kept given answer
 
+-- on any tables a stat is refused for want of the database, or answered by the number of its records, its last number and the sums of
+-- each register that the profile names
 abbrev pub StatOver : Format → List Directive → (name : List ℕ) → Trees → Answer → Type 0
 StatOver format profile name trees = IsSaidOrMissed (StatTells format profile trees) name trees
 
@@ -106,6 +112,8 @@ HidesRegister format targets trees db =
 abbrev pub HidesRegisters : Format → List Directive → (name : List ℕ) → Trees → Type 0
 HidesRegisters format profile name trees = HidesOf (HidesRegister format (target_list profile) trees) name trees
 
+-- what a stat does on any tables of a store: it changes nothing, goes by the texts of the store, is answered by the postings where the
+-- tables hold a content, and of a ready register tells damage only where its last number or one of its sums can't be shown
 pub record StatDoes (format : Format) (c : Conditions) (name : List ℕ) (old new : State) (answer : Result Reply Refusal) : Type 0 where
   pub looks : OnlyLooks old new answer
   pub ready : GoesByTexts c.version c.profile old answer

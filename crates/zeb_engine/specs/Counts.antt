@@ -1,4 +1,4 @@
--- What a command counts of the rows that it reads and writes: one case a command.
+-- What a command counts as read and as written: one case a command.
 use Rattle.std.specs.Prelude.{◌≡◌, ℕ, List, map, OnOk, Result, string_bytes}
 use Rattle.sqlite.specs.State.{HasCleanDisk, State}
 use Rattle.zeb_register.specs.declared.registers.Work.{Work}
@@ -15,10 +15,12 @@ use Rattle.zeb_engine.specs.Costs.{CostsAlone, no_work}
 use Rattle.zeb_engine.specs.Finding.{FindReads}
 use Rattle.zeb_engine.specs.Scanning.{ScanReads}
 
--- An accepted change has counted the work for the keys that its records change, and no other. An accepted scan has read the terms that it was
--- asked for, one more at most, and nothing else. An accepted find has written nothing, and read no more lists than those that its query asks
--- for. Of terms it has read no more than the searched registers have, once for each pattern with a star and for each term of the query that asks
--- for entries which it doesn't name. Of a stat nothing is said. Each other command has counted nothing, whatever it answers.
+-- On a disk that is clean at the end: from an image an accepted change has counted the work for the keys that its records change, and
+-- no other. Over a content an accepted scan, whose start is at one of the places asked for, has counted as read at most the terms that
+-- it was asked for and one more, and nothing else. An accepted find over a content has counted nothing as written, and as read no more
+-- rows than the lists have that its query asks for; of terms no more than the searched registers have, once for each pattern with a
+-- star and for each term of the query that asks for entries which it doesn't name. Of a stat nothing is said. Each other command has
+-- counted nothing, whatever it answers and on whatever disk.
 abbrev pub Counted : Format → (row_work : ℕ) → (block_rows : List Posting → ℕ) → Conditions → Command → (old new : State) → Result Reply Refusal → Work → Type 0
 Counted format row_work block_rows c Init old new answer work = work ≡ no_work
 Counted format row_work block_rows c (Create name) old new answer work = work ≡ no_work
@@ -51,6 +53,8 @@ IsUncounted format row_work (Dump name) = row_work ≡ 0
 IsUncounted format row_work (Scan name query number position) = row_work ≡ 0
 IsUncounted format row_work (Analyse files) = row_work ≡ 0
 
+-- what is said of a command's counts: what it has counted (`Counted`), and that it has counted nothing where no row of it counts
+-- (`IsUncounted`)
 pub record CommandCounts (format : Format) (row_work : ℕ) (block_rows : List Posting → ℕ) (c : Conditions) (command : Command) (old new : State)
     (answer : Result Reply Refusal) (work : Work) : Type 0 where
   pub counted : Counted format row_work block_rows c command old new answer work

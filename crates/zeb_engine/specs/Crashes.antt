@@ -63,17 +63,20 @@ Accepts answer = (why : Why) → answer ≢ refused why
 abbrev pub CommitsBy : (Told : Holdings → Answer → Holdings → Type 0) → State → Trees → Type 0
 CommitsBy Told old db = (before : Holdings) → Keeps old before → (answer : Answer) × (later : Holdings) × Told before answer later × Accepts answer × Stands db later
 
+-- from an image, what a command may commit: what an accepted step of it leaves
 abbrev pub CommitsCommand : Conditions → Command → State → Trees → Type 0
 CommitsCommand c command = CommitsBy (Step c command)
 
--- what a reindex leaves on the tables of a store, whatever the registers held
+-- what a reindex may commit on any tables of a store, whatever the registers held: the lists as they were, with registers of them under
+-- its profile (`IsRemade`); it stands for the databases of the lists where they can be held under that profile and no text has a fourth
+-- name
 abbrev pub CommitsReindex : Format → List Directive → State → Trees → Type 0
 CommitsReindex format profile old db = IsStore old →
     IsRemade format profile old.now.trees db
     × ((bases : List Base) → CanBeRemade profile old.now.trees bases → Stands db (under (version_of format) (canonical_text profile) bases))
 
--- what a command commits: an accepted step of it leaves that; of a reindex also registers of the lists, whatever these held; and a command
--- that only asks commits nothing, whatever the tables hold
+-- what a command may commit: from an image what an accepted step of it leaves; a reindex, on any tables of a store, also just registers
+-- of the lists, whatever the registers held; and a command that only asks, or an analysis, nothing, whatever the tables hold
 abbrev pub MayCommit : Format → Conditions → Command → State → Trees → Type 0
 MayCommit format c Init old = CommitsCommand c Init old
 MayCommit format c (Create name) old = CommitsCommand c (Create name) old
@@ -101,6 +104,8 @@ LeavesOne c before (command ∷ commands) (answer ∷ answers) db =
     IsCarriedOut c command before answer db
     ⊎ ((later : Holdings) × TellsOrFails (Step c command) before answer later × LeavesOne c later commands answers db)
 
+-- from an image, what a list of commands may commit: what an accepted step of one of them leaves, on what those before it left, where
+-- this was its answer or its store failed
 abbrev pub CommitsOne : Conditions → List Command → List Answer → State → Trees → Type 0
 CommitsOne c commands answers old db = (before : Holdings) → Keeps old before → LeavesOne c before commands answers db
 
@@ -120,6 +125,7 @@ Endures Told old new (Err Store) =
     → Stands db before ⊎ ((answer : Answer) × (later : Holdings) × Told before answer later × Stands db later)
 Endures Told old new (Err refusal) = (before : Holdings) → Leaves old before → Leaves new before
 
+-- what a command may commit, and so what a crash leaves where the disk is clean at the end
 pub record CommandLasts (format : Format) (c : Conditions) (command : Command) (old new : State) (answer : Result Reply Refusal) : Type 0 where
   -- nothing else is committed
   pub survives : Survives old new (MayCommit format c command old)
@@ -148,12 +154,15 @@ RunLeft c before (command ∷ commands) (answer ∷ answers) last =
 RunLeft c before [] (answer ∷ answers) last = ⊥
 RunLeft c before (command ∷ commands) [] last = ⊥
 
--- A crash leaves what such a run does, and so does the connection show it, where it is open.
+-- where the tables were an image and a crash before left only that: a crash after a list of commands leaves what a run by the given
+-- answers leaves, and an open connection shows the same; but one command whose store failed may have been carried out, and then all
+-- later ones that ask the store are refused
 abbrev pub EnduresRun : Conditions → List Command → List Answer → State → State → Type 0
 EnduresRun c commands answers old new =
     (before : Holdings) → Keeps old before → Leaves old before → (db : Trees) → new.may_leave db
     → (last : Holdings) × RunLeft c before commands answers last × Stands db last × Keeps new last
 
+-- what a list of commands may commit, and so what a crash leaves where the disk is clean at the end
 pub record RunLasts (c : Conditions) (commands : List Command) (old new : State) (result : Result (Vec (Result Reply Refusal) Global) Refusal) : Type 0 where
   -- nothing is committed but what one of the commands leaves, on what those before it left
   pub survives : Survives old new (λ db. IsOkAnd result (λ answers. CommitsOne c commands (map answer_of answers.items) old db))
@@ -162,6 +171,7 @@ pub record RunLasts (c : Conditions) (commands : List Command) (old new : State)
 
 -- ---- after a store is taken over, or isn't
 
+-- what taking a store over may commit, and so what a crash leaves where the disk is clean at the end
 pub record AdoptLasts (old new : State) : Type 0 where
   -- nothing is committed but the store of the holdings that were there
   pub survives : Survives old new (CommitsAdopted old)

@@ -33,6 +33,7 @@ use Rattle.zeb_register.specs.Store.{IsStore}
 abbrev pub InitLeaves : Conditions → (old new : State) → Type 0
 InitLeaves c old new = IsStore old → Keeps new (holding c [])
 
+-- what a command does on any tables of a store, one case a command
 abbrev pub Does : Format → Conditions → Command → (old new : State) → Result Reply Refusal → Type 0
 Does format c Init old new answer = OnOk answer (InitLeaves c old new)
 Does format c (Create name) old new answer = CreateDoes c (name_bytes name) old new answer
@@ -47,7 +48,8 @@ Does format c (Dump name) old new answer = DumpDoes c (name_bytes name) old new 
 Does format c (Scan name query number position) old new answer = ScanDoes format c (name_bytes name) (string_bytes query) number position old new answer
 Does format c (Analyse files) old new answer = OnlyLooks old new answer
 
--- all that is said of a command on any tables
+-- all that is said of a command on any tables: refused, it changes nothing; what it does (`Does`); and damage is told only where the
+-- tables are no image
 pub record CommandOverTables (format : Format) (c : Conditions) (command : Command) (old new : State) (answer : Result Reply Refusal) : Type 0 where
   -- refused, it changes nothing
   pub refused : OnErr answer (ChangesNothing old new)

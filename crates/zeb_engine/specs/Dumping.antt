@@ -32,13 +32,17 @@ pub record AreRecordsOf (trees : Trees) (db : ℤ) (records : List Kept) : Type 
 abbrev pub JoinsRecords : Trees → ℤ → List ℕ → Type 0
 JoinsRecords trees db bytes = (records : List Kept) × AreRecordsOf trees db records × (bytes ≡ flat_map (λ kept. kept.bytes) records)
 
--- they are dumped
+-- a dump answers the bytes of records of the database, one for each number of 0 or more that has one and that a
+-- column stores, in the order of their numbers
 abbrev pub DumpTells : Trees → OfDatabase
 DumpTells trees db last answer = (bytes : List ℕ) × JoinsRecords trees db bytes × (answer ≡ dumped bytes)
 
+-- on any tables a dump is refused for want of the database, or answered by the bytes of its records
 abbrev pub DumpOver : (name : List ℕ) → Trees → Answer → Type 0
 DumpOver name trees = IsSaidOrMissed (DumpTells trees) name trees
 
+-- what a dump does on any tables of a store: it changes nothing, goes by the texts of the store, and of a ready register tells damage
+-- only where the last number of its database or one of its records can't be read
 pub record DumpDoes (c : Conditions) (name : List ℕ) (old new : State) (answer : Result Reply Refusal) : Type 0 where
   pub looks : OnlyLooks old new answer
   pub ready : GoesByTexts c.version c.profile old answer

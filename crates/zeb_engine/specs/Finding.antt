@@ -81,24 +81,30 @@ module _ (Named : ℕ → List ℕ → Type 0) where
 
 -- the same over a set of occurrences `O`: the hits are the numbers of the records on which the plan holds
 module _ (O : ℕ → Occurrence → Type 0) (Named : ℕ → List ℕ → Type 0) where
-  -- a record with this number is named
+  -- the record of this number has an identifier, and so it is kept
   abbrev pub IsNamed : ℕ → Type 0
   IsNamed n = (ident : List ℕ) × Named n ident
 
   abbrev pub AreHits : PlanValue → List ℕ → Type 0
   AreHits plan = AreNumbers (TreeHolds O IsNamed plan)
 
+  -- the hits are just the numbers on which the plan holds, rising; they are counted, and those that are asked for are shown, or a first
+  -- above 1 and past the last hit is diagnostic 13
   abbrev pub IsFound : PlanValue → ℕ → ℕ → Answer → Type 0
   IsFound = IsFoundBy Named AreHits
 
   abbrev pub IsPlanned : Result PlanValue QueryRefusal → ℕ → ℕ → Answer → Type 0
   IsPlanned = IsPlannedBy Named AreHits
 
+  -- a find over a set of occurrences: the text spells a query, and one without a plan is refused by its first
+  -- diagnostic. The hits are just the numbers on which its plan holds, rising. They are counted, and those asked for
+  -- shown with their identifiers, or a first above 1 and past the last hit is diagnostic 13
   abbrev pub IsAnswered : List Directive → List ℕ → ℕ → ℕ → Answer → Type 0
   IsAnswered = IsAnsweredBy Named AreHits
 
 -- ---- a command on any tables of a store
 
+-- what a find answers by the definition, read with the postings and with the identifiers in the table of records
 abbrev pub FindSays : List Directive → List ℕ → ℕ → ℕ → Said
 FindSays profile text first count trees content db last = IsAnswered (posted content db) (has_ident_in trees db) profile text first count
 
@@ -151,6 +157,7 @@ FindAlone format profile name text first count s result =
 abbrev pub FindTells : Format → List Directive → (text : List ℕ) → (first count : ℕ) → Trees → OfDatabase
 FindTells format profile text first count trees db last = IsAnsweredBy (has_ident_in trees db) (PlanFinds format trees db) profile text first count
 
+-- on any tables a find is answered by the first refusal of the definition, or by the hits that the units and counts tell
 abbrev pub FindOver : Format → List Directive → (name text : List ℕ) → (first count : ℕ) → Trees → Answer → Type 0
 FindOver format profile name text first count trees = IsAsked (FindTells format profile text first count trees) name text trees
 
@@ -165,25 +172,30 @@ abbrev pub HidesPlan : Format → List Directive → (text : List ℕ) → (firs
 HidesPlan format profile text first count trees id =
     (plan : PlanValue) × IsPlanOf profile text plan × (PlanHides format trees id plan ⊎ HidesFound format trees id plan first count)
 
--- over any tables a find is refused as damage only where that is so, or the database's last number is below 0
+-- a find of this text may tell damage: the text has no fault, and the last number of its database is below 0, something that its plan
+-- asks for or a row of a stray entry is malformed, or a hit that is wanted can't be shown
 abbrev pub HidesFind : Format → List Directive → (name text : List ℕ) → (first count : ℕ) → Trees → Type 0
 HidesFind format profile name text first count trees = IsReadable text × HidesOf (HidesPlan format profile text first count trees) name trees
 
--- Over the plan of a query no row is written. Read are, of `dict`, no more rows than the searched registers have distinct terms, once for
--- each pattern with a star and for each term of the query that asks for entries which it doesn't name; and of `blocks` no more than the
--- lists have of the entries that it asks for. This is said of the database of the name.
+-- What counts over the plan of a query, in the database of the name: nothing as written; as read of `dict` no more rows than the
+-- searched registers have distinct terms, once for each pattern with a star and for each term of the query that asks for entries which
+-- it doesn't name; and of `blocks` no more than the lists have of the entries that it asks for.
 abbrev pub PlanReads : (row_work : ℕ) → (block_rows : List Posting → ℕ) → PlanValue → List ℕ → Trees → Content → Work → Work → Type 0
 PlanReads row_work block_rows plan name trees content before after =
     (id : ℤ) × (last : ℤ) × HasDatabase trees id name last
     × (most_terms : ℕ) × (most_blocks : ℕ) × PlanDict row_work content id plan most_terms × PlanRows block_rows content id plan most_blocks
     × CountsAtMost most_terms most_blocks before after
 
--- so the query is answered, on the tables of a store that hold a content
+-- on the tables of a store that hold a content a find's text spells a query with a plan, and no more counts as read than that plan asks
+-- for, and nothing as written (`PlanReads`)
 abbrev pub FindReads : Format → (row_work : ℕ) → (block_rows : List Posting → ℕ) → List Directive → (name text : List ℕ) → State → Work → Work → Type 0
 FindReads format row_work block_rows profile name text s before after =
     IsStore s → (content : Content) → holds_in format s.now.trees content
     → (plan : PlanValue) × IsPlanOf profile text plan × PlanReads row_work block_rows plan name s.now.trees content before after
 
+-- what a find does on any tables of a store: it changes nothing, goes by the texts of the store, is answered by the postings where the
+-- tables hold a content, and of a ready register is refused only by the definition, for damage in what it asks for or a stray entry, or
+-- by a failure
 pub record FindDoes (format : Format) (c : Conditions) (name query : List ℕ) (first count : ℕ) (old new : State) (answer : Result Reply Refusal) : Type 0 where
   -- nothing changes, and the store fails only for a cause; and so it is of each command that only asks
   pub looks : OnlyLooks old new answer

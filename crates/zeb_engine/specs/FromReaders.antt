@@ -34,7 +34,9 @@ pub record NamesFaults {R T : Type 0} (may_fail has_failed : R → Bool) (before
   pub able : StayAble may_fail has_failed before after
 
 module _ {R : Type 0} (remaining : R → Option (List ℕ)) (has_failed : R → Bool) (before after : List R) (c : Conditions) (kind : Kind) (name : List ℕ) (old new : State) (answer : Result Reply Refusal) where
-  -- what it does on any tables, and whatever the readers tell
+  -- what a change by readers does on any tables of a store: by which texts it goes and what it leaves, whatever the readers tell; which
+  -- records it finds whole and why it is refused, where they tell their texts and none has failed; what it loses, where they tell them;
+  -- and damage is told only where the tables are no image
   pub record ReadersChange : Type 0 where
     -- the texts of the store tell whether its register was ready
     pub ready : GoesByTexts c.version c.profile old answer

@@ -11,7 +11,7 @@ use Rattle.zeb_engine.specs.Answers.{answer_of}
 use Rattle.zeb_change.specs.Conditions.{Conditions}
 use Rattle.zeb_engine.specs.Works.{Runs}
 
--- From tables that are an image, on a disk that has returned what was written: the answers are those of a run of the commands,
--- and the tables are then the image of what the run leaves.
+-- on a disk that is clean at the end, from tables that are an image: the answers are those of a run, in which any command may fail and
+-- change nothing, and the tables are then the image of what the run leaves, if the connection is open
 abbrev pub Headline : Conditions → List Command → List (Result Reply Refusal) → State → State → Type 0
 Headline c commands results old new = HasCleanDisk new → Runs c commands (map answer_of results) old new

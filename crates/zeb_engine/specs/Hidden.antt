@@ -23,7 +23,8 @@ HidesOf Hides name trees = HidesDatabase name trees ⊎ ((id : ℤ) × (last : �
 abbrev pub TellsUnlessHidden : (Over : Trees → Answer → Type 0) → (Hides : Trees → Type 0) → Trees → Result Reply Refusal → Type 0
 TellsUnlessHidden Over Hides trees result = Over trees (answer_of result) ⊎ (((result ≡ Err Damaged) × Hides trees) ⊎ IsFailure (answer_of result))
 
--- on the tables of a store that keep the session's version and profile
+-- on the tables of a store that keep the session's version and profile a command is answered as `Over` says, accepted or refused; or it
+-- tells damage, and something can't be read, as `Hides` says; or the store or the memory failed
 abbrev pub UnlessHidden : (version : List ℕ) → List Directive → (Over : Trees → Answer → Type 0) → (Hides : Trees → Type 0) → State
     → Result Reply Refusal → Type 0
 UnlessHidden version profile Over Hides s result =

@@ -49,6 +49,8 @@ pub record DropsDatabase (name : List ℕ) (old new : State) : Type 0 where
 abbrev pub OnAccepted : {T : Type 0} → (Leaves : State → State → Type 0) → (old new : State) → Result T Refusal → Type 0
 OnAccepted Leaves old new result = IsStore old → OnOk result (Leaves old new)
 
+-- what a create does on any tables of a store: it goes by the texts of the store and then by the row of its name, tells damage only
+-- where this can't be read, and once it is accepted makes the database and changes no other row
 pub record CreateDoes (c : Conditions) (name : List ℕ) (old new : State) (answer : Result Reply Refusal) : Type 0 where
   -- the texts of the store tell whether the register was ready; and so it is of each command that goes by its databases
   pub ready : GoesByTexts c.version c.profile old answer
@@ -57,6 +59,8 @@ pub record CreateDoes (c : Conditions) (name : List ℕ) (old new : State) (answ
   -- accepted, it makes the database, and changes no other row
   pub makes : OnAccepted (MakesDatabase name) old new answer
 
+-- what a drop does on any tables of a store: it goes by the texts of the store and then by the row of its name, tells damage only where
+-- this can't be read, and once it is accepted takes the database with all its rows and changes no other
 pub record DropDoes (c : Conditions) (name : List ℕ) (old new : State) (answer : Result Reply Refusal) : Type 0 where
   pub ready : GoesByTexts c.version c.profile old answer
   pub told : UnlessHidden c.version c.profile (DropOver name) (HidesDatabase name) old answer

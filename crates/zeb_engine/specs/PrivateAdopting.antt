@@ -12,7 +12,7 @@ use Rattle.zeb_engine.specs.Adopting.{HasOtherTables}
 use Rattle.zeb_register.specs.Tables.{no_schema, store_schema}
 use Rattle.zeb_register.specs.Store.{IsStore, LacksLists, LacksRegisters}
 
--- the tables are there, committed, and hold no row
+-- the store's tables are there, committed and without a row, and the connection is open
 pub record HoldsNothing (s : State) : Type 0 where
   pub is_open : IsTrue s.is_open
   pub store : IsStore s
@@ -20,7 +20,7 @@ pub record HoldsNothing (s : State) : Type 0 where
   pub registers : LacksRegisters s.now.trees
   pub settled : s.committed ≡ s.now
 
--- no table yet or this store's six, as a store that is taken over has
+-- the store has no table yet or this store's six, and the rows of an open one obey their rules
 pub record MayBeTaken (s : State) : Type 0 where
   pub tables : (s.now.schema ≡ no_schema) ⊎ (s.now.schema ≡ store_schema)
   pub live : IsLive s

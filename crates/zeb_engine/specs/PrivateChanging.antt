@@ -25,7 +25,7 @@ MayBeginUnder kind name None c trees before = (bases : List Base) × (ready c be
 MayBeginUnder kind name (Some found) c trees before =
     (bases : List Base) × (base : Base) × (ready c before ≡ Ok bases) × (base_named name bases ≡ Some base) × HasDatabase trees found.id.0 base.name (pos base.last) × (found.last ≡ base.last)
 
--- what a change by these files comes to
+-- what a change by these files makes of what is held, by what it works under
 abbrev pub comes_to : List ℕ → Setting → List ℕ → List (List ℕ) → Holdings → Outcome
 comes_to version setting name texts = turned (conditions_of version setting) (changed_by_files (conditions_of version setting) setting.kind name (splits_of texts))
 
@@ -41,7 +41,7 @@ IsMissedFor kind trees name refusal =
     ((kind ≢ Update) × IsDatabaseOf trees name None × (why_of refusal ≡ no_database name))
     ⊎ (((refusal ≡ Damaged) × ¬ AreCountedDatabases trees name) ⊎ IsFailing (why_of refusal))
 
--- this is what the tables know of the name, and only an update begins with none
+-- this is what the tables know of the name: a database, or none, with which only an update begins
 abbrev pub BeginsWith : Kind → Trees → List ℕ → Option Database → Type 0
 BeginsWith kind trees name None = IsDatabaseOf trees name None × (kind ≡ Update)
 BeginsWith kind trees name (Some found) = IsDatabaseOf trees name (Some found)

@@ -12,7 +12,8 @@ use Rattle.zeb_register.specs.Tables.{store_schema}
 use Rattle.zeb_change.specs.RecordChanges.{AreStores}
 use Rattle.zeb_engine.specs.Changing.{HasNumbersTo}
 
--- the first record, if there is one, has no number below 1, and none was found above the last number
+-- of the record with the least number, and the first above the last number: the first one, if there is one, has no
+-- number below 1, and the second isn't there
 abbrev pub AreGiven : (first above : Option Record) → Type 0
 AreGiven first (Some found) = ⊥
 AreGiven None None = Unit {0}

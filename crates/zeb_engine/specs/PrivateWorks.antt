@@ -12,7 +12,7 @@ use Rattle.zeb_change.specs.Base.{Base}
 use Rattle.zeb_image.specs.Image.{Keeps}
 use Rattle.zeb_engine.specs.Steps.{Outcome, ready}
 
--- nothing had to be found out
+-- nothing had to be found out before a call: any tables and holdings fit
 abbrev pub Always : Trees → Holdings → Type 0
 Always trees before = Unit {0}
 

@@ -114,7 +114,7 @@ abbrev pub WriteDoes : Format → Write → (old new : Database) → Result Repl
 WriteDoes format write old new (Ok told) = (told ≡ Done) × WriteLeaves format write old new
 WriteDoes format write old new (Err refusal) = IsFailing (why_of refusal) ⊎ ((refusal ≡ Damaged) × DamagesWrite write old.trees)
 
--- whatever the disk does, only a failure refuses an init
+-- which refusals there are of a write, whatever the disk does: of an `init` only a failure
 abbrev pub IsWriteRefusal : Write → Refusal → Type 0
 IsWriteRefusal (write.Init profile pattern) refusal = IsFailing (why_of refusal)
 IsWriteRefusal (write.Create name) refusal = IsAskRefusal refusal
@@ -124,6 +124,7 @@ IsWriteRefusal (write.Upgrade alloc profile) refusal = IsAskRefusal refusal
 
 -- ---- a create and a drop, which go by the row of the name
 
+-- what a create and a drop do on any tables of a store, by the row of the name
 abbrev pub CreatesDatabase : (name : List ℕ) → (old new : Database) → Result Reply Refusal → Type 0
 CreatesDatabase name old new (Ok told) = IsDatabaseOf old.trees name None × (told ≡ Done) × MakesRow name old new
 CreatesDatabase name old new (Err refusal) =

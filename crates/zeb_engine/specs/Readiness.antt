@@ -51,12 +51,14 @@ IsRefusedOver version profile trees Store = Unit {0}
 IsRefusedOver version profile trees Memory = Unit {0}
 IsRefusedOver version profile trees other = IsReadyFor version profile trees
 
--- On the tables of a store: accepted, the register is ready.
+-- on any tables of a store: where a command is accepted, the store keeps this version and the canonical text of this profile; where it
+-- is refused, the store's texts are such that it may be refused so (`IsRefusedOver`)
 abbrev pub GoesByTexts : {T : Type 0} → List ℕ → List Directive → State → Result T Refusal → Type 0
 GoesByTexts version profile s result =
     IsStore s → MatchResult result (λ _. IsReadyFor version profile s.now.trees) (IsRefusedOver version profile s.now.trees)
 
--- On the tables of a store: it is told whether the version that they keep is this one, unless no text can be told.
+-- on the tables of a store: a call tells whether they keep this version, and what they keep as one can be read; or it is refused as
+-- damage, and that can't be read; or the store or the memory failed
 abbrev pub TellsVersion : List ℕ → State → Result Bool Refusal → Type 0
 TellsVersion version s result =
     IsStore s → MatchResult result (TellsText (codes "version") version s.now.trees) (RefusesText (codes "version") s.now.trees)

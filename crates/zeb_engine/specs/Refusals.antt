@@ -29,6 +29,7 @@ unknown_text file nth = place_text file nth ++ codes "unknown identifier"
 abbrev pub read_text : ℕ → List ℕ
 read_text file = codes "zebraidx: file " ++ decimal file ++ codes ": read fault"
 
+-- the line of a refusal
 abbrev pub refusal_text : Refusal → List ℕ
 refusal_text NotInitialised = codes "zebraidx: register not initialised"
 refusal_text OldFormat = codes "zebraidx: register has another format"
@@ -45,6 +46,7 @@ refusal_text (ReadFault file) = read_text file
 refusal_text Store = codes "zebraidx: store fault"
 refusal_text Memory = codes "zebraidx: out of memory"
 
+-- the status of a refusal: 3 for a reader's failure, a failed store or want of memory, and else 1
 abbrev pub status_of : Refusal → ℕ
 status_of NotInitialised = 1
 status_of OldFormat = 1

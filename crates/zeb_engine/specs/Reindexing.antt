@@ -25,6 +25,7 @@ abbrev pub KeepsRule : List Directive → Trees → Type 0
 KeepsRule profile trees =
     (pattern : List ℕ) × (option_map pattern_text (identifier_pattern profile) ≡ Some pattern) × KeepsText trees (codes "identifier") pattern
 
+-- the store keeps this version and this profile's rule for identifiers, and the rule that it keeps can be read
 pub record IsReadyToReindex (version : List ℕ) (profile : List Directive) (trees : Trees) : Type 0 where
   pub has_version : KeepsText trees (codes "version") version
   pub has_rule : KeepsRule profile trees
@@ -77,6 +78,8 @@ ReindexLeaves format profile old new = IsStore old →
     IsStore new × IsRemade format profile old.now.trees new.now.trees
     × ((bases : List Base) → CanBeRemade profile old.now.trees bases → Keeps new (under (version_of format) (canonical_text profile) bases))
 
+-- what a reindex does on any tables of a store, whatever the registers hold: it goes by the texts and by the kept records, and once it
+-- is accepted leaves the lists and each text but the profile's, with registers of these lists
 pub record ReindexDoes (format : Format) (c : Conditions) (old new : State) (answer : Result Reply Refusal) : Type 0 where
   -- it goes by the texts and by the kept records, whatever the registers hold
   pub told : ReindexesTables c.version c.profile old answer

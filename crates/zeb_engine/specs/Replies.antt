@@ -35,7 +35,7 @@ hit_line hit = line (decimal hit.sysno ++ codes " " ++ string_bytes hit.ident)
 abbrev pub shown_number : List ℕ → List ℕ
 shown_number term = if length term == 18 && list_all is_ascii_digit term then decimal (digits_value 10 term) else term
 
--- a term as it is printed
+-- a term as it is printed: a number without leading zeros, and a word or a phrase as it is
 abbrev pub shown_term : Register → List ℕ → List ℕ
 shown_term Word term = term
 shown_term Phrase term = term
@@ -45,6 +45,7 @@ shown_term Number term = shown_number term
 abbrev pub entry_line : Register → TermCount → List ℕ
 entry_line register entry = line (shown_term register entry.term ++ codes " " ++ decimal entry.records)
 
+-- a line with the number of records, and one with the last number
 abbrev pub records_text : ℕ → ℕ → List ℕ
 records_text records last = line (codes "records " ++ decimal records) ++ line (codes "last " ++ decimal last)
 
@@ -56,6 +57,7 @@ holding_line holding = line (string_bytes holding.index ++ codes ":" ++ register
 abbrev pub record_lines : List (List ℕ) → Analysis → List ℕ
 record_lines names analysis = analysis_text names (analysed analysis)
 
+-- what is printed of a reply: its lines, or of a dump the bytes of the records
 abbrev pub reply_text : Reply → List ℕ
 reply_text Done = line (codes "ok")
 reply_text (Changed inserted updated deleted) = changed_text inserted updated deleted

@@ -16,6 +16,6 @@ are_same (Some one) (Some other) = bytes_eq one other
 are_same (Some one) None = false
 are_same None other = false
 
--- two canonical texts have one rule for identifiers
+-- two texts each have a line that begins with `identifier `, and the first such lines are the same
 abbrev pub same_rule : List ℕ → List ℕ → Bool
 same_rule one other = are_same (rule_line one) (rule_line other)

@@ -63,11 +63,15 @@ module _ (O : ℕ → Occurrence → Type 0) where
   abbrev pub IsScanPlanned : Result ScanValue QueryRefusal → ℕ → ℕ → Answer → Type 0
   IsScanPlanned = IsScanPlannedBy (AreAround O)
 
+  -- a scan over a set of occurrences: the text spells a query, and one without a plan for a scan is refused by its first diagnostic.
+  -- Else it answers terms that some record has in the plan's register, each with how many records have it: the position - 1 nearest
+  -- below the start, as far as there are, and behind them the first number + 1 - position that aren't below it
   abbrev pub IsScanned : List Directive → List ℕ → ℕ → ℕ → Answer → Type 0
   IsScanned = IsScannedBy (AreAround O)
 
 -- ---- a command on any tables of a store
 
+-- what a scan answers by the definition, read with the postings
 abbrev pub ScanSays : List Directive → List ℕ → ℕ → ℕ → Said
 ScanSays profile text number position trees content db last = IsScanned (posted content db) profile text number position
 
@@ -79,10 +83,12 @@ pub record TellsAround (format : Format) (trees : Trees) (db : ℤ) (plan : Scan
   pub from : ListsFrom format trees db plan.index plan.register plan.start (number + 1 - position) rest
   pub joined : terms ≡ below ++ rest
 
--- they are answered as those of the register that the query asks for
+-- a scan answers the terms around its start as the counts tell them, of the register that its query asks for, or is refused by its
+-- query's meaning
 abbrev pub ScanTells : Format → List Directive → (text : List ℕ) → (number position : ℕ) → Trees → OfDatabase
 ScanTells format profile text number position trees db last = IsScannedBy (TellsAround format trees db) profile text number position
 
+-- on any tables a scan is answered by the first refusal of the definition, or by the terms that the counts tell
 abbrev pub ScanOver : Format → List Directive → (name text : List ℕ) → (number position : ℕ) → Trees → Answer → Type 0
 ScanOver format profile name text number position trees = IsAsked (ScanTells format profile text number position trees) name text trees
 
@@ -101,13 +107,16 @@ HidesPlanned format profile text number position trees db =
 abbrev pub HidesTerms : Format → List Directive → (name text : List ℕ) → (number position : ℕ) → Trees → Type 0
 HidesTerms format profile name text number position trees = IsReadable text × HidesOf (HidesPlanned format profile text number position trees) name trees
 
--- On the tables of a store that hold a content, so many terms are read as are asked for, one more at most, and nothing else. The start is
--- at one of the places that are asked for.
+-- On the tables of a store that hold a content, at most as many terms count as read as are asked for and one more, and nothing else.
+-- The start is at one of the places that are asked for.
 abbrev pub ScanReads : Format → ℕ → ℕ → ℕ → State → Work → Work → Type 0
 ScanReads format row_work number position s before after =
     IsStore s → (content : Content) → holds_in format s.now.trees content → 1 ≤ position → position ≤ number
     → CountsAtMost (row_work * (number + 1)) 0 before after
 
+-- what a scan does on any tables of a store: it changes nothing, goes by the texts of the store, is answered by the postings where the
+-- tables hold a content, and of a ready register tells damage only where its database's last number or the count of a term that it asks
+-- for can't be shown
 pub record ScanDoes (format : Format) (c : Conditions) (name query : List ℕ) (number position : ℕ) (old new : State) (answer : Result Reply Refusal) : Type 0 where
   pub looks : OnlyLooks old new answer
   pub ready : GoesByTexts c.version c.profile old answer

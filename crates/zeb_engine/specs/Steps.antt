@@ -54,9 +54,12 @@ abbrev pub turned_from : Conditions → Turn → Holdings → Result (List Base)
 turned_from c turn before (Ok bases) = ends c before (turn bases)
 turned_from c turn before (Err why) = (refused why, before)
 
+-- what a command answers on the databases of a register that is ready, and what is held then; a register that isn't ready is refused,
+-- and any refusal leaves what was held
 unfoldable pub turned : Conditions → Turn → Holdings → Outcome
 turned c turn before = turned_from c turn before (ready c before)
 
+-- an init is done, and leaves a register without a database, under the session's version and profile, whatever was held
 unfoldable pub initialised : Conditions → Holdings → Outcome
 initialised c before = (done, holding c [])
 
@@ -64,6 +67,7 @@ abbrev pub created_in : List ℕ → List Base → Option Base → Result (Answe
 created_in name bases (Some base) = Err exists
 created_in name bases None = Ok (done, with_base (new_base name) bases)
 
+-- a create makes one database more, without a record, or is refused where the name isn't free
 unfoldable pub created : List ℕ → Turn
 created name bases = created_in name bases (base_named name bases)
 
@@ -71,6 +75,7 @@ abbrev pub dropped_in : List ℕ → List Base → Option Base → Result (Answe
 dropped_in name bases None = Err (no_database name)
 dropped_in name bases (Some base) = Ok (done, without_base name bases)
 
+-- a drop leaves one database fewer, or is refused where none has the name
 unfoldable pub dropped : List ℕ → Turn
 dropped name bases = dropped_in name bases (base_named name bases)
 
@@ -89,22 +94,27 @@ abbrev pub change_from : Conditions → Kind → List Split → List Base → Re
 change_from c kind files bases (Err why) = Err why
 change_from c kind files bases (Ok base) = change_ends bases (files_folded c kind 1 files (at_first base))
 
+-- a change takes the database of its name, which an update makes where it is absent and for want of which a delete or an adelete is
+-- refused, folds in the files, and tells how many records came in, took an elder's place and took one away; the first refused record
+-- refuses the whole
 unfoldable pub changed_by_files : Conditions → Kind → List ℕ → List Split → Turn
 changed_by_files c kind name files bases = change_from c kind files bases (start_of kind name (base_named name bases))
 
 -- ---- the commands that ask a database by a query
 
--- what is answered of a database, by the bytes of its records
+-- what a find answers of a database, by the bytes of its records
 abbrev pub FindAnswers : List Directive → List ℕ → ℕ → ℕ → Base → Answer → Type 0
 FindAnswers profile query first count base = IsAnswered (occurs profile base.records) (has_name base.records) profile query first count
 
+-- what a scan answers of a database, by the bytes of its records
 abbrev pub ScanAnswers : List Directive → List ℕ → ℕ → ℕ → Base → Answer → Type 0
 ScanAnswers profile query number position base = IsScanned (occurs profile base.records) profile query number position
 
+-- what a stat answers of a database: the number of its records, its last number, and how much each register has
 abbrev pub StatAnswers : List Directive → Base → Answer → Type 0
 StatAnswers profile base = IsCounted (occurs profile base.records) profile (length base.records) base.last
 
--- `Says` is the answer of a database that is there
+-- `Says` is the answer of a database that is there; a name that no database has is refused
 abbrev pub AskedIn : (Says : Base → Answer → Type 0) → List ℕ → Option Base → Answer → Type 0
 AskedIn Says name None answer = answer ≡ refused (no_database name)
 AskedIn Says name (Some base) answer = Says base answer
@@ -115,13 +125,19 @@ AskedAmong Says name query bases answer =
     (IsReadable query × AskedIn Says name (base_named name bases) answer)
     ⊎ ((number : ℕ) × (place : ℕ) × IsFaulty query number place × (answer ≡ refused (diagnostic number place [])))
 
+-- a register that isn't ready refuses the command; else a text without a fault is asked of the database of the name, and another is
+-- refused by its fault
 abbrev pub AskedFrom : (Says : Base → Answer → Type 0) → (name query : List ℕ) → Result (List Base) Why → Answer → Type 0
 AskedFrom Says name query (Err why) answer = answer ≡ refused why
 AskedFrom Says name query (Ok bases) answer = AskedAmong Says name query bases answer
 
+-- a find is refused by the first of these: the register, the query's text, the database, the query's meaning, a first past the last
+-- hit; else it is answered by the bytes of the kept records
 abbrev pub FoundFrom : Conditions → List ℕ → List ℕ → ℕ → ℕ → Result (List Base) Why → Answer → Type 0
 FoundFrom c name query first count = AskedFrom (FindAnswers c.profile query first count) name query
 
+-- a scan is refused by the first of these: the register, the query's text, the database, the query's meaning; else it is answered by
+-- the bytes of the kept records
 abbrev pub ScannedFrom : Conditions → List ℕ → List ℕ → ℕ → ℕ → Result (List Base) Why → Answer → Type 0
 ScannedFrom c name query number position = AskedFrom (ScanAnswers c.profile query number position) name query
 
@@ -130,6 +146,7 @@ ScannedFrom c name query number position = AskedFrom (ScanAnswers c.profile quer
 abbrev pub CountedIn : Conditions → List ℕ → Option Base → Answer → Type 0
 CountedIn c name = AskedIn (StatAnswers c.profile) name
 
+-- a stat is refused by the register or for want of the database; else it is answered by the bytes of the kept records
 abbrev pub CountedFrom : Conditions → List ℕ → Result (List Base) Why → Answer → Type 0
 CountedFrom c name (Err why) answer = answer ≡ refused why
 CountedFrom c name (Ok bases) answer = CountedIn c name (base_named name bases) answer
@@ -145,6 +162,8 @@ abbrev pub dumped_from : List ℕ → Result (List Base) Why → Answer
 dumped_from name (Err why) = refused why
 dumped_from name (Ok bases) = dumped_in name (base_named name bases)
 
+-- a dump is refused by the register or for want of the database, and else answers the kept bytes in the order of their numbers; what
+-- was held stays
 abbrev pub dumped_by : Conditions → List ℕ → Holdings → Outcome
 dumped_by c name before = (dumped_from name (ready c before), before)
 
@@ -154,30 +173,33 @@ abbrev pub checked_from : Result (List Base) Why → Answer
 checked_from (Err why) = refused why
 checked_from (Ok bases) = done
 
+-- a check of what is held: refused where the register isn't ready, and else done; what was held stays
 abbrev pub checked : Conditions → Holdings → Outcome
 checked c before = (checked_from (ready c before), before)
 
 -- ---- the commands that make the registers anew: the databases stay, and are then held under the session's version and its profile
 
--- the same databases
+-- it is done, and the databases stay as they are
 abbrev pub all_stay : Turn
 all_stay bases = Ok (done, bases)
 
--- the databases of a register of this version, whose profile has the same rule for identifiers
+-- the databases of a register of this version whose profile has the session's rule for identifiers; other registers are refused
 unfoldable pub ruled : Conditions → Holdings → Result (List Base) Why
 ruled c nothing_yet = Err not_initialised
 ruled c (under version text bases) =
     if bytes_eq version c.version then (if same_rule text (canonical_text c.profile) then Ok bases else Err rule_changed) else Err old_format
 
+-- a reindex: the databases stay, held under the session's profile, or the register is refused (`ruled`) and stays as it was
 unfoldable pub reindexed : Conditions → Holdings → Outcome
 reindexed c before = turned_from c all_stay before (ruled c before)
 
--- the databases of a register of this version or of an earlier one, under this profile
+-- the databases of a register of this version or of an earlier one, under this profile; other registers are refused
 unfoldable pub upgradable : Conditions → Holdings → Result (List Base) Why
 upgradable c nothing_yet = Err not_initialised
 upgradable c (under version text bases) =
     if is_taken version c.version then (if bytes_eq text (canonical_text c.profile) then Ok bases else Err profile_changed) else Err old_format
 
+-- an upgrade: the databases stay, held under the session's version, or the register is refused (`upgradable`) and stays as it was
 unfoldable pub upgraded : Conditions → Holdings → Outcome
 upgraded c before = turned_from c all_stay before (upgradable c before)
 
@@ -195,7 +217,7 @@ OnlyAnswers Says before answer later = Says answer × (later ≡ before)
 abbrev pub TakesFiles : Conditions → Kind → List ℕ → List (List ℕ) → Holdings → Answer → Holdings → Type 0
 TakesFiles c kind name texts before = Ends (turned c (changed_by_files c kind name (splits_of texts)) before)
 
--- what a command answers on what is held, and what is held then
+-- what a command may answer on what is held, with its refusals in their order, and what is held then: after a refusal what was held
 abbrev pub Step : Conditions → Command → Holdings → Answer → Holdings → Type 0
 Step c Init before = Ends (initialised c before)
 Step c (Create name) before = Ends (turned c (created (name_bytes name)) before)

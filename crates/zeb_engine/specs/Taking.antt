@@ -11,6 +11,8 @@ use Rattle.zeb_engine.specs.Adopting.{HasOwnTables, StaysOpen}
 use Rattle.zeb_engine.specs.Crashes.{Bears, Stands}
 use Rattle.zeb_engine.specs.Transactions.{EnduresRefusal, IsDurable}
 
+-- what a session does to the store that it takes over: it has the store's six tables then and no others, keeps each row and what it
+-- held, and is open with no transaction
 pub record TakesOver (old new : State) : Type 0 where
   -- what is taken over has this store's tables and no others, on a connection that was open and is, with no transaction open
   pub ours : HasOwnTables new

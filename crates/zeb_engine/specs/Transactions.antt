@@ -46,6 +46,7 @@ AsksStore (Dump name) = Unit {0}
 AsksStore (Scan name query number position) = Unit {0}
 AsksStore (Analyse files) = ⊥
 
+-- no command of a list asks the store
 abbrev pub NoneAsks : List Command → Type 0
 NoneAsks = AllByRecursion (λ command. ¬ AsksStore command)
 

@@ -51,6 +51,8 @@ StaysUpgraded version profile old new result = IsStore old → IsReadyFor versio
 abbrev pub UpgradeLeaves : State → State → Type 0
 UpgradeLeaves old new = IsStore old → IsStore new
 
+-- what an upgrade does on any tables of a store: it goes by the texts, and of an earlier version tells whether the tables are an image;
+-- of the session's version it changes nothing; and once it is accepted the tables are a store's still
 pub record UpgradeDoes (c : Conditions) (old new : State) (answer : Result Reply Refusal) : Type 0 where
   -- it goes by the texts, and of an earlier version tells of all tables whether they are an image
   pub told : UpgradesTables c.version c.profile old answer

@@ -21,20 +21,24 @@ use Rattle.zeb_engine.specs.Counts.{CommandCounts}
 use Rattle.zeb_engine.specs.Does.{AnswersAnyway, CommandOverTables}
 use Rattle.zeb_engine.specs.Transactions.{AsksStore, IsDurable, NoneAsks}
 
--- a command that is carried out: it answers what it may, and the tables hold what is held then
+-- where the tables were the image of what was held, a call answers and leaves what `Told` says, or fails and leaves what was held; and
+-- the tables are then the image of what is left
 abbrev pub ServesBy : (Told : Holdings → Answer → Holdings → Type 0) → State → State → Result Reply Refusal → Type 0
 ServesBy Told old new result = (before : Holdings) → Keeps old before → (later : Holdings) × TellsOrFails Told before (answer_of result) later × Keeps new later
 
+-- where the tables were the image of what was held, a command answers and leaves what its definition says, or fails and leaves what was
+-- held; and the tables are then the image of what is left
 abbrev pub ServesCommand : Conditions → Command → State → State → Result Reply Refusal → Type 0
 ServesCommand c command = ServesBy (Step c command)
 
--- the same of commands in turn
+-- where the tables were the image of what was held, the answers are those of a run of the commands, in which any may fail and change
+-- nothing, and the tables are then the image of what the run leaves
 abbrev pub Runs : Conditions → List Command → List Answer → State → State → Type 0
 Runs c commands answers old new =
     (before : Holdings) → Keeps old before → (last : Holdings) × Run c before commands answers last × Keeps new last
 
--- where one of the commands that ask the store is accepted, the connection was open, and where none behind it asks the store, it is
--- open still
+-- where a command of a list that asks the store is accepted, the connection was open, and where none behind it asks
+-- the store, it is open still
 abbrev pub FindOpen : List Command → List (Result Reply Refusal) → State → State → Type 0
 FindOpen [] [] old new = Unit {0}
 FindOpen (command ∷ commands) (result ∷ results) old new =
@@ -45,6 +49,8 @@ FindOpen (command ∷ commands) [] old new = ⊥
 -- Each of the commands does so, one after the other, from one connection to the next, and has counted so much. In the end so much is counted
 -- as the last of them has.
 module _ {S : Type 0} (g : Ghosts S) (Does : Command → Result Reply Refusal → State → State → Work → Type 0) where
+  -- `Does` is said of each of the commands, one after the other, from the connection that the one before it left; what is counted in
+  -- the end is what the last one has counted
   abbrev pub InTurn : List Command → List (Result Reply Refusal) → Held S → Work → Held S → Work → Type 0
   InTurn [] [] old before new after = (new ≡ old) × (after ≡ before)
   InTurn (command ∷ commands) (result ∷ results) old before new after =

@@ -154,7 +154,7 @@ impl<S: Alter, L: Layout> Session<S, L> {
             command.now (state S.Store self.old.connection) (state S.Store self.new.connection)
             result }
         // What it has counted. Of an accepted change in packed blocks each of the four counts is the number of changed keys.
-        // In leaves it is a bound: a leaf read and one written for each of these at most, and each leaf that comes written besides.
+        // In leaves the counts are bounded: at most as many leaves count as read, and as written as many and those that come.
         ensures counts { CommandCounts L.format L.row_work L.block_rows
             (conditions (version_of L.format) self.old.profile self.old.limits) command.now
             (state S.Store self.old.connection) (state S.Store self.new.connection) result

@@ -18,7 +18,7 @@ without_leading_spaces (byte ∷ bytes) = if byte == 32 then without_leading_spa
 abbrev pub without_trailing_spaces : List ℕ → List ℕ
 without_trailing_spaces bytes = reverse (without_leading_spaces (reverse bytes))
 
--- a text without the spaces at its ends
+-- a text without the spaces (U+0020) at its ends
 abbrev pub without_spaces : List ℕ → List ℕ
 without_spaces bytes = without_trailing_spaces (without_leading_spaces bytes)
 
@@ -29,7 +29,7 @@ has_control bytes = list_any is_control (chars bytes)
 abbrev pub is_bad : List ℕ → Bool
 is_bad bytes = nat_lt 255 (length bytes) || has_control bytes
 
--- a text without spaces at its ends as an identifier
+-- the identifier that a text without spaces at its ends is, or why it is none
 abbrev pub checked : List ℕ → Result (List ℕ) IdentFault
 checked bytes = if length bytes == 0 then Err NoIdentifier else (if is_bad bytes then Err BadIdentifier else Ok bytes)
 
@@ -46,6 +46,7 @@ held_in (Some unit) = identifier_in unit.text
 abbrev pub first_fitting : UnitPattern → List UnitText → Option UnitText
 first_fitting pattern units = find (λ unit. fits pattern unit.tag unit.code) units
 
--- the identifier of a record with these units, under a profile of these directives
+-- the text of the first unit that the identifier's rule fits, read as UTF-8 and without spaces at its ends, or why
+-- there is no identifier
 abbrev pub identifier_of : List Directive → List UnitText → Result (List ℕ) IdentFault
 identifier_of directives units = held_in (option_and_then (λ pattern. first_fitting pattern units) (identifier_pattern directives))

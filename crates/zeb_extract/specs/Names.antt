@@ -2,6 +2,7 @@
 use Rattle.std.specs.Prelude.{ℕ, List, codes}
 use Rattle.zeb_extract.specs.Cited.{IdentFault, NoIdentifier, BadIdentifier, Memory}
 
+-- the name of an identifier's fault as it is printed
 abbrev pub fault_name : IdentFault → List ℕ
 fault_name NoIdentifier = codes "NoIdentifier"
 fault_name BadIdentifier = codes "BadIdentifier"

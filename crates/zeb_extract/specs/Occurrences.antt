@@ -11,7 +11,7 @@ use Rattle.zeb_text.specs.Words.{joined_text, words_of}
 use Rattle.zeb_text.specs.Numbers.{numbers_of, number_key}
 use Rattle.zeb_keys.specs.declared.registers.Register.TheVariants.{Word, Phrase, Number}
 
--- the characters that bytes are read as
+-- bytes read as UTF-8, with U+FFFD where they are not (the Unicode Standard)
 abbrev pub text_of : List ℕ → List ℕ
 text_of bytes = chars (utf8_lossy bytes)
 
@@ -24,7 +24,8 @@ abbrev pub joined : List (List ℕ) → List (List ℕ)
 joined [] = []
 joined (word ∷ words) = joined_text (word ∷ words) ∷ []
 
--- the terms that a text adds to a register, in the order of their numbers
+-- what a text adds to a register of words, of phrases or of numbers: its words; these joined by one space, where there
+-- is a word; the keys of its numbers
 abbrev pub terms_of : Register → List ℕ → List (List ℕ)
 terms_of Word text = word_terms text
 terms_of Phrase text = joined (word_terms text)

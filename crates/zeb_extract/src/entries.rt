@@ -93,9 +93,9 @@ fn terms_for(
 fn word_terms(alloc: Global, words: &[String]) -> Result<Vec<Term>, AllocError>
     ensures { IfOk result (λ terms. terms.items ≡ map string_bytes words.now) }
 {
-    let mut terms = Vec::new(alloc);
+    let mut terms = Vec::with_capacity(alloc, words.len())?;
     for word in words {
-        terms.push(Term::new(word.clone()?))?;
+        terms.push(Term::copied(alloc, word.as_str())?)?;
     }
     Ok(terms)
 }

@@ -17,6 +17,7 @@ pub data Holdings : Type 0 where
 abbrev pub new_base : List ℕ → Base
 new_base name = record { name = name; last = 0; records = [] }
 
+-- the database that has this name, or none where none has it
 abbrev pub base_named : List ℕ → List Base → Option Base
 base_named name bases = find (λ base. bytes_eq name base.name) bases
 

@@ -23,7 +23,8 @@ use Rattle.zeb_register.specs.Formats.{Format, holds_in, version_of}
 
 -- ---- what can be held
 
--- databases by rising name
+-- databases that can be held under this profile: their names rise and are names of databases, and each has records that can be held
+-- (`IsBase`)
 pub record AreBases (profile : List Directive) (bases : List Base) : Type 0 where
   pub rising : IsStrictlySortedBy (λ (a b : Base). slice_cmp nat_cmp a.name b.name) bases
   pub each : (base : Base) → Contains bases base → IsBase profile base
@@ -54,14 +55,16 @@ pub record AreListsOf (trees : Trees) (bases : List Base) : Type 0 where
 
 -- ---- all tables
 
--- the databases, their records and the postings of these, and no others
+-- all tables but the texts: they have the databases, their records and just the postings of these in a format and
+-- under a profile, and no others
 pub record IsImageOf (format : Format) (profile : List Directive) (trees : Trees) (bases : List Base) : Type 0 where
   pub lists : AreListsOf trees bases
   pub content : Content
   pub held : holds_in format trees content
   pub posted : ArePosted profile lists.records_of content
 
--- the tables of a register of this version and under this profile
+-- the tables of a register of this version and under this profile. The version is that of a format, so a register of
+-- an unknown version is no image
 pub record IsImageUnder (profile : List Directive) (trees : Trees) (version text : List ℕ) (bases : List Base) : Type 0 where
   pub sound : ∥ IsProfile profile ∥₁
   pub text_is : text ≡ canonical_text profile
@@ -73,7 +76,8 @@ pub record IsImageUnder (profile : List Directive) (trees : Trees) (version text
   pub version_is : version ≡ version_of format
   pub image : IsImageOf format profile trees bases
 
--- of what is held alone: the texts of the store tell its version and its profile, and all rows follow from these
+-- tables that obey the store's schema stand for what is held: they have the rows that follow from its version, its profile's text and
+-- its databases with their records, and no others, whatever their rowids; where nothing is held yet they have no row
 abbrev pub IsImage : Trees → Holdings → Type 0
 IsImage trees nothing_yet = LacksLists trees × LacksRegisters trees
 IsImage trees (under version text bases) = (profile : List Directive) × IsImageUnder profile trees version text bases

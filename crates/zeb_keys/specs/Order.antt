@@ -21,10 +21,10 @@ abbrev pub occurrence_order : Occurrence → Occurrence → Ordering
 occurrence_order a b =
     ordering_then (key_order a.key b.key) (ordering_then (nat_cmp a.seq b.seq) (nat_cmp a.pos b.pos))
 
--- only equal values tie
+-- an order takes only equal ones as equal
 abbrev pub TellsApart : {K : Type 0} → (K → K → Ordering) → Type 0
 TellsApart {K} R = (x y : K) → R x y ≡ Equal → x ≡ y
 
--- each occurrence stands before all later ones
+-- each occurrence stands before all later ones, so none is there twice
 abbrev pub IsRising : List Occurrence → Type 0
 IsRising xs = IsStrictlySortedBy occurrence_order xs

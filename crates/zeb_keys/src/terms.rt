@@ -1,28 +1,40 @@
 //! A term: the text of a register's entry.
-ghost use Rattle.std.specs.Prelude.{◌≡◌, Some, refl, bytes_eq, string_bytes};
+ghost use Rattle.std.specs.Prelude.{◌≡◌, IfOk, Some, refl, bytes_eq, string_bytes};
 ghost use Rattle.std.specs.Ordering.{nat_cmp};
 ghost use Rattle.std.specs.Cmp.{on_equiv, on_total, on_po, on_per, partial_equiv_from_equiv};
 ghost use Rattle.std.specs.Cmp.Lexicographic.{slice_cmp, nat_list_eq_equiv, nat_list_cmp_total, texts_ties, texts_po};
 
-use std::alloc::AllocError;
+use arrayvec::ArrayString;
+use std::alloc::{AllocError, Global};
 use std::cmp::Ordering;
 use std::convert::AsStr;
 use std::fmt;
 use std::marker::Model;
 
+/// Where a term keeps its text. A change has a term for each word of its records, and looks for each among hundreds of thousands: most are
+/// short, and a short one is copied and compared without memory elsewhere.
+#[derive(Drop)]
+enum Text {
+    /// In the term itself.
+    Short(ArrayString<24>),
+    /// In memory of its own.
+    Long(String),
+}
+
 /// The text of a register's entry: of a record a word, the joined words of a unit, or a number's key of 18 digits; but any text
 /// makes a term. Contracts see it as the list of its UTF-8 bytes, and two terms compare by these.
 #[derive(Drop)]
 pub struct Term {
-    text: String,
+    text: Text,
 }
 
 impl Model for Term {
-    ghost use Rattle.std.specs.Prelude.{List, ℕ, string_bytes};
+    ghost use Rattle.std.specs.Prelude.{List, ℕ};
+    ghost use Rattle.zeb_keys.specs.Texts.{text_bytes};
 
     ghost Value = { List ℕ };
 
-    ghost view = { λ term. string_bytes term.text };
+    ghost view = { λ term. text_bytes term.text };
 }
 
 impl Term {
@@ -30,14 +42,35 @@ impl Term {
     pub fn new(text: String) -> Term
         ensures { result ≡ string_bytes text }
     {
-        Term { text }
+        if let Ok(short) = ArrayString::from(text.as_str()) {
+            return Term {
+                text: Text::Short(short),
+            };
+        }
+        Term {
+            text: Text::Long(text),
+        }
+    }
+
+    /// The term of a copy of this text. It takes memory for a text of more than 24 bytes alone, and an error is want of it.
+    pub fn copied(alloc: Global, text: &str) -> Result<Term, AllocError>
+        ensures { IfOk result (λ term. term ≡ text.now) }
+    {
+        let text = match ArrayString::from(text) {
+            Ok(short) => Text::Short(short),
+            Err(_) => Text::Long(String::from_str(alloc, text)?),
+        };
+        Ok(Term { text })
     }
 
     /// The text.
     pub fn as_str(&self) -> &str
         ensures { result.now ≡ self.now }
     {
-        self.text.as_str()
+        match &self.text {
+            Text::Short(text) => text.as_str(),
+            Text::Long(text) => text.as_str(),
+        }
     }
 }
 
@@ -45,9 +78,11 @@ impl Clone for Term {
     ghost is_clone = { λ term copy. copy ≡ term };
 
     fn clone(&self) -> Result<Term, AllocError> {
-        Ok(Term {
-            text: self.text.clone()?,
-        })
+        let text = match &self.text {
+            Text::Short(text) => Text::Short(*text),
+            Text::Long(text) => Text::Long(text.clone()?),
+        };
+        Ok(Term { text })
     }
 }
 

@@ -33,6 +33,6 @@ records_in files = sum_by (λ file. length file.slices) files
 abbrev pub told : Progress → ℕ
 told p = p.inserted + p.updated + p.deleted
 
--- a record with this one's number and identifier
+-- a record with this one's number and identifier is among these
 abbrev pub HasNamesake : List Kept → Kept → Type 0
 HasNamesake records kept = (other : Kept) × Contains records other × (other.sysno ≡ kept.sysno) × (other.ident ≡ kept.ident)

@@ -25,17 +25,19 @@ use Rattle.zeb_engine.specs.Finding.{IsNamed, has_name}
 abbrev pub book_conditions : List ℕ → Limits → Conditions
 book_conditions version limits = conditions version title_profile limits
 
--- the record under its first number, and its database
+-- *Moby Dick* as a kept record with the system number 1
 abbrev pub book : Kept
 book = record { sysno = 1; ident = codes "a1"; bytes = worked_record }
 
+-- the database `Default`, which keeps just *Moby Dick*
 abbrev pub book_base : Base
 book_base = record { name = codes "Default"; last = 1; records = book ∷ [] }
 
--- what is held without a database, and with this one
+-- what is held under this version and the profile of titles without a database
 abbrev pub no_books : List ℕ → Holdings
 no_books version = under version (canonical_text title_profile) []
 
+-- what is held under this version and the profile of titles with one database, which keeps just *Moby Dick*
 abbrev pub one_book : List ℕ → Holdings
 one_book version = under version (canonical_text title_profile) (book_base ∷ [])
 
@@ -55,13 +57,15 @@ word_plan index word = TermOf (PhraseOf index (literal (chars word) ∷ []) fals
 abbrev pub title_plan : List ℕ → PlanValue
 title_plan = word_plan 0
 
--- the plans of a word of the title and of one that no title has, and what holds on the record of such a number
+-- the plan of `whale` in the index of titles, a word of *Moby Dick*'s title
 abbrev pub whale : PlanValue
 whale = title_plan (codes "whale")
 
+-- the plan of `ahab` in the index of titles, a word that *Moby Dick*'s title lacks
 abbrev pub ahab : PlanValue
 ahab = title_plan (codes "ahab")
 
+-- a plan holds on the record of a number, where just *Moby Dick* is kept
 abbrev pub BookHolds : PlanValue → ℕ → Type 0
 BookHolds = TreeHolds (occurs title_profile book_base.records) (IsNamed (occurs title_profile book_base.records) (has_name book_base.records))
 

@@ -2,13 +2,13 @@
 use Rattle.zeb_leaf.proofs.Cited.{◌≡◌, ℕ, ◌+◌, ◌<◌, ◌≤◌, List, [], ◌∷◌, ◌++◌, length, take, drop, refl, sym, ◌∙◌, ap, subst, arith, append_assoc, append-nil, length-take-le, take-append-drop, AllByRecursion, Entry, IsEntry, IsLeaf, entry_cmp, leaf_bytes}
 use Rattle.std.specs.List.Sorted.{IsStrictlySortedBy}
 use Rattle.zeb_leaf.specs.Cuts.{AreCut, BeginsAt, IsCutOff}
-use Rattle.zeb_leaf.specs.declared.entries.TheConstants.{LEAF_BYTES}
+use Rattle.zeb_leaf.specs.declared.entries.TheConstants.{FULL_BYTES}
 use Rattle.zeb_leaf.specs.declared.parting.NewLeaf.{NewLeaf}
 use Rattle.zeb_leaf.proofs.Fronts.{takes_more}
 use Rattle.zeb_leaf.proofs.Members.{all_back, sorted_front, sorted_rest}
 
 -- the front of what is left makes a leaf
-pub cut_off : (list own rest : List Entry) (n above most : ℕ) (leaf : NewLeaf) → own ≡ take n list → rest ≡ drop n list → n ≤ length list → above ≤ most → most ≤ LEAF_BYTES
+pub cut_off : (list own rest : List Entry) (n above most : ℕ) (leaf : NewLeaf) → own ≡ take n list → rest ≡ drop n list → n ≤ length list → above ≤ most → most ≤ FULL_BYTES
     → (2 ≤ n → length (leaf_bytes (take n list)) ≤ most) → (n < length list → most < length (leaf_bytes (take (n + 1) list))) → BeginsAt leaf own → IsLeaf leaf.bytes own → IsCutOff above leaf own rest
 cut_off list own rest n above most leaf own_is rest_is within less small fits full first spelled = record {
   first = first;

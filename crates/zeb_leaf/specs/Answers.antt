@@ -11,7 +11,7 @@ abbrev pub IsTold : Type 0 → LeafFault → Type 0
 IsTold Bad Malformed = Bad
 IsTold Bad Memory = Unit {0}
 
--- an answer is done, or it is told why not
+-- an answer is what was done, or `Malformed` because of this, or want of memory
 abbrev pub Answers : {T : Type 0} → Type 0 → (T → Type 0) → Result T LeafFault → Type 0
 Answers Bad Done (Ok x) = Done x
 Answers Bad Done (Err fault) = IsTold Bad fault

@@ -20,7 +20,7 @@ entry_bytes before e =
     uleb (shared_of before e.term)
     ++ (counted (drop (shared_of before e.term) e.term) ++ (uleb e.block ++ (uleb e.records ++ counted e.bytes)))
 
--- the entries behind a term
+-- the bytes of the entries behind a term, one behind the other
 unfoldable pub entries_bytes : List ℕ → List Entry → List ℕ
 entries_bytes before [] = []
 entries_bytes before (e ∷ entries) = entry_bytes before e ++ entries_bytes e.term entries

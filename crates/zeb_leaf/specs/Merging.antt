@@ -34,9 +34,11 @@ pub record AreChanges (changes : List BlockChange) : Type 0 where
   pub rising : IsStrictlySortedBy change_cmp changes
   pub each : AllByRecursion (λ c. AllByRecursion IsEntry (puts c)) changes
 
+-- one of the changes is of the entry's block
 abbrev pub IsTouched : List BlockChange → Entry → Type 0
 IsTouched changes e = (c : BlockChange) × Contains changes c × IsOf c e
 
+-- one of the changes puts the entry
 abbrev pub IsPut : List BlockChange → Entry → Type 0
 IsPut changes e = (c : BlockChange) × Contains changes c × Contains (puts c) e
 

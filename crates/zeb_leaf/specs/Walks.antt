@@ -16,9 +16,11 @@ pub record Place : Type 0 where
 abbrev pub first_place : Place
 first_place = record { term = []; least = 0 }
 
+-- the place right behind an entry
 abbrev pub behind_entry : Entry → Place
 behind_entry e = record { term = e.term; least = e.block + 1 }
 
+-- the place behind the last of some entries, or the one given where there are none
 abbrev pub last_place : Place → List Entry → Place
 last_place place [] = place
 last_place place (e ∷ entries) = last_place (behind_entry e) entries

@@ -13,7 +13,7 @@ mod telling;
 mod walking;
 mod writing;
 
-pub use entries::{Bytes, Entry, Held, LEAF_BYTES, LeafFault};
+pub use entries::{Bytes, Entry, FULL_BYTES, Held, LEAF_BYTES, LeafFault};
 pub use laws::{
     bytes_and_entries_are_one_to_one, leaf_is_cut_at_an_entry, rising_entries_follow,
     sizes_of_entries, worked_leaves,

@@ -7,7 +7,7 @@ ghost use Rattle.zeb_leaf.specs.Cuts.{AreCut, BeginsAt, bytes_above};
 ghost use Rattle.zeb_leaf.specs.Leaves.{IsLeaf, entry_bytes, leaf_bytes};
 ghost use Rattle.zeb_leaf.specs.Order.{IsEntry, entry_cmp};
 
-use crate::entries::{Bytes, Entry, LEAF_BYTES};
+use crate::entries::{Bytes, Entry, FULL_BYTES};
 use crate::writing::{shared_len, spell_leaf};
 use std::alloc::{AllocError, Global};
 
@@ -86,22 +86,22 @@ fn fitting(entries: &[Entry], most: usize) -> usize
 /// How many bytes the next leaf takes at most, where what is left takes so many together: half of them where that is less than two full
 /// leaves.
 fn even_share(left: usize) -> usize
-    ensures { (LEAF_BYTES / 2 ≤ result) × (result ≤ LEAF_BYTES) }
+    ensures { (FULL_BYTES / 2 ≤ result) × (result ≤ FULL_BYTES) }
 {
-    if left > LEAF_BYTES && left < 2 * LEAF_BYTES {
+    if left > FULL_BYTES && left < 2 * FULL_BYTES {
         left / 2
     } else {
-        LEAF_BYTES
+        FULL_BYTES
     }
 }
 
 /// How many bytes the next leaf takes at most, by the filling.
 fn share(left: usize, filling: Filling) -> usize
-    ensures { (bytes_above filling ≤ result) × (result ≤ LEAF_BYTES) }
+    ensures { (bytes_above filling ≤ result) × (result ≤ FULL_BYTES) }
 {
     match filling {
         Filling::Even => even_share(left),
-        Filling::Full => LEAF_BYTES,
+        Filling::Full => FULL_BYTES,
     }
 }
 
@@ -154,8 +154,8 @@ fn leaves_of(
     Ok(leaves)
 }
 
-/// The leaves with these entries, one behind the other: each has one entry at least, and several take at most [`LEAF_BYTES`] bytes. By the
-/// filling, each but the last is so full that with the next entry it would take more than `LEAF_BYTES` bytes, or more than half as many. The
+/// The leaves with these entries, one behind the other: each has one entry at least, and several take at most [`FULL_BYTES`] bytes. By the
+/// filling, each but the last is so full that with the next entry it would take more than `FULL_BYTES` bytes, or more than half as many. The
 /// only refusal is want of memory.
 pub fn cut(alloc: Global, entries: &[Entry], filling: Filling) -> Result<Vec<NewLeaf>, AllocError>
     requires rising { IsStrictlySortedBy entry_cmp entries.now }
@@ -167,7 +167,7 @@ pub fn cut(alloc: Global, entries: &[Entry], filling: Filling) -> Result<Vec<New
     }
     // Most changes leave a leaf small enough: then it is spelled once, and nothing is counted.
     let bytes = spell_leaf(alloc, entries)?;
-    if bytes.len() > LEAF_BYTES {
+    if bytes.len() > FULL_BYTES {
         return leaves_of(alloc, entries, bytes.len(), filling);
     }
     let leaf = leaf_with(alloc, entries, bytes)?;

@@ -52,11 +52,23 @@ fn set_joined(bytes: &mut Vec<u8>, front: &[u8], back: &[u8]) -> Result<(), Allo
     bytes.extend_from_slice(back)
 }
 
-/// Whether bytes are UTF-8.
+/// Whether all bytes are those of ASCII, which is UTF-8.
+fn is_ascii(bytes: &[u8]) -> bool
+    ensures { IsTrue result → IsUtf8 bytes.now }
+{
+    for byte in bytes {
+        if *byte >= 0x80 {
+            return false;
+        }
+    }
+    true
+}
+
+/// Whether bytes are UTF-8. The few bytes that most terms have of their own are ASCII, and that is seen soonest one by one.
 fn is_text(bytes: &[u8]) -> bool
     ensures { IsTrue result ↔ IsUtf8 bytes.now }
 {
-    str::from_utf8(bytes).is_ok()
+    is_ascii(bytes) || str::from_utf8(bytes).is_ok()
 }
 
 /// Whether no byte within a character stands at this place.

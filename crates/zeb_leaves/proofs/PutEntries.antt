@@ -3,7 +3,7 @@ use Rattle.zeb_leaves.proofs.Cited.{Row, Trees, State, Has, has_mapped, mapped_h
 use Rattle.std.proofs.Common.{Bool, IsUtf8}
 use Rattle.std.proofs.lemmas.List.{append-nil}
 use Rattle.zeb_leaf.specs.Cuts.{AreCut, BeginsAt}
-use Rattle.zeb_leaf.specs.declared.entries.TheConstants.{LEAF_BYTES}
+use Rattle.zeb_leaf.specs.declared.entries.TheConstants.{FULL_BYTES}
 use Rattle.zeb_leaf.specs.declared.parting.NewLeaf.{NewLeaf}
 use Rattle.zeb_leaves.proofs.LeafShapes.{leaf_row}
 use Rattle.zeb_leaves.specs.LeafChanges.{ArePartedFrom, IsPart}
@@ -22,12 +22,12 @@ shown_leaf leaf = leaf_row leaf.term leaf.block leaf.bytes
 no_part : (term : List ℕ) (block : ℕ) → IsUtf8 term → ArePartedFrom (leaf_key term block) (leaf_row term block []) [] []
 no_part term block text = record { own_is = refl; shown = ([], refl, inr (refl, refl), record { term = term; is = refl; text = text }); small = λ two. absurd (omega arith) }
 
--- the leaf has these entries, with whatever key it is given
-part : (term : List ℕ) (block : ℕ) (bytes : List ℕ) (own : List Entry) → IsUtf8 term → IsLeaf bytes own → (2 ≤ length own → length bytes ≤ LEAF_BYTES) → IsPart (leaf_key term block) (leaf_row term block bytes) own
+-- the leaf has these entries, with whatever key it is given: one that is written is smaller than a leaf may be
+part : (term : List ℕ) (block : ℕ) (bytes : List ℕ) (own : List Entry) → IsUtf8 term → IsLeaf bytes own → (2 ≤ length own → length bytes ≤ FULL_BYTES) → IsPart (leaf_key term block) (leaf_row term block bytes) own
 part term block bytes own text leaf small = record {
   own_is = refl;
   shown = (bytes, refl, inl leaf, record { term = term; is = refl; text = text });
-  small = λ two. subst (λ (b : List ℕ). length b ≤ LEAF_BYTES) leaf.spelled (small two);
+  small = λ two. omega (arith, small two, ap length leaf.spelled);
 }
 
 -- a list that a leaf begins with has a first entry, and the leaf its key

@@ -27,16 +27,17 @@ pub(crate) enum Side {
     Below,
 }
 
-/// A leaf has many terms. So many are expected of each, and no leaf more than is likely needed is read at first.
-const LEAF_TERMS: u64 = 64;
+/// So many terms are expected of each leaf that is read at first. Most leaves have more, but a leaf that isn't needed costs less than to begin
+/// anew with twice as many.
+const LEAF_TERMS: u64 = 16;
 
-/// How many leaves are read first for so many terms.
+/// How many leaves are read first for so many terms: one isn't whole before the start, and one ends behind them.
 fn few_leaves(n: u64) -> u32
     ensures { 1 ≤ result }
 {
     u32::try_from(n / LEAF_TERMS)
         .unwrap_or(u32::MAX)
-        .saturating_add(1)
+        .saturating_add(2)
 }
 
 /// The `n` terms of the side that are nearest to the start, by at most `limit` leaves there. `None` where more leaves have to be read.

@@ -21,6 +21,9 @@ pub record IsEntryOf (area : List ℕ) (entry : Entry) : Type 0 where
   pub letters : has_tag_bytes entry.tag ≡ true
   pub ended : slice_range area (number_of entry.start) (end_of entry) ≡ (field_of area entry).text ++ (30 ∷ [])
 
+-- a record as one whole, with the fields that its entries name: twenty-four bytes of leader, the entries' bytes in a row, 0x1E, the data area,
+-- 0x1D; the leader says the whole's length, where the data area begins, and the counts of MARC; the bytes that each entry names end with 0x1E (ISO
+-- 2709, "Structure of a record"). Proved to be `IsRecord`
 pub record IsLaidOut (text : List ℕ) (fields : List FieldText) : Type 0 where
   pub leader : List ℕ
   pub entries : List Entry

@@ -16,7 +16,7 @@ use Rattle.zeb_profile.specs.Profiles.{all_targets, directive_after, directives_
 use Rattle.zeb_profile.specs.Words.{distinct_names, is_comma, same_name, same_target, target_of, targets_of}
 use Rattle.zeb_profile.specs.Laws.{IsProfile, SaysTheSame, without_store}
 
--- the canonical text says nothing of the store, nor does anything that it settles
+-- the canonical text, and all that is asked of indexes, units and identifiers, don't depend on the `store` line
 abbrev pub StoreSaysNothingElse : Type 0
 StoreSaysNothingElse = (directives : List Directive)
     → (canonical_text (without_store directives) ≡ canonical_text directives) × SaysTheSame (without_store directives) directives
@@ -134,7 +134,7 @@ pub record HasNumberedNames (directives : List Directive) : Type 0 where
   pub targets : AllByRecursion (λ target. (index_by_name directives target.name ≡ Some (pair_of (index_names directives) target).0)
       × ((pair_of (index_names directives) target).0 < length (index_names directives))) (all_targets directives)
 
--- the blanks at the ends of a text, and no others, are taken off it
+-- the text is blanks, what is left, and blanks, and what is left neither begins nor ends with one
 pub record IsTrimmed (text trimmed : List ℕ) : Type 0 where
   pub before : List ℕ
   pub after : List ℕ

@@ -10,7 +10,7 @@ use Rattle.zeb_keys.specs.declared.registers.Register.{Register}
 use Rattle.zeb_keys.specs.declared.registers.Register.TheVariants.{Word, Phrase, Number}
 use Rattle.zeb_keys.specs.declared.keys.Occurrence.{Occurrence}
 
--- *Moby Dick*: the control number, the title, the remainder of the title, and the date
+-- the units of the worked record *Moby Dick*: the control number, the title, the remainder of the title, and the date
 abbrev pub moby_dick : List UnitText
 moby_dick = worked_units
 
@@ -26,7 +26,7 @@ date_profile =
     ∷ Store (codes "books.db")
     ∷ []
 
--- a number in the register of dates, at place 1 of a unit
+-- a number in the register of dates, at the first place of a unit
 abbrev pub date_at : ℕ → List ℕ → Occurrence
 date_at seq number = record { key = record { index = 0; register = Number; term = number }; seq = seq; pos = 1 }
 

@@ -12,7 +12,7 @@ IsOneNumber [] = ⊥
 IsOneNumber (byte ∷ []) = byte < 128
 IsOneNumber (byte ∷ next ∷ bytes) = (128 ≤ byte) × (byte < 256) × IsOneNumber (next ∷ bytes)
 
--- these bytes make the number, and no fewer do
+-- these bytes make the number, and no fewer do (ULEB128)
 pub record IsShortestForm (n : ℕ) (bytes : List ℕ) : Type 0 where
   pub one : IsOneNumber bytes
   pub makes : number_of bytes ≡ n

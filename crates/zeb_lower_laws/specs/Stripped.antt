@@ -28,5 +28,6 @@ called text =
 abbrev pub IsCalled : List UnitText → List ℕ → Type 0
 IsCalled units ident = identifier_of date_profile units ≡ Ok ident
 
+-- under the rule `001` units have this fault of an identifier
 abbrev pub HasIdentFault : List UnitText → IdentFault → Type 0
 HasIdentFault units fault = identifier_of date_profile units ≡ Err fault

@@ -41,9 +41,11 @@ pub record PlansUnder (profile : List Directive) (text : List ℕ) (result : Res
   pub spelled : SpellsQuery text query
   pub planned : plan_of profile query ≡ result
 
+-- the text spells a query, of which this is the plan or the first diagnostic under `sample_profile`
 abbrev pub PlansAs : List ℕ → Result PlanValue Refusal → Type 0
 PlansAs text result = PlansUnder sample_profile text result
 
+-- the text spells a query, of which this is where a scan begins, or the first diagnostic, under `sample_profile`
 pub record ScansAs (text : List ℕ) (result : Result ScanValue Refusal) : Type 0 where
   pub query : QueryValue
   pub spelled : SpellsQuery text query
@@ -63,29 +65,36 @@ abbrev pub words_65 : List ℕ
 words_65 = quoted (times 64 (codes "a ") ++ codes "a")
 
 -- ---- plans: a word of an index, the same as the first of its unit, an entry of Title by `dick`, a date by 951, and the words a and b
+-- the plan of a word in an index
 abbrev pub word_in : ℕ → List ℕ → Result PlanValue Refusal
 word_in index word = Ok (TermOf (PhraseOf index (literal word ∷ []) false))
 
+-- the plan of a word in an index that is the first in its unit
 abbrev pub first_in : ℕ → List ℕ → Result PlanValue Refusal
 first_in index word = Ok (TermOf (PhraseOf index (literal word ∷ []) true))
 
+-- the plan of words of titles that stand to `dick` as the relation asks, in the order of their bytes
 abbrev pub dick_by : Relation → Result PlanValue Refusal
 dick_by relation = Ok (TermOf (OrderedOf 0 Word relation (codes "dick")))
 
+-- the plan of dates that stand to 951 as the relation asks
 abbrev pub date_by : Relation → Result PlanValue Refusal
 date_by relation = Ok (TermOf (NumberOf 1 relation 951))
 
+-- the plan of the words `a` and `b` in the index of any words, in either order, whose distance stands to 1 as the relation asks
 abbrev pub a_near_b : DistanceRelation → Result PlanValue Refusal
 a_near_b relation =
     Ok (NearOf 2 (literal (codes "a")) (literal (codes "b")) (record { distance = 1; ordered = false; relation = relation }))
 
 -- ---- two terms under an operator: the text spells them, each at its place; and the plan of the words a and b
+-- a text spells two terms under an operator, each at its place
 abbrev pub SpellsPair : List ℕ → Operator → ℕ × List ℕ → ℕ × List ℕ → Type 0
 SpellsPair text operator left right = SpellsQuery text (record {
   attrset = None;
   tree = PairValue 0 no_head (BooleanOf operator) (TermValue left.0 no_head left.1) (TermValue right.0 no_head right.1);
 })
 
+-- the plan of the words `a` and `b` under an operator, both looked for in the index of any words
 abbrev pub pair_of_words : Operator → Result PlanValue Refusal
 pair_of_words operator =
     Ok (PairOf operator (TermOf (PhraseOf 2 (literal (codes "a") ∷ []) false)) (TermOf (PhraseOf 2 (literal (codes "b") ∷ []) false)))

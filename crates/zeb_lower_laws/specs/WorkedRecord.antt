@@ -12,6 +12,7 @@ abbrev pub record_with : List ℕ → ℕ → List ℕ
 record_with head last = head ++ codes "22" ++ codes "00061 a 4500" ++ codes "001000300000245003300003260001100036" ++ (30 ∷ codes "a1")
     ++ (30 ∷ codes "10") ++ (31 ∷ codes "aMoby Dick :") ++ (31 ∷ codes "bor, the whale /") ++ (30 ∷ codes "  ") ++ (31 ∷ codes "cc1851.") ++ (30 ∷ last ∷ [])
 
+-- *Moby Dick* in 109 bytes
 abbrev pub worked_record : List ℕ
 worked_record = record_with (codes "00109nam a") 29
 
@@ -23,12 +24,14 @@ unended_record = record_with (codes "00109nam a") 30
 abbrev pub worked_stream : List ℕ
 worked_stream = worked_record ++ (13 ∷ 10 ∷ (worked_record ++ (26 ∷ [])))
 
+-- the three fields of *Moby Dick*, read off by hand
 abbrev pub worked_fields : List FieldText
 worked_fields = record { tag = codes "001"; text = codes "a1" }
     ∷ record { tag = codes "245"; text = codes "10" ++ (31 ∷ codes "aMoby Dick :") ++ (31 ∷ codes "bor, the whale /") }
     ∷ record { tag = codes "260"; text = codes "  " ++ (31 ∷ codes "cc1851.") }
     ∷ []
 
+-- the four units of *Moby Dick*, read off by hand
 abbrev pub worked_units : List UnitText
 worked_units = record { seq = 1; tag = codes "001"; code = None; text = codes "a1" }
     ∷ record { seq = 2; tag = codes "245"; code = Some 97; text = codes "Moby Dick :" }

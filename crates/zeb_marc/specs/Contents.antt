@@ -14,12 +14,14 @@ pub record Content : Type 0 where
   pub code : Option ℕ
   pub text : List ℕ
 
+-- a unit with its number, as contracts see it
 pub record UnitText : Type 0 where
   pub seq : ℕ
   pub tag : List ℕ
   pub code : Option ℕ
   pub text : List ℕ
 
+-- a control field's tag begins with two zeros ("Variable control fields")
 abbrev pub is_control : List ℕ → Bool
 is_control tag = slice_index tag 0 == 48 && slice_index tag 1 == 48
 
@@ -35,9 +37,11 @@ subfields_of tag text = flat_map (subfield_of tag) (drop 1 (slice_split (λ byte
 abbrev pub contents_of : FieldText → List Content
 contents_of field = if is_control field.tag then record { tag = field.tag; code = None; text = field.text } ∷ [] else subfields_of field.tag field.text
 
+-- what some units say, numbered in their order from a number on
 abbrev pub numbered_from : ℕ → List Content → List UnitText
 numbered_from n [] = []
 numbered_from n (c ∷ contents) = record { seq = n; tag = c.tag; code = c.code; text = c.text } ∷ numbered_from (suc n) contents
 
+-- the units of all fields in their order, numbered from 1 ("Variable control fields", "Variable data fields")
 unfoldable pub units_of : List FieldText → List UnitText
 units_of fields = numbered_from 1 (flat_map contents_of fields)

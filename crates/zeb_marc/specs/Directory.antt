@@ -7,7 +7,7 @@ use Rattle.std.specs.Prelude.{ℕ, ◌+◌, ◌-◌, Bool, ◌&&◌, List, [], �
 use Rattle.zeb_marc.specs.Cited.{list_all, is_ascii_alphanumeric, EntryDigits, EntryTag, EntryRange, FieldEnd}
 use Rattle.zeb_marc.specs.Leader.{Check, check, are_digits, number_of}
 
--- an entry's three parts, as they stand in the directory
+-- a directory entry: a tag of three bytes, a length of four, a start of five
 pub record Entry : Type 0 where
   pub tag : List ℕ
   pub size : List ℕ
@@ -32,6 +32,7 @@ pub record FieldText : Type 0 where
 abbrev pub field_of : List ℕ → Entry → FieldText
 field_of area entry = record { tag = entry.tag; text = slice_range area (number_of entry.start) (end_of entry - 1) }
 
+-- ASCII letters and digits alone ("Directory")
 abbrev pub has_tag_bytes : List ℕ → Bool
 has_tag_bytes tag = list_all is_ascii_alphanumeric tag
 

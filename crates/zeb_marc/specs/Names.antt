@@ -2,6 +2,7 @@
 use Rattle.std.specs.Prelude.{ℕ, List, codes}
 use Rattle.zeb_marc.specs.Cited.{MarcFault, LengthDigits, LengthRange, Truncated, NoTerminator, LeaderCounts, BaseAddress, DirectoryLength, EntryDigits, EntryTag, EntryRange, FieldEnd, TooManySeparators, ReadFault}
 
+-- the name of each fault, as it is printed
 abbrev pub fault_name : MarcFault → List ℕ
 fault_name LengthDigits = codes "LengthDigits"
 fault_name LengthRange = codes "LengthRange"

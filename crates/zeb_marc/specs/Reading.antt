@@ -13,7 +13,8 @@ IsStreamFault TooManySeparators = ⊤
 IsStreamFault ReadFault = ⊤
 IsStreamFault fault = ⊥
 
--- what a buffer keeps where this is answered
+-- what a buffer keeps where this is answered, on any source: a slice of the answered length, or, at the end and for a
+-- fault, which is one of reading, nothing
 abbrev pub Keeps : Result (Option ℕ) MarcFault → List ℕ → Type 0
 Keeps (Ok None) kept = kept ≡ []
 Keeps (Ok (Some n)) kept = IsSlice kept × (n ≡ length kept)

@@ -17,18 +17,22 @@ directory_of text = slice_range text 24 (base_address text - 1)
 abbrev pub data_area : List ℕ → List ℕ
 data_area text = slice_range text (base_address text) (length text - 1)
 
+-- the fault of the first check that fails, the leader's first and then the entries' (ISO 2709, "Structure of a
+-- record")
 unfoldable pub first_fault : List ℕ → Option MarcFault
 first_fault text = first_failing (leader_checks text ++ directory_checks (data_area text) (directory_of text))
 
+-- the fields that a text's directory names in its data area, in its order
 unfoldable pub fields_of : List ℕ → List FieldText
 fields_of text = fields_in (data_area text) (directory_of text)
 
--- the text is a record, and these are its fields
+-- the text is a record with these fields: each check passes, and the fields are those that the directory names (ISO
+-- 2709, "Structure of a record")
 pub record IsRecord (text : List ℕ) (fields : List FieldText) : Type 0 where
   pub sound : first_fault text ≡ None
   pub fields_are : fields ≡ fields_of text
 
--- the faults of a text that is no record: the two others are those of a stream
+-- the faults of a text that is no record: every one but `TooManySeparators` and `ReadFault`, which only a stream has
 abbrev pub IsRecordFault : MarcFault → Type 0
 IsRecordFault TooManySeparators = ⊥
 IsRecordFault ReadFault = ⊥

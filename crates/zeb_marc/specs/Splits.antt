@@ -7,6 +7,7 @@ use Rattle.std.specs.Prelude.{◌≡◌, ℕ, zero, suc, ◌≤◌, Bool, true, 
 use Rattle.zeb_marc.specs.Cited.{list_all, prefix_len, MarcFault, TooManySeparators}
 use Rattle.zeb_marc.specs.Leader.{record_length, first_failing, slice_checks}
 
+-- CR, LF or space
 abbrev pub is_separator : ℕ → Bool
 is_separator byte = byte == 13 || byte == 10 || byte == 32
 
@@ -18,7 +19,8 @@ pub record IsRun (run : List ℕ) : Type 0 where
   pub separators : are_separators run ≡ true
   pub bounded : length run ≤ 65535
 
--- as many bytes as the first five digits say
+-- a slice: its first five bytes are digits that say at least 26, and it has as many bytes as they say (ISO 2709,
+-- "Record label")
 pub record IsSlice (slice : List ℕ) : Type 0 where
   pub no_fault : first_failing (slice_checks slice) ≡ None
   pub whole : length slice ≡ record_length slice
@@ -40,7 +42,8 @@ abbrev pub EndsAs : List ℕ → Option MarcFault → Type 0
 EndsAs text None = IsRun text
 EndsAs text (Some fault) = (run rest : List ℕ) × (text ≡ run ++ rest) × (IsTooLong run fault ⊎ IsNoSlice run rest fault)
 
--- the file is these slices, with separators before them, and then the end or a fault
+-- the file is, before each slice, a run of at most 65,535 separators, or none, and behind the last the end or a fault
+-- (`EndsAs`)
 abbrev pub IsSplit : List ℕ → List (List ℕ) → Option MarcFault → Type 0
 IsSplit file [] end = EndsAs file end
 IsSplit file (slice ∷ slices) end = (run rest : List ℕ) × (file ≡ run ++ (slice ++ rest)) × IsRun run × IsSlice slice × IsSplit rest slices end
@@ -61,6 +64,7 @@ abbrev pub next_behind : List ℕ → Next
 next_behind [] = at_end
 next_behind (byte ∷ bytes) = next_if (first_failing (slice_checks (byte ∷ bytes))) (byte ∷ bytes)
 
+-- what stands next in a file; `split_laws` says each case in terms of runs and slices
 unfoldable pub next_of : List ℕ → Next
 next_of text = if nat_lt 65535 (prefix_len is_separator text) then a_fault TooManySeparators else next_behind (drop (prefix_len is_separator text) text)
 
@@ -69,7 +73,8 @@ pub record Split : Type 0 where
   pub slices : List (List ℕ)
   pub fault : Option MarcFault
 
--- what stands next, and then the split of what follows it
+-- the split of a file from what stands next in it: nothing; a slice, and then the split of what follows; or a fault
+-- alone
 abbrev pub split_next : (List ℕ → Split) → Next → Split
 split_next others at_end = record { slices = []; fault = None }
 split_next others (a_slice slice rest) = record { slices = slice ∷ (others rest).slices; fault = (others rest).fault }
@@ -79,11 +84,12 @@ abbrev pub split_within : ℕ → List ℕ → Split
 split_within zero text = record { slices = []; fault = None }
 split_within (suc n) text = split_next (split_within n) (next_of text)
 
--- a file has no more slices than bytes
+-- the split of a whole file, which has no more slices than bytes
 unfoldable pub split_of : List ℕ → Split
 split_of file = split_within (suc (length file)) file
 
--- what a reader of one record answers where this stands next, what it keeps, and what it leaves unread
+-- what a reader of one record answers where this stands next, what its buffer keeps, and, but for a fault, what it
+-- leaves unread
 abbrev pub Gives : Next → Result (Option ℕ) MarcFault → List ℕ → Option (List ℕ) → Type 0
 Gives at_end answer kept left = (answer ≡ Ok None) × (kept ≡ []) × (left ≡ Some [])
 Gives (a_slice slice rest) answer kept left = (answer ≡ Ok (Some (length slice))) × (kept ≡ slice) × (left ≡ Some rest)

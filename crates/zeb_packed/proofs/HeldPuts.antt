@@ -1,5 +1,5 @@
 -- Rows that are put, some after others.
-use Rattle.zeb_packed.proofs.Cited.{◌≡◌, ◌≢◌, ◌⊎◌, ◌∙◌, ◌++◌, ◌+◌, ◌-◌, ◌<◌, ◌≤◌, ℕ, ℤ, pos, false, List, [], ◌∷◌, drop, length, map, take, get_or, refl, sym, ap, subst, inl, inr, arith, Result, Ok, Err, IfOk, Has, has_either, has_left, has_right, map-append, take-append-drop, take_all, take_more, take_rest, GoesOn, IsTrue, Row, State, Trees, HasRow, Int, Database, OnlyReads, IsStore, Changes, changes_so, changes_then, blocks_tree, dict_tree, Gains, Key, RegFault, Damaged, LacksBlock, IsTold, IsOfNumbered, KeyOf, Answers, IfDamaged}
+use Rattle.zeb_packed.proofs.Cited.{◌≡◌, ◌≢◌, ◌⊎◌, ◌∙◌, ◌++◌, ◌+◌, ◌-◌, ◌<◌, ◌≤◌, ℕ, ℤ, pos, false, List, [], ◌∷◌, drop, length, map, take, get_or, refl, sym, ap, subst, inl, inr, arith, Result, Ok, Err, IfOk, Has, has_either, has_left, has_right, map-append, take-append-drop, take_all, take_rest, GoesOn, IsTrue, Row, State, Trees, HasRow, Int, Database, OnlyReads, IsStore, Changes, changes_so, changes_then, blocks_tree, dict_tree, Gains, Key, RegFault, Damaged, LacksBlock, IsTold, IsOfNumbered, KeyOf, Answers, IfDamaged}
 use Rattle.zeb_packed.proofs.HeldTables.{block_is, block_of}
 use Rattle.zeb_packed.proofs.PackedWrites.{has_as}
 use Rattle.zeb_packed.specs.PrivateNewRows.{AreApart, AreLacking, GainsAll, GainsRows, SomeStands, new_block_row, new_count_row}
@@ -90,11 +90,6 @@ all_taken xs done end = take_all done xs end
 
 pub goes_still : (s : State) → IsTrue s.in_transaction → IsTrue s.is_open → GoesOn s s
 goes_still s inside opened = record { was_open = opened; is_open = opened; now_is = refl; committed_is = refl; mode = inside }
-
--- ---- one row more
-
-pub taken_next : {X : Type 0} (xs : List X) (i : ℕ) (x : X) → i < length xs → x ≡ get_or xs i x → take (i + 1) xs ≡ take i xs ++ x ∷ []
-taken_next xs i x below is = take_more xs i x below ∙ ap (λ y. take i xs ++ y ∷ []) (sym is)
 
 -- ---- the rows of both tables
 

@@ -18,6 +18,7 @@ pub mod KeyCounts
 pub mod KeyPuts
 pub mod ManyRows
 pub mod ManyBlocks
+pub mod ManyCounts
 pub mod NewValues
 pub mod KnownKeys
 pub mod HeldTables

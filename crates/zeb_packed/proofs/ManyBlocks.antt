@@ -1,11 +1,10 @@
 -- Rows of `blocks` that are put at once, each of which is the first of its block.
-use Rattle.zeb_packed.proofs.Cited.{◌≡◌, ◌∙◌, ◌/◌, ℕ, ℤ, true, Ok, List, [], ◌∷◌, length, map, refl, sym, ap, inl, inr, subst, AllByRecursion, length-map, Has, mapped_has, tied_itself, is_eq, Int, Null, Insert, Values, Term, Row, column, Executes, State, rowid, value_cmp_total, command_of, IsPlain, IsStore, Changes, blocks_tree, store_schema, blocks, blocks_keys, blocks_static, single}
-use Rattle.sqlite.specs.Effect.{value_rows}
+use Rattle.zeb_packed.proofs.Cited.{◌≡◌, ◌∙◌, ℕ, ℤ, true, Ok, List, [], ◌∷◌, length, map, refl, sym, ap, inl, inr, AllByRecursion, Has, mapped_has, tied_itself, is_eq, Int, Insert, Values, Term, Row, column, Executes, State, rowid, value_cmp_total, command_of, IsPlain, IsStore, Changes, blocks_tree, store_schema, blocks, blocks_keys, blocks_static, single}
 use Rattle.sqlite.specs.Listing.{understood}
 use Rattle.sqlite.specs.Order.{value_cmp}
 use Rattle.sqlite_tied.specs.Compute.{everything}
-use Rattle.zeb_packed.proofs.ManyRows.{GainsNumbered, fresh_apart, has_shown, inserts_many, new_rows, rows_terms, values_shown}
-use Rattle.zeb_packed.specs.PrivateNewRows.{AreBlockValues, AreLacking, joined, new_block_row}
+use Rattle.zeb_packed.proofs.ManyRows.{GainsNumbered, fresh_apart, has_shown, inserts_many, new_rows, rows_shown, rows_terms}
+use Rattle.zeb_packed.specs.PrivateNewRows.{AreLacking, AreValuesOf, new_block_row}
 use Rattle.zeb_packed.specs.declared.new_rows.NewBlock.{NewBlock}
 use Rattle.zeb_packed.specs.declared.statements.many.TheConstants.{ADD_BLOCKS}
 use Rattle.zeb_register.proofs.ValueKinds.{keeps_all}
@@ -32,19 +31,13 @@ rows_kept : (db : ℤ) (news : List NewBlock) → AllByRecursion (λ (r : Row). 
 rows_kept db [] = tt
 rows_kept db (one ∷ news) = (refl, rows_kept db news)
 
-values_are : (db : ℤ) (news : List NewBlock) (params : Row) → AreBlockValues db news params → value_rows params 7 (length add_terms / 7) add_terms ≡ map (λ (r : Row). Null ∷ r) (map (new_block_row db) news)
-values_are db news params are =
-    let rows = map (new_block_row db) news in
-    ap (λ ps. value_rows ps 7 16 add_terms) are.1
-    ∙ subst (λ n. value_rows (joined rows) 7 n (rows_terms 6 n 0) ≡ map (λ (r : Row). Null ∷ r) rows) (length-map news (new_block_row db) ∙ are.0) (values_shown 6 rows (rows_long db news) [] 0 refl)
-
-pub adds_blocks : (db : ℤ) (news : List NewBlock) (params : Row) → AreBlockValues db news params → (old new : State) (count : ℕ) → IsStore old → Executes add_text params old new (Ok count)
+pub adds_blocks : (db : ℤ) (news : List NewBlock) (params : Row) → AreValuesOf (new_block_row db) news params → (old new : State) (count : ℕ) → IsStore old → Executes add_text params old new (Ok count)
     → Changes blocks_tree (GainsNumbered (map (new_block_row db) news)) old new
 adds_blocks db news params are old new count store ran =
-    inserts_many store_schema 4 blocks blocks_static add_text params add_terms 7 (map (new_block_row db) news) add_is add_plain (values_are db news params are) (rows_kept db news) old new count store ran
+    inserts_many store_schema 4 blocks blocks_static add_text params add_terms 7 (map (new_block_row db) news) add_is add_plain (rows_shown (new_block_row db) 6 news params are (rows_long db news)) (rows_kept db news) old new count store ran
 
 -- no block had a row
-pub blocks_lacked : (db : ℤ) (news : List NewBlock) (params : Row) → AreBlockValues db news params → (old new : State) (count : ℕ) → IsStore old → Executes add_text params old new (Ok count) → AreLacking db news old.now.trees
+pub blocks_lacked : (db : ℤ) (news : List NewBlock) (params : Row) → AreValuesOf (new_block_row db) news params → (old new : State) (count : ℕ) → IsStore old → Executes add_text params old new (Ok count) → AreLacking db news old.now.trees
 blocks_lacked db news params are old new count store ran one among row here in_it =
     let rows = map (new_block_row db) news in
     let table = old.now.trees blocks_tree in

@@ -1,5 +1,5 @@
 -- INSERT of many rows at once, as what it makes of a table's rows.
-use Rattle.zeb_packed.proofs.Cited.{◌≡◌, ◌⊎◌, ◌↔◌, ◌∙◌, ◌/◌, ◌++◌, ◌+◌, ◌&&◌, ℕ, ℤ, zero, suc, true, false, List, [], ◌∷◌, length, map, drop, take, slice_get, Ok, Err, Result, IfOk, Some, None, inl, inr, refl, sym, ap, ap₂, subst, AllByRecursion, arith, length-append, Has, Row, column, rowid, Int, Null, Value, Schema, Table, State, Trees, Executes, ExecutesInside, Error, Database, Insert, Values, Term, lit, col, next_rowid, Chosen, command_of, IsPlain, some_from, is_eq, both_ways, HasLayout, HasRow, Changes, GoesOn, IsPlainTable, keyed_there, changed_so}
+use Rattle.zeb_packed.proofs.Cited.{◌≡◌, ◌⊎◌, ◌↔◌, ◌∙◌, ◌/◌, ◌++◌, ◌+◌, ◌&&◌, ℕ, ℤ, zero, suc, true, false, List, [], ◌∷◌, length, map, drop, take, slice_get, Ok, Err, Result, IfOk, Some, None, inl, inr, refl, sym, ap, ap₂, subst, AllByRecursion, arith, length-append, length-map, Has, Row, column, rowid, Int, Null, Value, Schema, Table, State, Trees, Executes, ExecutesInside, Error, Database, Insert, Values, Term, lit, col, next_rowid, Chosen, command_of, IsPlain, some_from, is_eq, both_ways, HasLayout, HasRow, Changes, GoesOn, IsPlainTable, keyed_there, changed_so}
 use Rattle.sqlite.proofs.Callers.{one_step, runs_as, statement_of}
 use Rattle.sqlite.specs.Cast.{cast_row}
 use Rattle.sqlite.specs.Does.{Does, Tally}
@@ -19,7 +19,7 @@ use Rattle.std.proofs.Common.{Option}
 use Rattle.std.proofs.Math.Seq.{drop-append_seam, take-append_seam}
 use Rattle.std.proofs.lemmas.Bool.{and_parts, not-true}
 use Rattle.std.proofs.lemmas.List.{append_assoc}
-use Rattle.zeb_packed.specs.PrivateNewRows.{GainsAll, joined}
+use Rattle.zeb_packed.specs.PrivateNewRows.{AreValuesOf, GainsAll, joined}
 use Rattle.zeb_register.proofs.EditedRows.{edited_has, edited_keyed, keyed_after}
 use Rattle.zeb_register.proofs.ValueKinds.{keeps_all}
 use Rattle.zeb_register.proofs.WrittenRows.{cast_row_same, not_above, not_counted, not_stamped, same_value, went}
@@ -155,7 +155,7 @@ terms_long : (width at : ℕ) → length (row_terms width at) ≡ width
 terms_long zero at = refl
 terms_long (suc width) at = ap suc (terms_long width (at + 1))
 
-pub values_shown : (width : ℕ) (rows : List Row) → AllByRecursion (λ (r : Row). length r ≡ width) rows → (front : Row) (at : ℕ) → at ≡ length front
+values_shown : (width : ℕ) (rows : List Row) → AllByRecursion (λ (r : Row). length r ≡ width) rows → (front : Row) (at : ℕ) → at ≡ length front
     → value_rows (front ++ joined rows) (suc width) (length rows) (rows_terms width (length rows) at) ≡ map (λ (r : Row). Null ∷ r) rows
 values_shown width [] long front at is = refl
 values_shown width (row ∷ rows) long front at is =
@@ -169,6 +169,14 @@ values_shown width (row ∷ rows) long front at is =
     ∙ ap (value_rows params (suc width) (length rows)) (drop-append_seam head more)
     ∙ ap (λ ps. value_rows ps (suc width) (length rows) more) (sym (append_assoc front row (joined rows))) ∙ values_shown width rows long.1 (front ++ row) (at + width) (omega (arith, is, long.0, length-append front row)) in
     ap₂ (λ (r : Row) (l : List Row). r ∷ l) first later
+
+-- the values of as many rows as a statement puts are what its terms show
+pub rows_shown : {X : Type 0} (row_of : X → Row) (width : ℕ) (news : List X) (params : Row) → AreValuesOf row_of news params → AllByRecursion (λ (r : Row). length r ≡ width) (map row_of news)
+    → value_rows params (suc width) 16 (rows_terms width 16 0) ≡ map (λ (r : Row). Null ∷ r) (map row_of news)
+rows_shown {X} row_of width news params are long =
+    let rows = map row_of news in
+    ap (λ ps. value_rows ps (suc width) 16 (rows_terms width 16 0)) are.1
+    ∙ subst (λ n. value_rows (joined rows) (suc width) n (rows_terms width n 0) ≡ map (λ (r : Row). Null ∷ r) rows) (length-map news row_of ∙ are.0) (values_shown width rows long [] 0 refl)
 
 -- ---- what a statement inside a transaction did
 

@@ -120,9 +120,9 @@ pub record HoldsRun (db : ℤ) (run : List KeyChanges) (old mid : Trees) (held :
 abbrev pub GoesOnOpen : {A E : Type 0} → State → State → Result A E → Type 0
 GoesOnOpen old new result = IsTrue old.is_open → Inside old new result (λ _. GoesOn)
 
--- the values are those of so many rows as one statement puts
-abbrev pub AreBlockValues : ℤ → List NewBlock → Row → Type 0
-AreBlockValues db blocks values = (length blocks ≡ 16) × (values ≡ joined (map (new_block_row db) blocks))
+-- the values are those of so many rows as one statement puts, a row for each of the list
+abbrev pub AreValuesOf : {X : Type 0} → (X → Row) → List X → Row → Type 0
+AreValuesOf row_of news values = (length news ≡ 16) × (values ≡ joined (map row_of news))
 
 -- The rows stand beside those that there were, and no block of theirs had one. Damaged is told only where one has.
 abbrev pub PutsBlocks : ℤ → List NewBlock → State → State → Result (Unit {0}) RegFault → Type 0

@@ -1,18 +1,17 @@
-//! Held rows that are put: those of blocks many at once, and then those of `dict`.
+//! Held rows that are put, many at once: those of blocks, and then those of `dict`.
 
-ghost use Rattle.std.specs.Prelude.{◌≡◌, ◌≢◌, ◌≤◌, [], ◌∷◌, length, map, IfOk, IsTrue};
+ghost use Rattle.std.specs.Prelude.{◌≡◌, ◌≢◌, ◌≤◌, [], ◌∷◌, length, map, take, IfOk, IsTrue};
 ghost use Rattle.sqlite.specs.Held.{state};
 ghost use Rattle.sqlite.specs.State.{HasCleanDisk, KeepsCommit, Survives};
 ghost use Rattle.zeb_packed.specs.PrivateNewRows.{AreApart, GainsAll, GoesOnOpen, PutsBlocks, PutsFront, PutsHeld, SomeStands, new_count_row};
 ghost use Rattle.zeb_register.specs.Calls.{GoesOn, Inside, OnlyReads};
-ghost use Rattle.zeb_register.specs.Clauses.{ChangesTable, InStore, Writes};
-ghost use Rattle.zeb_register.specs.PrivateRowStatements.{Gains};
+ghost use Rattle.zeb_register.specs.Clauses.{ChangesTable, InStore};
 ghost use Rattle.zeb_register.specs.Store.{dict_tree};
 ghost use Rattle.zeb_register.specs.UnitChanges.{LacksBlock};
 
 use crate::new_rows::{NewBlock, NewCount, NewRows};
 use crate::packed_changes::{block_absent, breaks_rule};
-use crate::statements::many::{MANY, block_values, blocks_add};
+use crate::statements::many::{MANY, block_values, blocks_add, count_values, counts_add};
 use crate::statements::packed_changes::{block_add, dict_add};
 use sqlite::{Alter, Error, Transaction};
 use std::alloc::Global;
@@ -110,7 +109,7 @@ fn one_put<S: Alter>(
     }
 }
 
-/// Puts the first rows: many where there are so many, and else one. Returns how many these are.
+/// Puts the first rows of blocks: many where there are so many, and else one. Returns how many these are.
 fn front_put<S: Alter>(
     alloc: Global,
     tx: &mut Transaction<'_, S>,
@@ -163,8 +162,11 @@ fn count_put<S: Alter>(
     one: &NewCount<'_>,
 ) -> Result<(), RegFault>
     ensures same { tx.new.conn.ghost_name ≡ tx.old.conn.ghost_name }
-    ensures call { Writes dict_tree (Gains (new_count_row db.0 one.now))
-        (state S.Store tx.old.conn.now) (state S.Store tx.new.conn.now) result }
+    ensures call { Inside (state S.Store tx.old.conn.now) (state S.Store tx.new.conn.now) result
+        (λ _. GoesOn) }
+    ensures put { ChangesTable dict_tree
+        (state S.Store tx.old.conn.now) (state S.Store tx.new.conn.now) result
+        (λ _. GainsAll (new_count_row db.0 one.now ∷ [])) }
     ensures honest { result ≢ Err RegFault.Damaged }
 {
     let number = stored(one.records)?;
@@ -172,8 +174,55 @@ fn count_put<S: Alter>(
     Ok(())
 }
 
+/// Puts many rows of keys in `dict` by one statement. It is refused where a key has one.
+fn many_counts_put<S: Alter>(
+    alloc: Global,
+    tx: &mut Transaction<'_, S>,
+    db: DatabaseId,
+    counts: &[NewCount<'_>],
+) -> Result<(), RegFault>
+    requires { length counts.now ≡ 16 }
+    ensures same { tx.new.conn.ghost_name ≡ tx.old.conn.ghost_name }
+    ensures call { Inside (state S.Store tx.old.conn.now) (state S.Store tx.new.conn.now) result
+        (λ _. GoesOn) }
+    ensures put { ChangesTable dict_tree
+        (state S.Store tx.old.conn.now) (state S.Store tx.new.conn.now) result
+        (λ _. GainsAll (map (new_count_row db.0) counts.now)) }
+    ensures honest { result ≢ Err RegFault.Damaged }
+{
+    let values = count_values(alloc, db, counts)?;
+    counts_add(tx, &values)?;
+    Ok(())
+}
+
+/// Puts the first rows of `dict`: many where there are so many, and else one. Returns how many these are.
+fn front_counts_put<S: Alter>(
+    alloc: Global,
+    tx: &mut Transaction<'_, S>,
+    db: DatabaseId,
+    counts: &[NewCount<'_>],
+) -> Result<usize, RegFault>
+    requires { counts.now ≢ [] }
+    ensures same { tx.new.conn.ghost_name ≡ tx.old.conn.ghost_name }
+    ensures call { Inside (state S.Store tx.old.conn.now) (state S.Store tx.new.conn.now) result
+        (λ _. GoesOn) }
+    ensures put { ChangesTable dict_tree
+        (state S.Store tx.old.conn.now) (state S.Store tx.new.conn.now) result
+        (λ count. GainsAll (map (new_count_row db.0) (take count counts.now))) }
+    ensures further { IfOk result (λ count. (1 ≤ count) × (count ≤ length counts.now)) }
+    ensures honest { result ≢ Err RegFault.Damaged }
+{
+    if counts.len() < MANY {
+        count_put(tx, db, &counts[0])?;
+        return Ok(1);
+    }
+    many_counts_put(alloc, tx, db, &counts[..MANY])?;
+    Ok(MANY)
+}
+
 /// Puts the rows of keys in `dict`. It is refused where a key has one.
 fn counts_put<S: Alter>(
+    alloc: Global,
     tx: &mut Transaction<'_, S>,
     db: DatabaseId,
     counts: &[NewCount<'_>],
@@ -188,8 +237,9 @@ fn counts_put<S: Alter>(
         (λ _. GainsAll (map (new_count_row db.0) counts.now)) }
     ensures honest { result ≢ Err RegFault.Damaged }
 {
-    for one in counts {
-        count_put(tx, db, one)?;
+    let mut done = 0;
+    while done < counts.len() {
+        done += front_counts_put(alloc, tx, db, &counts[done..])?;
     }
     Ok(())
 }
@@ -210,5 +260,5 @@ pub(crate) fn held_put<S: Alter>(
         (state S.Store tx.new.conn.now) result }
 {
     blocks_put(alloc, tx, db, &held.blocks)?;
-    counts_put(tx, db, &held.counts)
+    counts_put(alloc, tx, db, &held.counts)
 }

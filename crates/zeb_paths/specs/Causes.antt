@@ -10,6 +10,7 @@ use Rattle.zeb_paths.specs.declared.causes.PathCause.TheVariants as path
 use Rattle.zeb_paths.specs.declared.causes.StoreCause.{StoreCause}
 use Rattle.zeb_paths.specs.declared.causes.StoreCause.TheVariants as store
 
+-- the words for why a path isn't read
 abbrev pub path_cause_text : PathCause → List ℕ
 path_cause_text path.Absent = codes "nothing stands there"
 path_cause_text path.Forbidden = codes "no right to read it"
@@ -23,11 +24,14 @@ path_cause_text path.Name = codes "a name that isn't UTF-8 or is too long"
 path_cause_text path.Failed = codes "the system failed a call"
 path_cause_text path.Memory = codes "out of memory"
 
+-- the words for why a store fails
 abbrev pub store_cause_text : StoreCause → List ℕ
 store_cause_text store.Held = codes "held by another program"
 store_cause_text store.NoFolder = codes "no such folder"
 store_cause_text store.Forbidden = codes "no right to write the file, or in its folder"
 store_cause_text store.NoFile = codes "no file stands there"
+store_cause_text store.LostLink = codes "a link that leads nowhere"
+store_cause_text store.Name = codes "a name that SQLite takes for no file's"
 store_cause_text store.TwoNames = codes "a file with a second name"
 store_cause_text store.Journal = codes "a journal of SQLite stands beside it"
 store_cause_text store.Foreign = codes "no register of this program"

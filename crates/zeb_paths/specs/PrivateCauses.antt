@@ -35,11 +35,16 @@ abbrev pub IsUnmade : Result Metadata Error → StoreCause → Type 0
 IsUnmade (Ok found) cause = (IsDir (file_type found) → cause ≡ store.Forbidden) × (¬ IsDir (file_type found) → cause ≡ store.NoFolder)
 IsUnmade (Err error) cause = cause ≡ folder_cause_of (error_kind error)
 
--- This is told of a store at a path where this is found: no file; nothing, in a folder where none can be made; or why the path can't be looked at.
+-- none stands at a path, where this is found if no link is followed: a link that leads nowhere, or nothing, in a folder where none can be made
+abbrev pub IsMissed : Result Metadata Error → StoreCause → Type 0
+IsMissed (Ok link) cause = cause ≡ store.LostLink
+IsMissed (Err error) cause = (folder : Result Metadata Error) × IsUnmade folder cause
+
+-- This is told of a store at a path where this is found: no file; nothing, or a link to nothing; or why the path can't be looked at.
 abbrev pub IsLookedUp : Result Metadata Error → StoreCause → Type 0
 IsLookedUp (Ok found) cause = ¬ IsFile (file_type found) → cause ≡ store.NoFile
 IsLookedUp (Err error) cause =
-    (error_kind error ≡ system.NotFound → (folder : Result Metadata Error) × IsUnmade folder cause)
+    (error_kind error ≡ system.NotFound → (link : Result Metadata Error) × IsMissed link cause)
     × (error_kind error ≢ system.NotFound → cause ≡ store_cause_of (error_kind error))
 
 -- what a look tells; where it meets nothing the system has failed a call before

@@ -9,7 +9,7 @@ use Rattle.zeb_paths.specs.declared.paths.PathKind.{PathKind}
 use Rattle.zeb_paths.specs.declared.paths.PathKind.TheVariants.{File, Folder}
 use Rattle.zeb_paths.specs.declared.shelf.Shelved.{Shelved}
 
--- the first file with this path
+-- the first file in memory with this path
 abbrev pub first_at : List Shelved → List ℕ → Option Shelved
 first_at files path = find (λ file. bytes_eq file.path.now path) files
 

@@ -67,6 +67,7 @@ pub record Due : Type 0 where
   pub path : List ℕ
   pub level : ℕ
 
+-- a path with its level, as a walk keeps it
 abbrev pub due : List ℕ → ℕ → Due
 due path level = record { path = path; level = level }
 
@@ -83,6 +84,7 @@ pub record Tells : Type 0 where
   pub stands : List ℕ → Option (Result PathKind PathCause)
   pub names : List ℕ → Option (List (List ℕ))
 
+-- what paths tell, as a walk is given it
 abbrev pub telling : (List ℕ → Option (List ℕ)) → (List ℕ → Option (Result PathKind PathCause)) → (List ℕ → Option (List (List ℕ))) → Tells
 telling bytes stands names = record { bytes = bytes; stands = stands; names = names }
 
@@ -113,7 +115,7 @@ pub data IsRefused (at : Tells) (here : Due) : PathCause → Type 0 where
   not_given : {why : PathCause} → MayStand at here.path (Ok Folder) → IfSome (at.names here.path) (λ told. (why ≡ cause.Memory) ⊎ Contains told [])
       → IsRefused at here why
 
--- why a walk can't go on at a path, for this cause
+-- the fault of a path for a cause, which names this path or is want of memory
 abbrev pub fault_at : String Global → PathCause → WalkFault
 fault_at path cause.Memory = Memory
 fault_at path other = Unreadable path
@@ -157,8 +159,10 @@ StaysUnder = (at : Tells) (steps later : List Step) (result : Result (Option (St
 abbrev pub level_weight : ℕ → ℕ
 level_weight level = 18446744073709551616 ^ (33 - level)
 
+-- how much one path that is still to be looked at weighs
 abbrev pub step_weight : Step → ℕ
 step_weight step = level_weight step.level
 
+-- how much all paths that are still to be looked at weigh together
 abbrev pub walk_weight : List Step → ℕ
 walk_weight steps = sum_by step_weight steps

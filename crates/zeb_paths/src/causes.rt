@@ -99,8 +99,12 @@ pub enum StoreCause {
     NoFolder,
     /// This process may not read and write it, or make a file in its folder.
     Forbidden,
-    /// Something else than a file stands there.
+    /// Something else than a file stands there, or in its log's place.
     NoFile,
+    /// A link stands there that leads nowhere.
+    LostLink,
+    /// The path has another meaning for SQLite than a file's.
+    Name,
     /// The file has a second name.
     TwoNames,
     /// A journal stands beside it, which only SQLite can play back.
@@ -128,6 +132,8 @@ impl fmt::Display for StoreCause {
             StoreCause::NoFolder => "no such folder",
             StoreCause::Forbidden => "no right to write the file, or in its folder",
             StoreCause::NoFile => "no file stands there",
+            StoreCause::LostLink => "a link that leads nowhere",
+            StoreCause::Name => "a name that SQLite takes for no file's",
             StoreCause::TwoNames => "a file with a second name",
             StoreCause::Journal => "a journal of SQLite stands beside it",
             StoreCause::Foreign => "no register of this program",

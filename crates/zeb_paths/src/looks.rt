@@ -8,11 +8,13 @@ ghost use Rattle.std.specs.Fs.{IsDir, IsFile, file_type};
 ghost use Rattle.std.specs.IoError.{error_kind};
 ghost use Rattle.std.specs.declared.io.ErrorKind.TheVariants as system;
 ghost use Rattle.zeb_paths.specs.Causes.{sqlite_cause_of};
+ghost use Rattle.zeb_paths.specs.Opened.{IsPlainPath};
 ghost use Rattle.zeb_paths.specs.Unread as spec;
 ghost use Rattle.zeb_paths.specs.Unread.{IsUnreadBy};
-ghost use Rattle.zeb_paths.specs.PrivateCauses.{IsFree, IsLookedUp, IsUnmade, is_looked_up, log_cause_of, read_cause, told_by_look};
+ghost use Rattle.zeb_paths.specs.PrivateCauses.{IsFree, IsLookedUp, IsMissed, IsUnmade, is_looked_up, log_cause_of, read_cause, told_by_look};
 
 use crate::causes::{PathCause, StoreCause};
+use crate::opening::is_plain;
 use crate::paths::Asked;
 use sqlite::{Error, ErrorCode};
 use std::fs::{self, Metadata, OpenOptions};
@@ -124,11 +126,16 @@ pub fn may_have_store(rt: &HostRuntime, path: &str) -> bool
 /// Why the store at a path isn't opened, where this is what SQLite's kit says of it.
 pub fn why_unopened(rt: &HostRuntime, path: &str, error: Error) -> StoreCause
     ensures said { error ≢ SqliteFailure CannotOpen → result ≡ sqlite_cause_of error }
-    ensures looked { error ≡ SqliteFailure CannotOpen → (found : _) × IsLookedUp found result
-        × (is_looked_up result ≡ true) }
+    ensures named { error ≡ SqliteFailure CannotOpen → ¬ IsPlainPath path.now
+        → result ≡ StoreCause.Name }
+    ensures looked { error ≡ SqliteFailure CannotOpen → IsPlainPath path.now → (found : _)
+        × IsLookedUp found result × (is_looked_up result ≡ true) }
 {
     if error != Error::SqliteFailure(ErrorCode::CannotOpen) {
         return StoreCause::from(error);
+    }
+    if !is_plain(path) {
+        return StoreCause::Name;
     }
     match open_anew(rt, path) {
         Ok(()) => StoreCause::Failed,
@@ -143,8 +150,19 @@ fn open_anew(rt: &HostRuntime, path: &str) -> Result<(), StoreCause>
 {
     match fs::metadata(rt, path) {
         Ok(found) => use_file(rt, path, found),
-        Err(error) if is_missing(error) => Err(why_unmade(fs::metadata(rt, folder_of(path)))),
+        Err(error) if is_missing(error) => Err(why_missed(rt, path)),
         Err(error) => Err(StoreCause::from(error)),
+    }
+}
+
+/// Why no store stands at a path, and none can be made there.
+fn why_missed(rt: &HostRuntime, path: &str) -> StoreCause
+    ensures missed { (link : _) × IsMissed link result }
+    ensures looked { is_looked_up result ≡ true }
+{
+    match fs::symlink_metadata(rt, path) {
+        Ok(_) => StoreCause::LostLink,
+        Err(_) => why_unmade(fs::metadata(rt, folder_of(path))),
     }
 }
 
@@ -173,12 +191,24 @@ fn use_file(rt: &HostRuntime, path: &str, found: Metadata) -> Result<(), StoreCa
         return Err(StoreCause::TwoNames);
     }
     open_to_write(rt, path)?;
+    // A link is followed to the file itself: its journal and its log stand beside that.
+    let real = fs::canonicalize(rt, path)?;
+    use_beside(rt, real.as_str())
+}
+
+/// Looks at what stands beside a store's file.
+fn use_beside(rt: &HostRuntime, path: &str) -> Result<(), StoreCause>
+    ensures looked { IfErr result (λ cause. is_looked_up cause ≡ true) }
+{
     let journal = format!(in rt.alloc(); "{path}-journal").map_err(|_| StoreCause::Memory)?;
     if is_there(rt, journal.as_str())? {
         return Err(StoreCause::Journal);
     }
     let log = format!(in rt.alloc(); "{path}-wal").map_err(|_| StoreCause::Memory)?;
-    use_log(open_to_write(rt, log.as_str()))
+    match fs::symlink_metadata(rt, log.as_str()) {
+        Ok(found) if !found.is_file() => Err(StoreCause::NoFile),
+        _ => use_log(open_to_write(rt, log.as_str())),
+    }
 }
 
 /// Why a store whose file is there isn't opened, where its log was opened so.

@@ -1,6 +1,6 @@
 //! Opening the store at a path, with room in memory for the pages of its file.
 
-ghost use Rattle.std.specs.Prelude.{◌≡◌, ◌≤◌, false, IfOk, IsTrue};
+ghost use Rattle.std.specs.Prelude.{◌≡◌, ◌≤◌, ◌↔◌, false, IfOk, IsTrue};
 ghost use Rattle.sqlite.specs.Files.{file_state};
 ghost use Rattle.sqlite.specs.State.{HasCleanDisk};
 ghost use Rattle.sqlite_std_file.specs.File.{file_is_usable};
@@ -45,13 +45,20 @@ pub(crate) fn open_store<S: Start>(
     }
 }
 
+/// Whether SQLite gives a path no other meaning than a file's.
+pub(crate) fn is_plain(path: &str) -> bool
+    ensures { IsTrue result ↔ IsPlainPath path.now }
+{
+    path != ":memory:" && !path.starts_with("file:")
+}
+
 /// Opens the file at a path and its log. A path that has another meaning for SQLite isn't opened.
 fn open_files<S: Start>(rt: &HostRuntime, path: &str, start: S) -> Result<Files<FileFrom<S>>, Error>
     ensures log { IfOk result (λ files. IsTrue (file_is_usable S.Start files.log)) }
     ensures db { IfOk result (λ files. IsTrue (file_is_usable S.Start files.db)) }
     ensures plain { IfOk result (λ _. IsPlainPath path.now) }
 {
-    if path == ":memory:" || path.starts_with("file:") {
+    if !is_plain(path) {
         return Err(CANNOT_OPEN);
     }
     match sqlite_std_file::open(rt, path, start) {

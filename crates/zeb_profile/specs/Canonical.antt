@@ -7,6 +7,7 @@ abbrev pub code_text : Option ℕ → List ℕ
 code_text None = []
 code_text (Some code) = codes "$" ++ encode_utf8_all (code ∷ [])
 
+-- a pattern of units, a tag with or without a code, as a profile spells it
 abbrev pub pattern_text : UnitPattern → List ℕ
 pattern_text pattern = encode_utf8_all pattern.tag ++ code_text pattern.code
 
@@ -24,5 +25,6 @@ canonical_line (Att number name) = codes "att " ++ decimal number ++ codes " " +
 canonical_line (Melm pattern targets) = codes "melm " ++ pattern_text pattern ++ codes " " ++ targets_text targets ++ codes "\n"
 canonical_line (All targets) = codes "all " ++ targets_text targets ++ codes "\n"
 
+-- each directive but `store` on a line, one space between words, registers written, numbers without leading zeros
 abbrev pub canonical_text : List Directive → List ℕ
 canonical_text directives = flat_map canonical_line directives

@@ -60,6 +60,6 @@ directive_from (keyword ∷ words) rest =
     else (if bytes_eq keyword (codes "all") then all_of words
     else Err FaultyDirective))))
 
--- a line read alone
+-- what a line read alone says, or its fault: how many words it has is asked first, and then they from left to right
 abbrev pub directive_of : List ℕ → Result Directive ProfileFaultKind
 directive_of line = directive_from (words_of line) (trimmed (after_word line))

@@ -3,6 +3,7 @@ use Rattle.std.specs.Prelude.{ℕ, List, ◌++◌, codes, decimal}
 use Rattle.zeb_profile.specs.Cited.{ProfileFault, ProfileFaultKind}
 use Rattle.zeb_profile.specs.declared.faults.ProfileFaultKind.TheVariants.{Directive, Name, Register, Pattern, DuplicateTarget, DuplicateUse, UnknownIndex, NoIdentifier, TwoIdentifiers, TwoAlls, TwoStores, NoStore, TooManyIndexes, Memory}
 
+-- the name of a profile's fault, as it is printed
 abbrev pub fault_name : ProfileFaultKind → List ℕ
 fault_name Directive = codes "Directive"
 fault_name Name = codes "Name"

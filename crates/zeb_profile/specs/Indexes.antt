@@ -20,6 +20,7 @@ first_spelling directives name = unwrap_or (find (same_name name) (flat_map name
 abbrev pub index_names : List Directive → List (List ℕ)
 index_names directives = map (first_spelling directives) (target_names (all_targets directives))
 
+-- the number of the index of this name, without regard to the case of ASCII letters, if there is one
 abbrev pub index_by_name : List Directive → List ℕ → Option ℕ
 index_by_name directives name = position (same_name name) (index_names directives)
 
@@ -36,10 +37,11 @@ name_told number _ = None
 abbrev pub use_name : ℕ → List Directive → Option (List ℕ)
 use_name number directives = first_told (name_told number) directives
 
+-- the number of the index which an `att` line ties to a use attribute
 abbrev pub index_by_use : List Directive → ℕ → Option ℕ
 index_by_use directives number = option_and_then (index_by_name directives) (use_name number directives)
 
--- a target's index and register
+-- a target as the number of its index among names, and its register
 abbrev pub pair_of : List (List ℕ) → Target → ℕ × Register
 pair_of names target = (position_or_len (same_name target.name) names, target.register)
 
@@ -49,15 +51,17 @@ same_pair one other = (one.0 == other.0) && same_register one.1 other.1
 abbrev pub all_pairs : List Directive → List (ℕ × Register)
 all_pairs directives = map (pair_of (index_names directives)) (all_targets directives)
 
+-- some line has this index and register as a target
 abbrev pub has_pair : List Directive → ℕ × Register → Bool
 has_pair directives pair = list_any (same_pair pair) (all_pairs directives)
 
--- a pattern fits a unit that has its tag and, where the pattern has a code, that code
+-- a pattern without a code fits each unit, another one a unit that has its code
 abbrev pub code_fits : Option ℕ → Option ℕ → Bool
 code_fits None code = true
 code_fits (Some wanted) None = false
 code_fits (Some wanted) (Some found) = wanted == found
 
+-- a pattern fits a unit that has its tag and, where the pattern has a code, that code
 abbrev pub fits : UnitPattern → List ℕ → Option ℕ → Bool
 fits pattern tag code = bytes_eq pattern.tag tag && code_fits pattern.code code
 
@@ -94,6 +98,7 @@ abbrev pub identifier_told : Directive → Option UnitPattern
 identifier_told (Identifier pattern) = Some pattern
 identifier_told _ = None
 
+-- the pattern of the `identifier` line
 abbrev pub identifier_pattern : List Directive → Option UnitPattern
 identifier_pattern directives = first_told identifier_told directives
 
@@ -102,5 +107,6 @@ abbrev pub path_told : Directive → Option (List ℕ)
 path_told (Store path) = Some path
 path_told _ = None
 
+-- the path of the `store` line
 abbrev pub store_path : List Directive → Option (List ℕ)
 store_path directives = first_told path_told directives

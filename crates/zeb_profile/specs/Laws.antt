@@ -7,7 +7,8 @@ use Rattle.zeb_profile.specs.Profiles.{is_store, profile_of}
 abbrev pub without_store : List Directive → List Directive
 without_store directives = filter (λ directive. not (is_store directive)) directives
 
--- the two say the same of indexes, units and identifiers
+-- two lists of directives have the same names of indexes, the same index for each use attribute, the same targets, all
+-- and of each unit, and the same identifier's rule
 pub record SaysTheSame (one other : List Directive) : Type 0 where
   pub names : index_names one ≡ index_names other
   pub uses : (number : ℕ) → index_by_use one number ≡ index_by_use other number

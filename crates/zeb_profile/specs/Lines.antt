@@ -8,6 +8,7 @@ use Rattle.std.specs.List.{suffix_len, position_or_len, slice_split}
 abbrev pub is_blank : ℕ → Bool
 is_blank byte = (byte == 32) || (byte == 9)
 
+-- a byte that is no space and no tab
 abbrev pub is_no_blank : ℕ → Bool
 is_no_blank byte = not (is_blank byte)
 
@@ -17,6 +18,7 @@ without_leading_blanks text = drop (position_or_len is_no_blank text) text
 abbrev pub without_trailing_blanks : List ℕ → List ℕ
 without_trailing_blanks text = take (length text - suffix_len is_blank text) text
 
+-- a text without the blanks at its ends
 abbrev pub trimmed : List ℕ → List ℕ
 trimmed text = without_trailing_blanks (without_leading_blanks text)
 

@@ -14,6 +14,7 @@ abbrev pub ◌>>=◌ : {A B E : Type 0} → Result A E → (A → Result B E) �
 abbrev pub FailsPlaced : {A : Type 0} → ProfileFault → Result A ProfileFault → Type 0
 FailsPlaced fault said = (fault.kind ≡ Memory → fault.line ≡ 0) × (fault.kind ≢ Memory → said ≡ Err fault)
 
+-- a call answers what a definition says, its fault with its line, or that memory ran out, on line 0
 abbrev pub GivesPlaced : {X A : Type 0} → (X → A) → Result X ProfileFault → Result A ProfileFault → Type 0
 GivesPlaced view (Ok x) said = said ≡ Ok (view x)
 GivesPlaced view (Err fault) said = FailsPlaced fault said

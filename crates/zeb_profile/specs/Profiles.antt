@@ -12,7 +12,7 @@ use Rattle.zeb_profile.specs.Lines.{trimmed, says_something}
 use Rattle.zeb_profile.specs.Outcomes.{◌>>=◌}
 use Rattle.zeb_profile.specs.Words.{same_name, target_names}
 
--- the lines that say something, each with its number, counted from 1 over all lines
+-- the lines that say something, each with its number, without the blanks at its ends
 abbrev pub telling_lines : List ℕ → List (ℕ × List ℕ)
 telling_lines text = filter (λ line. says_something line.1) (enumerate_from 1 (map trimmed (lines text)))
 
@@ -28,6 +28,7 @@ abbrev pub first_of : Option ProfileFaultKind → Option ProfileFaultKind → Op
 first_of (Some kind) later = Some kind
 first_of None later = later
 
+-- the fault of a line that repeats what may stand once
 abbrev pub first_clash : List Directive → Directive → Option ProfileFaultKind
 first_clash [] directive = None
 first_clash (earlier ∷ others) directive = first_of (clash earlier directive) (first_clash others directive)
@@ -37,6 +38,7 @@ abbrev pub unless : {A E : Type 0} → Option E → A → Result A E
 unless None value = Ok value
 unless (Some fault) value = Err fault
 
+-- what a line says behind those before it: its own fault comes first, and then what it repeats
 abbrev pub directive_after : List Directive → List ℕ → Result Directive ProfileFaultKind
 directive_after earlier line = directive_of line >>= λ directive. unless (first_clash earlier directive) directive
 
@@ -57,6 +59,7 @@ placed_after earlier (line ∷ lines) =
 abbrev pub placed_lines : List ℕ → Result (List Placed) ProfileFault
 placed_lines text = placed_after [] (telling_lines text)
 
+-- the targets that a line names
 abbrev pub targets_in : Directive → List Target
 targets_in (Melm pattern targets) = targets
 targets_in (All targets) = targets
@@ -81,6 +84,7 @@ is_store _ = false
 abbrev pub most_indexes : ℕ
 most_indexes = 2 ^ 32 - 1
 
+-- whether directives have at most 2^32 - 1 indexes
 abbrev pub has_room : List Directive → Bool
 has_room directives = nat_le (length (target_names (all_targets directives))) most_indexes
 
@@ -92,12 +96,14 @@ first_lack None true false roomy = Some (record { line = 0; kind = NoStore })
 first_lack None true true false = Some (record { line = 0; kind = TooManyIndexes })
 first_lack None true true true = None
 
+-- the first thing that all lines together lack: an index that an `att` line ties, the identifier, the store, and last
+-- room for their indexes
 abbrev pub lack_of : List Placed → Option ProfileFault
 lack_of placed = let directives = directives_in placed in
     first_lack (find (λ line. ties_unknown directives line.directive) placed) (list_any (λ line. is_identifier line.directive) placed) (list_any (λ line. is_store line.directive) placed)
     (has_room directives)
 
--- the directives of a text, or its first fault
+-- the directives of a text, or the fault of its first faulty line, or what all lines together lack
 abbrev pub profile_of : List ℕ → Result (List Directive) ProfileFault
 profile_of text = do
   placed ← placed_lines text

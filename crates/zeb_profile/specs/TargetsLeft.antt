@@ -4,6 +4,7 @@ use Rattle.zeb_profile.specs.declared.unit_targets.Targets.{Targets}
 use Rattle.zeb_keys.specs.declared.registers.Register.{Register}
 use Rattle.zeb_profile.specs.Indexes.{further_pairs}
 
--- the targets of the `melm` line that are left, and those of `all` that the line lacks
+-- the targets that an iterator has yet to give: those that are left of the line, and those left of `all` that the line
+-- lacks
 abbrev pub targets_left : Targets → List (ℕ × Register)
 targets_left targets = targets.left.now ++ further_pairs targets.first.now targets.all.now

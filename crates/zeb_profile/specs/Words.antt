@@ -66,7 +66,7 @@ same_register Phrase Phrase = true
 same_register Number Number = true
 same_register _ _ = false
 
--- a target: a name, or a name, a colon (58) and a register; without one the register is that of words
+-- the byte between the name and the register of a target: a colon (58)
 abbrev pub is_colon : ℕ → Bool
 is_colon byte = byte == 58
 
@@ -74,6 +74,7 @@ abbrev pub register_after_colon : List ℕ → Result Register ProfileFaultKind
 register_after_colon part =
     if nat_lt (position_or_len is_colon part) (length part) then register_of (after_first is_colon part) else Ok Word
 
+-- a target: a name, or a name, a colon (58) and a register; without one the register is that of words
 abbrev pub target_of : List ℕ → Result Target ProfileFaultKind
 target_of part = do
   name ← name_of (before_first is_colon part)
@@ -83,11 +84,12 @@ target_of part = do
 abbrev pub same_target : Target → Target → Bool
 same_target one other = same_name one.name other.name && same_register one.register other.register
 
--- TARGETS: targets with commas (44) between; each is read, and then compared with those to its left. What that comes to, without the
--- walk, is the law `targets_are_read`.
+-- the byte between targets: a comma (44)
 abbrev pub is_comma : ℕ → Bool
 is_comma byte = byte == 44
 
+-- TARGETS: targets with commas (44) between, each read, and then compared with those to its left (what comes of that,
+-- without the walk, is the law `targets_are_read`)
 abbrev pub targets_after : List Target → List (List ℕ) → Result (List Target) ProfileFaultKind
 targets_after left [] = Ok left
 targets_after left (part ∷ parts) =

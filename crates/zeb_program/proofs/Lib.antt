@@ -2,9 +2,11 @@ pub mod Cited
 pub mod AnalysisLemmas
 pub mod AnswerLemmas
 pub mod BatchLemmas
+pub mod DoneLemmas
 pub mod ExplanationLemmas
 pub mod FailureLemmas
 pub mod FileLemmas
+pub mod LeftLemmas
 pub mod LineInputLemmas
 pub mod LineLemmas
 pub mod LineStopLemmas

@@ -1,12 +1,13 @@
 -- What is said of a line at which memory runs out, and of the lines before it.
-use Rattle.zeb_program.proofs.Cited.{◌≡◌, ◌⊎◌, ◌<◌, ◌∙◌, inl, inr, ℕ, Bool, false, List, [], ◌∷◌, ◌++◌, length, ap, map, refl, subst, sym, Option, Some, None, Result, Ok, Err, IfSome, OnErr, String, string_bytes, AllocError, Global, Held, state, State, Ghosts, Conditions, Format, Refusal, Fault, Reply, Line, PathChange, Order, Path, Says, AnswersAsTold, answer_status, answer_text, first_line, after_first_line, whole_first_line, LineOver, PathOver, ServesOver, name_bytes, LineFault, Unreadable, Memory, Command, Status, Failed, Writes}
+use Rattle.zeb_program.proofs.Cited.{◌≡◌, ◌≢◌, ◌⊎◌, ◌<◌, ◌∙◌, inl, inr, ℕ, Bool, false, List, [], ◌∷◌, length, ap, map, refl, subst, sym, Option, Some, None, Result, Ok, Err, IfSome, OnErr, String, string_bytes, AllocError, Global, Held, state, Ghosts, Conditions, Format, Fault, Reply, PathChange, AnswersAsTold, answer_status, answer_text, first_line, after_first_line, whole_first_line, LineOver, name_bytes, LineFault, Unreadable, Memory, Status, Failed}
 use Rattle.zeb_paths.specs.Walks.{Tells}
 use Rattle.zeb_program.specs.Doing.{KeepsUnread, StopsLine, StopsPart}
 use Rattle.zeb_program.specs.FaultAnswers.{Reaches}
 use Rattle.zeb_program.specs.FaultLines.{TellsFault, profile_line, unreadable_path}
 use Rattle.zeb_program.specs.FixedLines.{refusal_line}
-use Rattle.zeb_program.specs.OverTables.{ChangesOver, IsTold}
+use Rattle.zeb_program.specs.OverTables.{ChangesOver}
 use Rattle.zeb_program.specs.PrivateFaults.{IsUnread}
+use Rattle.zeb_program.specs.PrivateServing.{DoesPath}
 use Rattle.zeb_program.specs.Statuses.{fault_status, refusal_status}
 use Rattle.zeb_program.specs.declared.faults.Fault.TheVariants as fault
 use Rattle.zeb_program.proofs.AnswerLemmas.{IsAnswered, answered_lines}
@@ -15,39 +16,11 @@ use Rattle.zeb_program.proofs.WholeLineLemmas.{after_whole, first_of_whole}
 
 -- ---- one line
 
-module _ {S : Type 0} (g : Ghosts S) (at : Tells) (format : Format) (c : Conditions) (old new : Held S) where
-  -- a command
-  pub stopped_command : (text : List ℕ) (command : Command) (Same Clean : Type 0) (r : Result Status AllocError) → Says text (Order command)
-      → OnErr r (Same × (Clean → (answer : Result Reply Refusal) × ServesOver format c command (state g old) (state g new) answer))
-      → OnErr r (Same × (Clean → StopsLine g at format c text old new))
-  stopped_command text command Same Clean (Ok status) says h = tt
-  stopped_command text command Same Clean (Err e) says (same, done) = (same, λ clean. stops (done clean))
-    where
-      stops : (answer : Result Reply Refusal) × ServesOver format c command (state g old) (state g new) answer → StopsLine g at format c text old new
-      stops (answer, serves) = inr (0, answer_text answer, answer_status answer, (Order command, says, (answer, refl, refl, serves)))
-
-  -- a change by a path
-  pub stopped_path : (text : List ℕ) (change : PathChange) (Same Clean : Type 0) (r : Result Status AllocError) → Says text (Path change)
-      → OnErr r (Same × (Clean → (new ≡ old) ⊎ ((bytes : List ℕ) × (status : Status) × PathOver at format c change (state g old) bytes status (state g new))))
-      → OnErr r (Same × (Clean → StopsLine g at format c text old new))
-  stopped_path text change Same Clean (Ok status) says h = tt
-  stopped_path text change Same Clean (Err e) says (same, done) = (same, λ clean. stops (done clean))
-    where
-      stops : (new ≡ old) ⊎ ((bytes : List ℕ) × (status : Status) × PathOver at format c change (state g old) bytes status (state g new)) → StopsLine g at format c text old new
-      stops (inl none) = inl none
-      stops (inr (bytes, status, over)) = inr (0, bytes, status, (Path change, says, over))
-
-  -- a line by another text
-  pub stopped_text : (line text : List ℕ) (Same Clean Alone : Type 0) (r : Result Status AllocError) → line ≡ text
-      → OnErr r (Same × (Clean → StopsLine g at format c line old new)) → OnErr r (Same × (Clean → Alone → StopsLine g at format c text old new))
-  stopped_text line text Same Clean Alone (Ok status) is h = tt
-  stopped_text line text Same Clean Alone (Err e) is (same, done) = (same, λ clean _. subst (λ it. StopsLine g at format c it old new) is (done clean))
-
-  -- the first of those that are left
-  pub stopped_next : (bytes : List ℕ) (left : Option (List ℕ)) → IfSome left (λ l. bytes ≡ whole_first_line l) → (after_first_line bytes ≡ [] → StopsLine g at format c (first_line bytes) old new)
-      → IfSome left (λ l. StopsLine g at format c (first_line l) old new)
-  stopped_next bytes None is done = tt
-  stopped_next bytes (Some l) is done = subst (λ line. StopsLine g at format c line old new) (ap first_line is ∙ first_of_whole l) (done (ap after_first_line is ∙ after_whole l))
+-- the first of those that are left
+pub stopped_next : {S : Type 0} (g : Ghosts S) (at : Tells) (format : Format) (c : Conditions) (old new : Held S) (bytes : List ℕ) (left : Option (List ℕ)) → IfSome left (λ l. bytes ≡ whole_first_line l)
+    → (after_first_line bytes ≡ [] → StopsLine g at format c (first_line bytes) old new) → IfSome left (λ l. StopsLine g at format c (first_line l) old new)
+stopped_next g at format c old new bytes None is done = tt
+stopped_next g at format c old new bytes (Some l) is done = subst (λ line. StopsLine g at format c line old new) (ap first_line is ∙ first_of_whole l) (done (ap after_first_line is ∙ after_whole l))
 
 -- nothing is done for it
 pub stopped_still : {S : Type 0} (g : Ghosts S) (at : Tells) (format : Format) (c : Conditions) (why : LineFault) (left : Option (List ℕ)) (held : Held S) → IfSome left (λ l. KeepsUnread g at format c why l held held)
@@ -70,32 +43,42 @@ module _ {S : Type 0} (g : Ghosts S) (at : Tells) (format : Format) (c : Conditi
   named_change result reaches over =
       subst (λ paths. Reaches at ⊥ paths result × ChangesOver at format c change.kind (name_bytes change.database) paths (state g old) (state g new) result) (ap (map string_bytes) one) (reaches, over)
 
-  -- its reply isn't written
-  pub stopped_reply : (reply : Reply) → Reaches at ⊥ (map string_bytes named) (Ok reply) → ChangesOver at format c change.kind (name_bytes change.database) (map string_bytes named) (state g old) (state g new) (Ok reply)
-      → (new ≡ old) ⊎ ((bytes : List ℕ) × (status : Status) × PathOver at format c change (state g old) bytes status (state g new))
-  stopped_reply reply reaches over =
+  -- its reply is given
+  pub done_reply : (reply : Reply) → Reaches at ⊥ (map string_bytes named) (Ok reply) → ChangesOver at format c change.kind (name_bytes change.database) (map string_bytes named) (state g old) (state g new) (Ok reply)
+      → DoesPath at format c change (state g old) (state g new)
+  done_reply reply reaches over =
       let result : Result Reply Fault = Ok reply in
       let done = named_change result reaches over in
-      inr (answer_text (Ok reply), answer_status (Ok reply), (result, (refl, refl), done.0, done.1))
+      (answer_text (Ok reply), answer_status (Ok reply), (result, (refl, refl), done.0, done.1))
 
-  -- nor what kept it from one
-  pub stopped_fault : (why : Fault) → (IsUnread why → new ≡ old) → Reaches {T = Reply} at ⊥ (map string_bytes named) (Err why)
+  -- or what kept it from one
+  given_fault : (why : Fault) → Reaches {T = Reply} at ⊥ (map string_bytes named) (Err why)
       → ChangesOver at format c change.kind (name_bytes change.database) (map string_bytes named) (state g old) (state g new) (Err why)
-      → (new ≡ old) ⊎ ((bytes : List ℕ) × (status : Status) × PathOver at format c change (state g old) bytes status (state g new))
-  stopped_fault why unread reaches over = go (told_fault why)
+      → (why ≡ fault.Memory) ⊎ DoesPath at format c change (state g old) (state g new)
+  given_fault why reaches over = go (told_fault why)
     where
-      go : (why ≡ fault.Memory) ⊎ ((bytes : List ℕ) × (status : Status) × TellsFault why bytes status)
-          → (new ≡ old) ⊎ ((bytes : List ℕ) × (status : Status) × PathOver at format c change (state g old) bytes status (state g new))
-      go (inl is) = inl (unread (subst IsUnread (sym is) tt))
+      go : (why ≡ fault.Memory) ⊎ ((bytes : List ℕ) × (status : Status) × TellsFault why bytes status) → (why ≡ fault.Memory) ⊎ DoesPath at format c change (state g old) (state g new)
+      go (inl is) = inl is
       go (inr (bytes, status, tells)) =
           let result : Result Reply Fault = Err why in
           let done = named_change result reaches over in
           inr (bytes, status, (result, tells, done.0, done.1))
 
--- what is done with the writer as it was
-pub stopped_silent : (r : Result Status AllocError) (Same Done : Type 0) → OnErr r Same → Done → OnErr r (Same × Done)
-stopped_silent (Ok status) Same Done same done = tt
-stopped_silent (Err e) Same Done same done = (same, done)
+  pub done_fault : (why : Fault) → (why ≢ fault.Memory) → Reaches {T = Reply} at ⊥ (map string_bytes named) (Err why)
+      → ChangesOver at format c change.kind (name_bytes change.database) (map string_bytes named) (state g old) (state g new) (Err why) → DoesPath at format c change (state g old) (state g new)
+  done_fault why other reaches over = go (given_fault why reaches over)
+    where
+      go : (why ≡ fault.Memory) ⊎ DoesPath at format c change (state g old) (state g new) → DoesPath at format c change (state g old) (state g new)
+      go (inl is) = absurd (other is)
+      go (inr done) = done
+
+  pub stopped_fault : (why : Fault) → (IsUnread why → new ≡ old) → Reaches {T = Reply} at ⊥ (map string_bytes named) (Err why)
+      → ChangesOver at format c change.kind (name_bytes change.database) (map string_bytes named) (state g old) (state g new) (Err why) → (new ≡ old) ⊎ DoesPath at format c change (state g old) (state g new)
+  stopped_fault why unread reaches over = go (given_fault why reaches over)
+    where
+      go : (why ≡ fault.Memory) ⊎ DoesPath at format c change (state g old) (state g new) → (new ≡ old) ⊎ DoesPath at format c change (state g old) (state g new)
+      go (inl is) = inl (unread (subst IsUnread (sym is) tt))
+      go (inr done) = inr done
 
 pub same_err : {X : Type 0} {old new : X} (r : Result Status AllocError) → new ≡ old → OnErr r (new ≡ old)
 same_err (Ok status) same = tt

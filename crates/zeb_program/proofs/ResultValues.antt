@@ -50,3 +50,7 @@ second_same T A B a c b d e =
 
 pub holds_of : {T E : Type 0} (r : Result T E) (value : T) (P : T → Type 0) → r ≡ Ok value → P value → IfOk r P
 holds_of r value P is said = subst (λ it. IfOk it P) (sym is) said
+
+-- what is passed on by `?`
+pub passed_failure : {A E : Type 0} (P : E → Type 0) (r : Result A E) (why : E) → r ≡ Err why → P why → IfErr r P
+passed_failure P r why is h = subst (λ it. IfErr it P) (sym is) h

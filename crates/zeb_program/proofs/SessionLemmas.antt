@@ -1,8 +1,15 @@
 -- A session whose lines are answered, and which is then closed.
-use Rattle.std.proofs.Common.{◌≡◌, ap, subst, sym}
-use Rattle.std.specs.Prelude.{◌≢◌, Result, Ok, Err, IfOk, OnErr}
+use Rattle.std.proofs.Common.{◌≡◌, ℕ, Bool, List, ap, subst, sym}
+use Rattle.std.specs.Prelude.{◌≢◌, Option, Result, Ok, Err, IfOk, OnErr}
 use Rattle.std.specs.declared.alloc.AllocError.{AllocError}
-use Rattle.zeb_program.specs.PrivateWordRuns.{EndsSession}
+use Rattle.sqlite.specs.Held.{Held, state}
+use Rattle.sqlite.specs.State.{HasCleanDisk}
+use Rattle.sqlite.specs.Store.{Ghosts}
+use Rattle.zeb_change.specs.Conditions.{Conditions}
+use Rattle.zeb_paths.specs.Walks.{Tells}
+use Rattle.zeb_register.specs.Formats.{Format}
+use Rattle.zeb_program.specs.Doing.{DoesBatch}
+use Rattle.zeb_program.specs.PrivateWordRuns.{ClosesAloud, EndsSession, LeavesHeld}
 use Rattle.zeb_paths.specs.declared.causes.Closed.{Closed}
 use Rattle.zeb_program.specs.Statuses.{closing_status, greater}
 use Rattle.zeb_program.specs.declared.statuses.Status.{Status}
@@ -40,3 +47,23 @@ both_err (Err e) P Q first second = (first, second)
 pub both_ok : (r : Result Status AllocError) (P Q : Status → Type 0) → IfOk r P → IfOk r Q → IfOk r (λ status. P status × Q status)
 both_ok (Ok top) P Q first second = (first, second)
 both_ok (Err e) P Q first second = tt
+
+-- ---- what becomes of the store
+
+-- of one that is closed behind a shell
+pub left_shell : {S : Type 0} (g : Ghosts S) (leaves : Closed → S → Type 0) (held last : Held S) (failed : Bool) (old new : Option (List ℕ)) (Does : Held S → Held S → Type 0) (answered result : Result Status AllocError)
+    → EndsSession answered result (ClosesAloud g leaves last failed old new)
+    → (HasCleanDisk (state g last) → HasCleanDisk (state g held) × Does held last) → LeavesHeld g leaves held Does
+left_shell g leaves held last failed old new Does (Ok top) result ends done =
+    record { last = last; closed = ends.0; clean = λ whole. (done whole).0; does = λ whole. (done whole).1; ends = ends.2.0 }
+left_shell g leaves held last failed old new Does (Err e) result ends done =
+    record { last = last; closed = ends.0; clean = λ whole. (done whole).0; does = λ whole. (done whole).1; ends = ends.2.0 }
+
+-- and behind a batch
+pub left_batch : {S : Type 0} (g : Ghosts S) (leaves : Closed → S → Type 0) (at : Tells) (format : Format) (c : Conditions) (n : ℕ) (text : List ℕ) (held last : Held S) (failed : Bool) (old new : Option (List ℕ)) (answered result : Result Status AllocError)
+    → EndsSession answered result (ClosesAloud g leaves last failed old new)
+    → (HasCleanDisk (state g last) → HasCleanDisk (state g held) × DoesBatch g at format c n text answered held last) → LeavesHeld g leaves held (DoesBatch g at format c n text result)
+left_batch g leaves at format c n text held last failed old new (Ok top) result ends done =
+    record { last = last; closed = ends.0; clean = λ whole. (done whole).0; does = λ whole. subst (λ r. DoesBatch g at format c n text r held last) (sym ends.1) (done whole).1; ends = ends.2.0 }
+left_batch g leaves at format c n text held last failed old new (Err e) result ends done =
+    record { last = last; closed = ends.0; clean = λ whole. (done whole).0; does = λ whole. subst (λ r. DoesBatch g at format c n text r held last) (sym ends.1) (done whole).1; ends = ends.2.0 }

@@ -58,11 +58,11 @@ stop_kept at format profile text c held n old new fault_old fault_new failed fau
 
 -- on one in memory
 pub stop_none : {S T : Type 0} (at : Places S) (profile : List Directive) (text : List ℕ) (n : ℕ) (old new : Option (List ℕ)) (shows : T → Option (List ℕ)) (fault_old fault_new : T) (failed fault_failed : Bool) (r : Result Status AllocError)
-    → n ≡ 0 → LacksStore at profile → ¬ BeginsRegister text → at.untouched → OnErr r (fault_new ≡ fault_old) → OnErr r (failed ≡ false → AnswersStopped at.tells profile n text old new)
+    → n ≡ 0 → LacksStore at profile → ¬ BeginsRegister text → at.untouched → OnErr r (fault_new ≡ fault_old) → OnErr r (failed ≡ false → AnswersStopped at.sees profile n text old new)
     → OnErr r (failed ≡ false → fault_failed ≡ false → StopsLines at profile text old new (shows fault_old) (shows fault_new))
 stop_none at profile text n old new shows fault_old fault_new failed fault_failed (Ok status) first lacks unmade still silent stopped = tt
 stop_none at profile text n old new shows fault_old fault_new failed fault_failed (Err e) first lacks unmade still silent stopped = λ sound _.
-    part_in_memory lacks unmade still (kept_by shows fault_old fault_new silent) (subst (λ k. AnswersStopped at.tells profile k text old new) first (stopped sound))
+    part_in_memory lacks unmade still (kept_by shows fault_old fault_new silent) (subst (λ k. AnswersStopped at.sees profile k text old new) first (stopped sound))
 
 -- or none is opened
 pub stop_unopened : {S : Type 0} (at : Places S) (profile : List Directive) (text : List ℕ) (old fault_old fault_new : Option (List ℕ)) (why : Fault) (cause : Option Cause) (closed : Closed) (failed fault_failed : Bool) (r : Result Status AllocError)
@@ -138,7 +138,7 @@ StopsLines-kept at profile text old mid new fault_old fault_mid fault_new stays 
     (λ first last. StopsPart-kept at.store at.sees format c 0 text old mid new first last stays) from)
     (TellsClosed-kept fault_old fault_mid fault_new closed fault_stays closes)
 StopsLines-kept at profile text old mid new fault_old fault_mid fault_new stays fault_stays (part_in_memory lacks unmade still quiet stopped) =
-    part_in_memory lacks unmade still (Keeps-trans fault_old fault_mid fault_new quiet fault_stays) (AnswersStopped-kept at.tells profile 0 text old mid new stays stopped)
+    part_in_memory lacks unmade still (Keeps-trans fault_old fault_mid fault_new quiet fault_stays) (AnswersStopped-kept at.sees profile 0 text old mid new stays stopped)
 StopsLines-kept at profile text old mid new fault_old fault_mid fault_new stays fault_stays (no_line {closed = closed} may fails same left) =
     no_line may fails (Keeps-trans old mid new same stays) (TellsLeft-kept fault_old fault_mid fault_new closed fault_stays left)
 

@@ -1,6 +1,6 @@
 -- What a task is answered.
 use Rattle.std.proofs.Common.{◌≡◌, ◌⊎◌, [], inl, inr, ℕ, List, map, refl, subst, sym, Vec}
-use Rattle.std.specs.Prelude.{⊤, IfErr, Option, Result, Ok, Err, String, string_bytes}
+use Rattle.std.specs.Prelude.{⊤, codes, IfErr, Option, Result, Ok, Err, String, string_bytes}
 use Rattle.std.specs.declared.alloc.Global.{Global}
 use Rattle.sqlite.specs.State.{State}
 use Rattle.zeb_change.specs.Conditions.{Conditions}
@@ -19,8 +19,12 @@ use Rattle.zeb_image.specs.NameOf.{name_bytes}
 use Rattle.zeb_image.specs.declared.names.DbName.{DbName}
 use Rattle.zeb_program.specs.Answers.{ChangesBy}
 use Rattle.zeb_program.specs.PrivateFaults.{IsUnread}
-use Rattle.zeb_program.specs.FaultAnswers.{IsUnreadWhole, NamesMet, Reaches}
-use Rattle.zeb_program.specs.OverTables.{AnalysesOver, IsAnalysisOver}
+use Rattle.zeb_engine.proofs.Ready.{none_there}
+use Rattle.zeb_engine.specs.Readiness.{GoesByTexts}
+use Rattle.zeb_register.specs.Formats.{Format, version_of}
+use Rattle.zeb_program.specs.PrivateServing.{HoldsNothing}
+use Rattle.zeb_program.specs.FaultAnswers.{GivesAnswer, IsUnreadWhole, IsUnreadable, NamesMet, Reaches}
+use Rattle.zeb_program.specs.OverTables.{AnalysesOver, IsAnalysisOver, OverNothing, TaskOver}
 use Rattle.zeb_program.specs.Serving.{AnswersFrom, ServesTask}
 use Rattle.zeb_program.specs.TaskAnswers.{AnalysesFiles, AnswersCommand, AreTold, ReadsWhole, paths_of}
 use Rattle.zeb_program.specs.declared.faults.Fault.{Fault}
@@ -100,3 +104,18 @@ change_reaches at task kind database paths named r is same h = subst (λ t. Reac
 pub analysis_reaches : (at : Tells) (task : Task) (paths : Vec (String Global) Global) (named : List (String Global)) (r : Result Served Fault) → task ≡ Analyse paths → named ≡ paths.items
     → Reaches at ⊤ (map string_bytes named) r → Reaches at (ReadsWhole task) (paths_of task) r
 analysis_reaches at task paths named r is same h = subst (λ t. Reaches at (ReadsWhole t) (paths_of t) r) (sym is) (subst (λ items. Reaches at ⊤ (map string_bytes items) r) same h)
+
+-- ---- on a register that holds nothing yet
+
+-- the texts of such a register tell that it isn't ready
+none_ready : (format : Format) (c : Conditions) (s : State) (reply : Reply) → HoldsNothing s → IsUnreadable (Ok reply) ⊎ GivesAnswer (GoesByTexts (version_of format) c.profile s) (Ok reply) → ⊥
+none_ready format c s reply empty (inl unread) = unread
+none_ready format c s reply empty (inr goes) =
+    let kept = empty.1 empty.0 in
+    none_there s.now.trees (codes "version") (version_of format) kept.0.1.0.0 (goes kept.0.0).has_version
+
+pub over_nothing : (at : Tells) (format : Format) (c : Conditions) (task : Task) (old new : State) (result : Result Reply Fault) → HoldsNothing old → TaskOver at format c task old new result → OverNothing at c task result
+over_nothing at format c (Ask command) old new result empty over = tt
+over_nothing at format c (Change kind database paths) old new (Ok reply) empty over = none_ready format c old reply empty over.answer.over.ready
+over_nothing at format c (Change kind database paths) old new (Err why) empty over = tt
+over_nothing at format c (Analyse paths) old new result empty over = over.answer

@@ -34,15 +34,15 @@ use Rattle.zeb_program.specs.declared.tasks.Task.{Task}
 use Rattle.zeb_program.specs.declared.tasks.Task.TheVariants.{Ask}
 use Rattle.zeb_program.specs.Answers.{Writes}
 use Rattle.zeb_register.specs.Formats.{Format, packed_blocks}
-use Rattle.zeb_program.specs.Doing.{DoesTask, RunsText, ServesText}
+use Rattle.zeb_program.specs.Doing.{DoesOnNothing, DoesTask, RunsText, ServesText}
 use Rattle.zeb_program.specs.FaultAnswers.{GivesAnswer, IsOpeningFailure, IsUnreadWhole, Reaches, unopened_refusal}
 use Rattle.zeb_program.specs.FaultLines.{TellsCaused, left_lines, unclosed_lines}
 use Rattle.zeb_program.specs.Explanations.{Explains, ExplainsUnread, NamesRegister, refusal_cause}
 use Rattle.zeb_program.specs.PrivateFaults.{IsOpeningFault}
-use Rattle.zeb_program.specs.PrivateServing.{CarriesOut, StandsFor}
+use Rattle.zeb_program.specs.PrivateServing.{CarriesOut, HoldsNothing, StandsFor}
 use Rattle.zeb_program.specs.Serving.{AnswersFrom, ServesTask}
-use Rattle.zeb_program.specs.PrivateWordRuns.{ExplainsRun, GivesClosed, GivesFor, OpensUnder, RunsIn, RunsOnNothing, ServesHeld, ServesIn, ServesOnNothing, TakesIn, TakesStore}
-use Rattle.zeb_program.specs.Registers.{ClosesStore, FailsOpening, shut, given_back, FromStore, IsForeignCause, IsGivenBack, IsLetGo, IsTakenOver, HasStore, LacksStore, kept, none, Places, nothing_met, whole_but}
+use Rattle.zeb_program.specs.PrivateWordRuns.{ExplainsRun, GivesClosed, GivesFor, OpensUnder, RunsIn, RunsOnNothing, ServesHeld, ServesIn, ServesOnNothing, TakesIn, TakesOpen, TakesStore}
+use Rattle.zeb_program.specs.Registers.{ClosesStore, FailsOpening, shut, given_back, FromStore, IsForeignCause, IsGivenBack, IsLetGo, HasStore, LacksStore, kept, none, Places, nothing_met, whole_but}
 use Rattle.zeb_program.specs.ScriptAnswers.{AnswersStopped, AreConditionsIn, AreScriptConditions, RunsFromNothing}
 use Rattle.zeb_program.specs.TaskAnswers.{AnswersOn, AnswersTask, ReadsWhole, paths_of}
 use Rattle.zeb_program.specs.WordAnswers.{TellsApart, WarnsClosed}
@@ -62,6 +62,7 @@ use Rattle.zeb_program.proofs.ScriptAnswerLemmas.{RunsFromNothing-kept, RunsText
 use Rattle.zeb_program.proofs.ShellTextLemmas.{ServesText-kept}
 use Rattle.zeb_program.specs.Scripts.{BeginsRegister}
 use Rattle.zeb_program.proofs.ExplanationLemmas.{fails_so, opening_explained, unopened_so}
+use Rattle.zeb_program.proofs.TaskLemmas.{over_nothing}
 use Rattle.zeb_program.proofs.ResultValues.{failing, second_same}
 
 -- ---- what is passed on stays what it was
@@ -133,7 +134,7 @@ RunsLines-kept at config profile text old mid new fault_old fault_mid fault_new 
     (from_kept at Unsaid format profile closed (RunsText at.store at.sees format c 0 text old mid here) (RunsText at.store at.sees format c 0 text old new here) (λ first last. RunsText-kept at.store at.sees format c 0 text old mid new here first last same) from)
     (TellsClosed-kept fault_old fault_mid fault_new closed fault_same closes)
 RunsLines-kept at config profile text old mid new fault_old fault_mid fault_new status same fault_same (in_memory lacks unmade still quiet opened) =
-    in_memory lacks unmade still (Keeps-trans fault_old fault_mid fault_new quiet fault_same) (RunsFromNothing-kept at.tells profile 0 text old mid new status same opened)
+    in_memory lacks unmade still (Keeps-trans fault_old fault_mid fault_new quiet fault_same) (RunsFromNothing-kept at.sees profile 0 text old mid new status same opened)
 RunsLines-kept at config profile text old mid new fault_old fault_mid fault_new status same fault_same (no_memory {why = why} lacks unmade still failure quiet tells) =
     no_memory lacks unmade still failure (Keeps-trans old mid new quiet same) (Writes-kept fault_old fault_mid fault_new (λ bytes. TellsCaused (fault.Refused why) None bytes status) fault_same tells)
 RunsLines-kept at config profile text old mid new fault_old fault_mid fault_new status same fault_same (no_register {why = why} {closed = closed} may failure quiet tells) =
@@ -225,8 +226,8 @@ unopened_register at choice profile task fault.Memory cause closed may is = absu
 -- a task on nothing, where no store stands
 pub on_nothing : {S : Type 0} (at : Places S) (choice : LayoutChoice) (profile : List Directive) (task : Task) (tells : List ℕ → Option (List ℕ)) (answer : Result Reply Fault) → tells ≡ at.tells → LacksStore at profile → ¬ (task ≡ Ask Init) → at.untouched
     → ServesOnNothing tells at.sees profile task answer → ServesUnder at choice profile task nothing_met answer
-on_nothing at choice profile task tells answer same lacks other still (inl (own, is, c, under, reaches, answers)) =
-    answered own is packed_blocks c under (none refl lacks other still refl (reaches, subst (λ t. AnswersOn t c task own nothing_yet) same answers))
+on_nothing at choice profile task tells answer same lacks other still (inl (own, is, c, under, does)) =
+    answered own is packed_blocks c under (none refl lacks other still refl (subst (λ t. DoesOnNothing t at.sees c task own) same does))
 on_nothing at choice profile task tells answer same lacks other still (inr (why, failure, is)) = subst (ServesUnder at choice profile task nothing_met) (sym is) (none_made lacks other still failure refl)
 
 -- what is answered on what a connection keeps is the answer on it
@@ -247,11 +248,20 @@ served_on told c task held last r before serves keeps files known = go (serves f
     go (inr unread) = inr unread
 
 -- a task on a register in memory
-pub served_nothing : (tells : List ℕ → Option (List ℕ)) (at : Tells) (profile : List Directive) (task : Task) (c : Conditions) (held last : State) (own answer : Result Reply Fault)
-    → AreScriptConditions profile c → Holding held nothing_yet → ServesTask tells c task held last own → Reaches at (ReadsWhole task) (paths_of task) own
-    → IsOwnOr answer own → ServesOnNothing tells at profile task answer
-served_nothing tells at profile task c held last own answer under keeps serves named is =
-    inl (own, is, c, under, named, served_on tells c task held last own nothing_yet serves keeps)
+pub served_nothing : (tells : List ℕ → Option (List ℕ)) (at : Tells) (profile : List Directive) (task : Task) (c : Conditions) (held last : State) (own answer : Result Reply Fault) → AreScriptConditions profile c → HoldsNothing held
+    → HasCleanDisk last → CarriesOut tells at packed_blocks c task held last own → IsOwnOr answer own → ServesOnNothing tells at profile task answer
+served_nothing tells at profile task c held last own answer under empty clean done is =
+    inl (
+      own,
+      is,
+      c,
+      under,
+      record {
+        over = over_nothing at packed_blocks c task held last own empty (done.over clean);
+        reaches = done.reaches;
+        answers = served_on tells c task held last own nothing_yet (done.serves clean) empty.1;
+      },
+    )
 
 -- ---- what is told of a task
 
@@ -326,38 +336,38 @@ run_kept at config format profile text c held n old new fault_old fault_new fail
     lines_kept at config format profile text c held n old new fault_old fault_new status first may under takes (runs sound quiet)
 
 -- on one in memory
-pub ran_on_nothing : (tells : List ℕ → Option (List ℕ)) (profile : List Directive) (n : ℕ) (text : List ℕ) (old new fault_old : Option (List ℕ)) (failed fault_failed : Bool) (r : Result Status AllocError)
-    → IfOk r (λ status. failed ≡ false → RunsFromNothing tells profile n text old new status)
-    → IfOk r (λ status. failed ≡ false → fault_failed ≡ false → RunsOnNothing tells profile n text old new fault_old fault_old status)
-ran_on_nothing tells profile n text old new fault_old failed fault_failed (Err e) runs = tt
-ran_on_nothing tells profile n text old new fault_old failed fault_failed (Ok status) runs = λ sound _. inl (runs sound, Keeps-refl fault_old)
+pub ran_on_nothing : (at : Tells) (profile : List Directive) (n : ℕ) (text : List ℕ) (old new fault_old : Option (List ℕ)) (failed fault_failed : Bool) (r : Result Status AllocError)
+    → IfOk r (λ status. failed ≡ false → RunsFromNothing at profile n text old new status)
+    → IfOk r (λ status. failed ≡ false → fault_failed ≡ false → RunsOnNothing at profile n text old new fault_old fault_old status)
+ran_on_nothing at profile n text old new fault_old failed fault_failed (Err e) runs = tt
+ran_on_nothing at profile n text old new fault_old failed fault_failed (Ok status) runs = λ sound _. inl (runs sound, Keeps-refl fault_old)
 
 -- or none was opened, for this refusal
-pub refused_on_nothing : (tells : List ℕ → Option (List ℕ)) (profile : List Directive) (n : ℕ) (text : List ℕ) (old fault_old fault_new : Option (List ℕ)) (why : Refusal) (failure : Failure) (failed fault_failed : Bool) (r : Result Status AllocError)
+pub refused_on_nothing : (at : Tells) (profile : List Directive) (n : ℕ) (text : List ℕ) (old fault_old fault_new : Option (List ℕ)) (why : Refusal) (failure : Failure) (failed fault_failed : Bool) (r : Result Status AllocError)
     → IsOpeningFailure why → (failure.fault ≡ fault.Refused why) × (failure.cause ≡ None)
     → IfOk r (λ status. fault_failed ≡ false → Writes fault_old fault_new (λ bytes. TellsCaused failure.fault failure.cause bytes status))
-    → IfOk r (λ status. failed ≡ false → fault_failed ≡ false → RunsOnNothing tells profile n text old old fault_old fault_new status)
-refused_on_nothing tells profile n text old fault_old fault_new why failure failed fault_failed (Err e) is same told = tt
-refused_on_nothing tells profile n text old fault_old fault_new why failure failed fault_failed (Ok status) is same told = λ _ sound.
+    → IfOk r (λ status. failed ≡ false → fault_failed ≡ false → RunsOnNothing at profile n text old old fault_old fault_new status)
+refused_on_nothing at profile n text old fault_old fault_new why failure failed fault_failed (Err e) is same told = tt
+refused_on_nothing at profile n text old fault_old fault_new why failure failed fault_failed (Ok status) is same told = λ _ sound.
     let named = subst (λ it. Writes fault_old fault_new (λ bytes. TellsCaused it failure.cause bytes status)) same.0 (told sound) in
     inr (why, is, Keeps-refl old, subst (λ it. Writes fault_old fault_new (λ bytes. TellsCaused (fault.Refused why) it bytes status)) same.1 named)
 
-pub stopped_on_nothing : (tells : List ℕ → Option (List ℕ)) (profile : List Directive) (n : ℕ) (text : List ℕ) (old : Option (List ℕ)) (failed : Bool) (r : Result Status AllocError)
-    → OnErr r (failed ≡ false → AnswersStopped tells profile n text old old)
-stopped_on_nothing tells profile n text old failed (Ok status) = tt
-stopped_on_nothing tells profile n text old failed (Err e) = λ _. silent_batch tells profile n text old
+pub stopped_on_nothing : (at : Tells) (profile : List Directive) (n : ℕ) (text : List ℕ) (old : Option (List ℕ)) (failed : Bool) (r : Result Status AllocError)
+    → OnErr r (failed ≡ false → AnswersStopped at profile n text old old)
+stopped_on_nothing at profile n text old failed (Ok status) = tt
+stopped_on_nothing at profile n text old failed (Err e) = λ _. silent_batch at profile n text old
 
 nothing_run : {S : Type 0} (at : Places S) (config : String Global) (profile : List Directive) (text : List ℕ) (old new fault_old fault_new : Option (List ℕ)) (status : Status) → LacksStore at profile → ¬ BeginsRegister text → at.untouched
-    → RunsOnNothing at.tells profile 0 text old new fault_old fault_new status → RunsLines at config profile text old new fault_old fault_new status
+    → RunsOnNothing at.sees profile 0 text old new fault_old fault_new status → RunsLines at config profile text old new fault_old fault_new status
 nothing_run at config profile text old new fault_old fault_new status lacks unmade still (inl ran) = in_memory lacks unmade still ran.1 ran.0
 nothing_run at config profile text old new fault_old fault_new status lacks unmade still (inr (why, is, same, told)) = no_memory lacks unmade still is same told
 
 pub run_none : {S : Type 0} (at : Places S) (config : String Global) (profile : List Directive) (text : List ℕ) (n : ℕ) (old new fault_old fault_new : Option (List ℕ)) (failed fault_failed : Bool) (r : Result Status AllocError)
-    → n ≡ 0 → LacksStore at profile → ¬ BeginsRegister text → at.untouched → IfOk r (λ status. failed ≡ false → fault_failed ≡ false → RunsOnNothing at.tells profile n text old new fault_old fault_new status)
+    → n ≡ 0 → LacksStore at profile → ¬ BeginsRegister text → at.untouched → IfOk r (λ status. failed ≡ false → fault_failed ≡ false → RunsOnNothing at.sees profile n text old new fault_old fault_new status)
     → IfOk r (λ status. failed ≡ false → fault_failed ≡ false → RunsLines at config profile text old new fault_old fault_new status)
 run_none at config profile text n old new fault_old fault_new failed fault_failed (Err e) first lacks unmade still runs = tt
 run_none at config profile text n old new fault_old fault_new failed fault_failed (Ok status) first lacks unmade still runs = λ sound quiet.
-    nothing_run at config profile text old new fault_old fault_new status lacks unmade still (subst (λ k. RunsOnNothing at.tells profile k text old new fault_old fault_new status) first (runs sound quiet))
+    nothing_run at config profile text old new fault_old fault_new status lacks unmade still (subst (λ k. RunsOnNothing at.sees profile k text old new fault_old fault_new status) first (runs sound quiet))
 
 -- or none is opened
 pub run_unopened : {S : Type 0} (at : Places S) (config : String Global) (profile : List Directive) (text : List ℕ) (old fault_old fault_new : Option (List ℕ)) (why : Fault) (cause : Option Cause) (closed : Closed) (failed fault_failed : Bool) (r : Result Status AllocError)
@@ -434,9 +444,9 @@ shell_served at config format c held given left read_failed old new fault_old fa
 
 -- the store that was opened is the one that was taken over
 pub taken_store : {S : Type 0} (at : Places S) (profile : List Directive) (path : List ℕ) (opened : Result (Held S) OpenFailed) (taken : Held S) (Never : OpenFailed → Type 0) → store_path profile ≡ Some path → IfOk opened (at.opens path)
-    → IfOk opened (λ connection. HasCleanDisk (state at.store taken) → IsTakenOver at.store connection taken)
+    → IfOk opened (λ connection. HasCleanDisk (state at.store taken) → TakesOpen at.store connection taken)
     → IfErr opened Never → ((failed : OpenFailed) → Never failed → ⊥) → TakesStore at profile taken
-taken_store at profile path (Ok connection) taken Never named opens keeps failed never = (connection, (path, named, opens), keeps)
+taken_store at profile path (Ok connection) taken Never named opens keeps failed never = (connection, (path, named, opens), λ clean. (keeps clean).0)
 taken_store at profile path (Err why) taken Never named opens keeps failed never = absurd (never why failed)
 
 -- or there is none, and what was opened, if it was, is let go
@@ -485,7 +495,3 @@ pub replied_reaches : (at : Tells) (Whole : Type 0) (named : List (List ℕ)) (r
 replied_reaches at Whole named (Ok (Replied reply)) own stands h = subst (Reaches at Whole named) (sym stands) h
 replied_reaches at Whole named (Ok (Shown lines unmarked)) own stands h = subst (Reaches at Whole named) (sym stands.1) h
 replied_reaches at Whole named (Err why) own stands h = subst (Reaches at Whole named) (sym stands) h
-
--- what is passed on by `?`
-pub passed_failure : {A : Type 0} (P : Failure → Type 0) (r : Result A Failure) (why : Failure) → r ≡ Err why → P why → IfErr r P
-passed_failure P r why is h = subst (λ it. IfErr it P) (sym is) h

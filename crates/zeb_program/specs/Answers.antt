@@ -69,7 +69,8 @@ IsAnswerTo told c number (Path change) before bytes status later =
 IsAnswerTo told c number (Mark text) before bytes status later = (bytes ≡ mark_line (string_bytes text)) × (status ≡ Answered) × (later ≡ before)
 IsAnswerTo told c number Bad before bytes status later = (bytes ≡ bad_line number) × (status ≡ Misused) × (later ≡ before)
 
--- the same for a line, by its text and its number
+-- what is written for a line, by its text and its number, its status, and what the register holds then; of a change by
+-- a path only where the bytes of its file are told
 abbrev pub AnswersLine : (List ℕ → Option (List ℕ)) → Conditions → ℕ → List ℕ → Holdings → List ℕ → Status → Holdings → Type 0
 AnswersLine told c number text before bytes status later = (line : Line) × Says text line × IsAnswerTo told c number line before bytes status later
 

@@ -17,7 +17,8 @@ choice_of (Init choice) = choice
 choice_of (Upgrade choice) = choice
 choice_of _ = Unsaid
 
--- the task that an act on a database names: just one, but a batch and a shell name none
+-- the task that an act on a database names: one command with its database, query and numbers, a change of its kind by
+-- paths, or, for an update that only shows what it would do, an analysis; a batch and a shell name none
 abbrev pub IsTaskOf : DbName → Act → Task → Type 0
 IsTaskOf database (Init choice) task = task ≡ Ask command.Init
 IsTaskOf database (Create name) task = task ≡ Ask (command.Create name)

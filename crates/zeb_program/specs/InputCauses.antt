@@ -11,6 +11,7 @@ use Rattle.zeb_program.specs.declared.line_input.InputCause.TheVariants.{LongLin
 use Rattle.zeb_program.specs.declared.line_input.LineFault.{LineFault}
 use Rattle.zeb_program.specs.declared.line_input.LineFault.TheVariants.{Unreadable, Memory}
 
+-- the words for why an input can't be read on
 abbrev pub input_cause_text : InputCause → List ℕ
 input_cause_text LongLine = codes "a line is too long"
 input_cause_text FailedRead = codes "a read failed"

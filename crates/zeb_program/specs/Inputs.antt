@@ -4,13 +4,15 @@ use Rattle.std.specs.List.{AllByRecursion}
 use Rattle.std.specs.Str.{IsUtf8}
 use Rattle.std.specs.Io.KnownBytes.{Consumes}
 
+-- at most so many bytes of UTF-8
 abbrev pub IsTextWithin : ℕ → List ℕ → Type 0
 IsTextWithin most bytes = (length bytes ≤ most) × IsUtf8 bytes
 
+-- at most 16,777,216 bytes of UTF-8
 abbrev pub IsInput : List ℕ → Type 0
 IsInput bytes = IsTextWithin 16777216 bytes
 
--- a file that is read whole may have so many bytes
+-- a file of at most 16,777,216 bytes
 abbrev pub IsShort : List ℕ → Type 0
 IsShort bytes = length bytes ≤ 16777216
 

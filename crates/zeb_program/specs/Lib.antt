@@ -39,3 +39,4 @@ pub mod Words
 pub mod WordAnswers
 pub mod PrivateWordRuns
 pub mod WordRuns
+pub mod LeftStores

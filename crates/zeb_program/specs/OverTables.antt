@@ -1,5 +1,5 @@
 -- What a command or a change by paths is answered on any tables, whatever these hold, where words or a line name it (this program's own).
-use Rattle.std.specs.Prelude.{◌≡◌, ◌≢◌, ◌⊎◌, ℕ, Option, Result, Ok, Err, IfErr, OnErr, OnOk, List, [], ◌∷◌, map, string_bytes}
+use Rattle.std.specs.Prelude.{◌≡◌, ◌≢◌, ◌⊎◌, ⊤, ℕ, Option, Result, Ok, Err, IfErr, OnErr, OnOk, List, [], ◌∷◌, map, string_bytes}
 use Rattle.sqlite.specs.Held.{Held, state}
 use Rattle.sqlite.specs.State.{State, Survives}
 use Rattle.sqlite.specs.Store.{Ghosts}
@@ -55,7 +55,10 @@ LeavesAlone old new = ChangesNothing old new × LeavesNoMore old new
 abbrev pub AreFilesOf : Tells → List (List ℕ) → List (List ℕ) → List (List ℕ) → Type 0
 AreFilesOf at paths walked files = AreTold at.bytes paths files ⊎ AreTold at.bytes walked files
 
--- What is said of the answer to a change of the database of this name by the files at and below these paths, where a walk over them gives those.
+-- what is said of the answer to a change by paths, on any tables: the texts of the store tell whether the register was
+-- ready (`GoesByTexts`), unless a path can't be read, at which then no file's bytes are told, or memory ran out in the
+-- program; where the bytes of a file at each path are told, or of each file that a walk gives, it is as `ChangesReady`
+-- says of a change by these, or memory ran out in the program; and damage is told only of tables that are no image
 pub record PathsOver (at : Tells) (format : Format) (profile : List Directive) (kind : Kind) (limits : Limits) (name : List ℕ) (paths walked : List (List ℕ)) (s : State) (result : Result Reply Fault) : Type 0 where
   -- a path can't be read, or the texts of the store tell whether the register was ready
   pub ready : IsUnreadable result ⊎ GivesAnswer (GoesByTexts (version_of format) profile s) result
@@ -80,7 +83,10 @@ pub record IsAnalysisOver (at : Tells) (profile : List Directive) (limit : ℕ) 
   pub found : FindsFiles at paths walked
   pub read : AreTexts at.bytes walked texts
 
--- What a crash leaves behind a change of the database of this name by these files: what the change left, or what was there before it.
+-- what a crash behind a change by paths leaves: where the bytes of a file at each path are told, or of each file that
+-- a walk gives, what the change left, or what was there before it; and, whatever is told, of an accepted one just what
+-- is shown, while the connection is open, and of one that isn't accepted, but for a failed store, nothing more than
+-- before
 pub record PathsLast (at : Tells) (c : Conditions) (kind : Kind) (name : List ℕ) (paths walked : List (List ℕ)) (old new : State) (result : Result Reply Fault) : Type 0 where
   -- nothing else is committed, where the bytes of the files are told
   pub survives : Survives old new (λ db. (files : List (List ℕ)) → AreFilesOf at paths walked files → CommitsBy (TakesFiles c kind name files) old db)
@@ -89,7 +95,11 @@ pub record PathsLast (at : Tells) (c : Conditions) (kind : Kind) (name : List �
   pub accepted : OnOk result (IsDurable new)
   pub refused : IfErr result (λ fault. fault ≢ Refused Store → LeavesNoMore old new)
 
--- what a change of the database of this name by these files leaves of any tables
+-- what a change of the database of this name by paths leaves of any tables: nothing changes where it isn't accepted,
+-- and an accepted one loses and keeps what the engine says (`LeavesWhole`); where the bytes of a file at each path are
+-- told, or of each file that a walk gives, it loses only records under identifiers of their records (`LosesNamed`),
+-- and tables that keep what a register holds keep then what it holds after the change by these; and what a crash
+-- leaves is said by `PathsLast`
 pub record PathsLeave (at : Tells) (c : Conditions) (kind : Kind) (name : List ℕ) (paths walked : List (List ℕ)) (old new : State) (result : Result Reply Fault) : Type 0 where
   -- nothing changes where it isn't accepted
   pub refused : OnErr result (ChangesNothing old new)
@@ -128,7 +138,8 @@ AnswersOver at format c (Change kind database paths) old new result =
     ChangesOver at format c kind (name_bytes database) (map string_bytes paths.items) old new result
 AnswersOver at format c (Analyse paths) old new result = AnalysesOver at c.profile c.limits.records (map string_bytes paths.items) result
 
--- what is said of a task, from these tables to those
+-- all that is said of a task, from these tables to those: its answer, with what it leaves of them and what a crash
+-- behind it leaves (`AnswersOver`); and nothing changes where it isn't accepted, or is an analysis
 pub record TaskOver (at : Tells) (format : Format) (c : Conditions) (task : Task) (old new : State) (result : Result Reply Fault) : Type 0 where
   pub answer : AnswersOver at format c task old new result
   -- nothing changes where it isn't accepted, nor where it is an analysis
@@ -137,7 +148,8 @@ pub record TaskOver (at : Tells) (format : Format) (c : Conditions) (task : Task
 
 -- ---- a line: from which tables, what is written, its status, and the tables then
 
--- what is written for a command, and its status, are those of its answer on any tables, and this is what it leaves of them
+-- what is written for a command, and its status, are those of an answer that, with the tables then, is as the engine
+-- says on any tables (`ServesOver`)
 abbrev pub CommandOver : Format → Conditions → Command → State → List ℕ → Status → State → Type 0
 CommandOver format c command old bytes status new =
     (answer : Result Reply Refusal) × (bytes ≡ answer_text answer) × (status ≡ answer_status answer)
@@ -155,7 +167,9 @@ PathOver at format c change old bytes status new =
     (result : Result Reply Fault) × IsTold result bytes status × Reaches at ⊥ (string_bytes change.path ∷ []) result
     × ChangesOver at format c change.kind (name_bytes change.database) (string_bytes change.path ∷ []) old new result
 
--- of a line that says this
+-- what is written for a line that says this, its status, and the tables then, on any tables: for a command and a
+-- change by a path as `CommandOver` and `PathOver` say; for a remark nothing, for a mark its text, and for a bad line
+-- that it is one, and these three change nothing, nor what a crash leaves
 abbrev pub SaysOver : Tells → Format → Conditions → ℕ → Line → State → List ℕ → Status → State → Type 0
 SaysOver at format c number Remark old bytes status new = (bytes ≡ []) × (status ≡ Answered) × LeavesAlone old new
 SaysOver at format c number (Order command) old bytes status new = CommandOver format c command old bytes status new
@@ -163,7 +177,8 @@ SaysOver at format c number (Path change) old bytes status new = PathOver at for
 SaysOver at format c number (Mark text) old bytes status new = (bytes ≡ mark_line (string_bytes text)) × (status ≡ Answered) × LeavesAlone old new
 SaysOver at format c number Bad old bytes status new = (bytes ≡ bad_line number) × (status ≡ Misused) × LeavesAlone old new
 
--- the same for a line, by its text and its number, and by the connection
+-- what is written for a line, by its text and its number, its status, and the tables then, on any tables, as
+-- `SaysOver` says of what the line says
 abbrev pub LineOver : {S : Type 0} → Ghosts S → Tells → Format → Conditions → ℕ → List ℕ → Held S → List ℕ → Status → Held S → Type 0
 LineOver g at format c number text old bytes status new =
     (line : Line) × Says text line × SaysOver at format c number line (state g old) bytes status (state g new)
@@ -171,3 +186,32 @@ LineOver g at format c number text old bytes status new =
 -- every line of a text is answered so, each on the tables that the one before it left
 abbrev pub LinesOver : {S : Type 0} → Ghosts S → Tells → Format → Conditions → ℕ → List ℕ → Held S → List ℕ → Status → Held S → Type 0
 LinesOver g at format c n text old bytes status new = EachLine (LineOver g at format c) n text old bytes status [] new
+
+-- ---- what is said of these without the tables, of a register that is in memory
+
+-- of a task on a register that holds nothing yet, whatever stands at its paths: no change is accepted, and an analysis
+-- is answered as `AnalysesOver` says; of a command nothing is said
+abbrev pub OverNothing : Tells → Conditions → Task → Result Reply Fault → Type 0
+OverNothing at c (Ask command) result = ⊤
+OverNothing at c (Change kind database paths) result = OnOk result ⊥
+OverNothing at c (Analyse paths) result = AnalysesOver at c.profile c.limits.records (map string_bytes paths.items) result
+
+-- what is written for a line that says this, and its status: for a command those of some answer; for a change by a
+-- path those of a reply, only where all files at and below it are found, or of a fault, and a path that can't be read
+-- is the one at which a walk stops; for a remark nothing, for a mark its text, for a bad line that it is one
+abbrev pub SaysWritten : Tells → ℕ → Line → List ℕ → Status → Type 0
+SaysWritten at number Remark bytes status = (bytes ≡ []) × (status ≡ Answered)
+SaysWritten at number (Order command) bytes status = (answer : Result Reply Refusal) × (bytes ≡ answer_text answer) × (status ≡ answer_status answer)
+SaysWritten at number (Path change) bytes status = (result : Result Reply Fault) × IsTold result bytes status × Reaches at ⊥ (string_bytes change.path ∷ []) result
+SaysWritten at number (Mark text) bytes status = (bytes ≡ mark_line (string_bytes text)) × (status ≡ Answered)
+SaysWritten at number Bad bytes status = (bytes ≡ bad_line number) × (status ≡ Misused)
+
+-- what is written for a line, by its text and its number, and its status, without the tables, as `SaysWritten` says of
+-- what the line says
+abbrev pub LineWritten : Tells → ℕ → List ℕ → ⊤ → List ℕ → Status → ⊤ → Type 0
+LineWritten at number text before bytes status after = (line : Line) × Says text line × SaysWritten at number line bytes status
+
+-- what is written for the lines of a text, which n others stand before, up to the rest, and the greatest of their
+-- statuses, as `LineWritten` says of each
+abbrev pub LinesWritten : Tells → ℕ → List ℕ → List ℕ → Status → List ℕ → Type 0
+LinesWritten at n text bytes status rest = EachLine (LineWritten at) n text tt bytes status rest tt

@@ -10,7 +10,8 @@ use Rattle.zeb_program.specs.Inputs.{AreShort}
 use Rattle.zeb_program.specs.Warnings.{unmarked_of}
 use Rattle.zeb_program.specs.TaskAnswers.{AreTold}
 
--- the files at and below these paths were read, and this comes of their records
+-- files at and below these paths were read, none of more than 16,777,216 bytes, and these are their records' lines,
+-- or the first refusal; where the bytes of a file at each path are told, they are these files
 pub record ReadsFiles (at : Tells) (profile : List Directive) (limit : ℕ) (paths : List (List ℕ)) (analysed : AnalysedFiles) : Type 0 where
   pub texts : List (List ℕ)
   -- none of them has too many bytes, and where the bytes of a file at each path are told, they are these

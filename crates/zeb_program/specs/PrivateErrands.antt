@@ -8,7 +8,7 @@ use Rattle.zeb_program.specs.declared.tasks.Errand.{Errand}
 use Rattle.zeb_program.specs.declared.tasks.Errand.TheVariants as errand
 use Rattle.zeb_program.specs.Errands.{IsTaskOf}
 
--- what an act on a database asks for; only a batch and a shell have the lines of the input run
+-- what an act asks for: the task that it names; only a batch and a shell ask that the lines of the input are run
 abbrev pub IsErrandOf : DbName → Act → Errand → Type 0
 IsErrandOf database act (errand.Task task) = IsTaskOf database act task
 IsErrandOf database act errand.Batch = act ≡ Batch

@@ -1,11 +1,11 @@
 -- What only the contracts of private functions speak of; no public clause reaches it.
-use Rattle.std.specs.Prelude.{◌≡◌, ℕ, List, length, Option, Result, Ok, Err, string_bytes}
+use Rattle.std.specs.Prelude.{◌≡◌, ℕ, IsTrue, List, length, Option, Result, Ok, Err, string_bytes}
 use Rattle.sqlite.specs.State.{HasCleanDisk, State}
 use Rattle.zeb_change.specs.Conditions.{Conditions}
 use Rattle.zeb_engine.specs.Replies.{reply_text}
 use Rattle.zeb_engine.specs.declared.replies.Reply.{Reply}
 use Rattle.zeb_engine.specs.declared.replies.Reply.TheVariants.{Analysed}
-use Rattle.zeb_image.specs.Holdings.{Holdings}
+use Rattle.zeb_image.specs.Holdings.{Holdings, nothing_yet}
 use Rattle.zeb_image.specs.Image.{Keeps}
 use Rattle.zeb_program.specs.Answers.{Writes}
 use Rattle.zeb_program.specs.declared.faults.Fault.{Fault}
@@ -13,7 +13,9 @@ use Rattle.zeb_program.specs.declared.tasks.Served.{Served}
 use Rattle.zeb_program.specs.declared.tasks.Served.TheVariants.{Replied, Shown}
 use Rattle.zeb_program.specs.declared.tasks.Task.{Task}
 use Rattle.zeb_program.specs.FaultAnswers.{Reaches}
-use Rattle.zeb_program.specs.OverTables.{TaskOver}
+use Rattle.zeb_program.specs.OverTables.{PathOver, TaskOver}
+use Rattle.zeb_program.specs.declared.path_changes.PathChange.{PathChange}
+use Rattle.zeb_program.specs.declared.statuses.Status.{Status}
 use Rattle.zeb_program.specs.Serving.{ServesTask}
 use Rattle.zeb_program.specs.TaskAnswers.{ReadsWhole, paths_of}
 use Rattle.zeb_paths.specs.Walks.{Tells}
@@ -23,6 +25,14 @@ use Rattle.zeb_register.specs.Formats.{Format}
 abbrev pub Leads : State → State → Option (List ℕ) → Option (List ℕ) → (Holdings → List ℕ → Holdings → Type 0) → Type 0
 Leads old new wrote writes P =
     (before : Holdings) → Keeps old before → (later : Holdings) × Keeps new later × Writes wrote writes (λ bytes. P before bytes later)
+
+-- A change by a path is done as is said of it on any tables, whatever is written of its answer.
+abbrev pub DoesPath : Tells → Format → Conditions → PathChange → State → State → Type 0
+DoesPath at format c change old new = (bytes : List ℕ) × (status : Status) × PathOver at format c change old bytes status new
+
+-- a connection is open, and its tables keep nothing yet
+abbrev pub HoldsNothing : State → Type 0
+HoldsNothing s = IsTrue s.is_open × Keeps s nothing_yet
 
 -- how many records a reply has analysed
 abbrev pub analyses_in : Reply → ℕ

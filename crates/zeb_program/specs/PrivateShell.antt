@@ -9,7 +9,7 @@ use Rattle.zeb_change.specs.Conditions.{Conditions}
 use Rattle.zeb_register.specs.Formats.{Format}
 use Rattle.zeb_paths.specs.Walks.{Tells}
 use Rattle.zeb_program.specs.Answers.{AnswersAsTold, Writes}
-use Rattle.zeb_program.specs.Doing.{KeepsUnread}
+use Rattle.zeb_program.specs.Doing.{DoesLine, KeepsUnread}
 use Rattle.zeb_program.specs.InputCauses.{EndsInLine}
 use Rattle.zeb_program.specs.Lines.{first_line}
 use Rattle.zeb_program.specs.OverTables.{LineOver}
@@ -34,6 +34,8 @@ pub record AnswersNextLine {S : Type 0} (g : Ghosts S) (at : Tells) (format : Fo
   pub answer : failed ≡ false → HasCleanDisk (state g new) → IfSome left (λ l. LeadsOn (state g old) (state g new) wrote writes (λ before bytes last. AnswersAsTold at.bytes c number (first_line l) before bytes status last))
   -- on any tables
   pub over : failed ≡ false → HasCleanDisk (state g new) → IfSome left (λ l. Writes wrote writes (λ bytes. LineOver g at format c number (first_line l) old bytes status new))
+  -- and that is done, whatever is written
+  pub does : HasCleanDisk (state g new) → IfSome left (λ l. DoesLine g at format c number (first_line l) old new)
 
 -- the next line can't be read, or isn't answered, for this reason, and this is left of the input
 abbrev pub StopsAtLine : {S : Type 0} → Ghosts S → Tells → Format → Conditions → Option (List ℕ) → Option (List ℕ) → Held S → Held S → LineFault → Type 0

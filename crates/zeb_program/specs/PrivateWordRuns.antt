@@ -1,6 +1,6 @@
 -- What only the contracts of private functions speak of; no public clause reaches it.
 -- The parts of what comes of words (this program's own).
-use Rattle.std.specs.Prelude.{◌≡◌, ◌⊎◌, ⊤, ℕ, Bool, false, Option, None, IfErr, IfSome, Result, Ok, Err, List, String}
+use Rattle.std.specs.Prelude.{◌≡◌, ◌⊎◌, ⊤, ℕ, Bool, false, Option, None, IfErr, IfSome, IsTrue, Result, Ok, Err, List, String}
 use Rattle.std.specs.declared.alloc.AllocError.{AllocError}
 use Rattle.std.specs.declared.alloc.Global.{Global}
 use Rattle.sqlite.specs.Held.{Held, state}
@@ -11,7 +11,6 @@ use Rattle.zeb_change.specs.declared.refusals.Refusal.{Refusal}
 use Rattle.zeb_engine.specs.Causes.{OnlyLooks}
 use Rattle.zeb_engine.specs.declared.replies.Reply.{Reply}
 use Rattle.zeb_engine.specs.Replies.{reply_text}
-use Rattle.zeb_image.specs.Holdings.{nothing_yet}
 use Rattle.zeb_paths.specs.Walks.{Tells}
 use Rattle.zeb_paths.specs.declared.causes.Closed.{Closed}
 use Rattle.zeb_paths.specs.declared.causes.PathCause.{PathCause}
@@ -31,9 +30,8 @@ use Rattle.zeb_program.specs.declared.performing.Performed.{Performed}
 use Rattle.zeb_program.specs.declared.performing.Told.{Told}
 use Rattle.zeb_program.specs.declared.tasks.Task.{Task}
 use Rattle.zeb_program.specs.Answers.{Writes}
-use Rattle.zeb_program.specs.Doing.{DoesTask, RunsText, ServesText, StopsPart, StopsText}
-use Rattle.zeb_program.specs.FaultAnswers.{IsOpeningFailure, Reaches}
-use Rattle.zeb_program.specs.TaskAnswers.{AnswersOn, ReadsWhole, paths_of}
+use Rattle.zeb_program.specs.Doing.{DoesOnNothing, DoesTask, RunsText, ServesText, StopsPart, StopsText}
+use Rattle.zeb_program.specs.FaultAnswers.{IsOpeningFailure}
 use Rattle.zeb_program.specs.Registers.{ClosesStore, IsTakenOver, OpensStore, Places, UsedAs}
 use Rattle.zeb_program.specs.ScriptAnswers.{AreConditionsIn, AreScriptConditions, RunsFromNothing}
 use Rattle.std.specs.Io.KnownBytes.{Keeps as Stays}
@@ -49,6 +47,10 @@ use Rattle.zeb_program.specs.WordRuns.{ExplainsTask, IsOwnOr, ReadsAt}
 -- the store at the profile's path was opened and taken over
 abbrev pub TakesStore : {S : Type 0} → Places S → List Directive → Held S → Type 0
 TakesStore {S} at profile taken = (opened : Held S) × OpensStore at profile opened × (HasCleanDisk (state at.store taken) → IsTakenOver at.store opened taken)
+
+-- a store is taken over, and the connection is open
+abbrev pub TakesOpen : {S : Type 0} → Ghosts S → Held S → Held S → Type 0
+TakesOpen g opened taken = IsTakenOver g opened taken × IsTrue (state g taken).is_open
 
 -- and is used in this format
 abbrev pub TakesIn : {S : Type 0} → Places S → LayoutChoice → Format → List Directive → Held S → Type 0
@@ -110,11 +112,18 @@ pub record ServesHeld {S : Type 0} (g : Ghosts S) (leaves : Closed → S → Typ
 -- what comes of a task on a register in memory that holds nothing yet
 abbrev pub ServesOnNothing : (List ℕ → Option (List ℕ)) → Tells → List Directive → Task → Result Reply Fault → Type 0
 ServesOnNothing told at profile task result =
-    ((own : Result Reply Fault) × IsOwnOr result own × (c : Conditions) × AreScriptConditions profile c × Reaches at (ReadsWhole task) (paths_of task) own
-    × AnswersOn told c task own nothing_yet)
+    ((own : Result Reply Fault) × IsOwnOr result own × (c : Conditions) × AreScriptConditions profile c × DoesOnNothing told at c task own)
     ⊎ ((why : Refusal) × IsOpeningFailure why × (result ≡ Err (Refused why)))
 
 -- ---- the lines of the input
+
+-- A connection is used so, whatever is written, and then closed.
+pub record LeavesHeld {S : Type 0} (g : Ghosts S) (leaves : Closed → S → Type 0) (held : Held S) (Does : Held S → Held S → Type 0) : Type 0 where
+  pub last : Held S
+  pub closed : Closed
+  pub clean : HasCleanDisk (state g last) → HasCleanDisk (state g held)
+  pub does : HasCleanDisk (state g last) → Does held last
+  pub ends : ClosesStore g leaves last closed
 
 -- Lines are run over a connection, which is then closed. What is said of them is said of the connection as it was before.
 pub record Closes {S : Type 0} (g : Ghosts S) (leaves : Closed → S → Type 0) (held : Held S) (Said : Held S → Type 0) (fault_old fault_new : Option (List ℕ)) (closed : Closed) : Type 0 where
@@ -140,9 +149,9 @@ RunsIn g leaves at format c n text held old new fault_old fault_new status = (an
 
 -- The lines of a batch are run on a register in memory that holds nothing yet, and the fault output is left alone; or why none was opened is told
 -- there, and nothing else.
-abbrev pub RunsOnNothing : (List ℕ → Option (List ℕ)) → List Directive → ℕ → List ℕ → Option (List ℕ) → Option (List ℕ) → Option (List ℕ) → Option (List ℕ) → Status → Type 0
-RunsOnNothing told profile n text old new fault_old fault_new status =
-    (RunsFromNothing told profile n text old new status × Stays fault_old fault_new)
+abbrev pub RunsOnNothing : Tells → List Directive → ℕ → List ℕ → Option (List ℕ) → Option (List ℕ) → Option (List ℕ) → Option (List ℕ) → Status → Type 0
+RunsOnNothing at profile n text old new fault_old fault_new status =
+    (RunsFromNothing at profile n text old new status × Stays fault_old fault_new)
     ⊎ ((why : Refusal) × IsOpeningFailure why × Stays old new × Writes fault_old fault_new (λ bytes. TellsCaused (Refused why) None bytes status))
 
 -- and those of a shell

@@ -10,7 +10,7 @@ use Rattle.zeb_engine.specs.Causes.{OnlyLooks}
 use Rattle.zeb_engine.specs.Crashes.{AdoptLasts, Bears}
 use Rattle.zeb_engine.specs.Taking.{GivesBack}
 use Rattle.zeb_engine.specs.Transactions.{IsDurable}
-use Rattle.zeb_image.specs.Holdings.{Holdings, nothing_yet}
+use Rattle.zeb_image.specs.Holdings.{Holdings}
 use Rattle.zeb_image.specs.Image.{Keeps}
 use Rattle.zeb_paths.specs.Closing.{HasReason}
 use Rattle.zeb_paths.specs.Walks.{Tells, telling}
@@ -105,7 +105,9 @@ UsedAs Unsaid s packed_leaves = IsTrue s.is_open → IsStore s → KeepsLeaves s
 UsedAs Unsaid s packed_blocks = IsTrue s.is_open → IsStore s → ¬ KeepsLeaves s.now.trees
 UsedAs Unsaid s plain_rows = ⊥
 
--- A store is taken over.
+-- a store is taken over: each register that it bore is kept, the tables of a register, whatever their rows, are those
+-- of a store while it is open (`IsStore`), and a crash leaves what it left before, or the store of the register that
+-- was there
 pub record IsTakenOver {S : Type 0} (g : Ghosts S) (opened taken : Held S) : Type 0 where
   -- each register that it bore is kept
   pub keeps : (before : Holdings) → Bears (state g opened) before → Keeps (state g taken) before
@@ -114,7 +116,9 @@ pub record IsTakenOver {S : Type 0} (g : Ghosts S) (opened taken : Held S) : Typ
   -- a crash leaves what it left before, or the store of the register that was there
   pub lasts : AdoptLasts (state g opened) (state g taken)
 
--- The store of this connection is closed so.
+-- the store of this connection is closed so: it is left as the paths say, an open finds only what a crash before the
+-- close leaves, and, where the connection was open, just what it showed; and where it isn't closed whole there is a
+-- reason (`HasReason`)
 pub record ClosesStore {S : Type 0} (g : Ghosts S) (leaves : Closed → S → Type 0) (last : Held S) (closed : Closed) : Type 0 where
   -- it is left as the paths say
   pub left : S
@@ -170,6 +174,6 @@ nothing_met = record { is_whole = true; cause = None }
 
 -- P is so of the store of the register that is begun with, where one may stand there or one is to be made; or, where none stands there and none is to
 -- be made, Q is of one in memory that holds nothing yet, and is in packed blocks
-pub data OnRegister {S : Type 0} (at : Places S) (choice : LayoutChoice) (format : Format) (profile : List Directive) (closed : Closed) (Makes : Type 0) (P : Held S → Held S → Type 0) (Q : Holdings → Type 0) : Type 0 where
+pub data OnRegister {S : Type 0} (at : Places S) (choice : LayoutChoice) (format : Format) (profile : List Directive) (closed : Closed) (Makes : Type 0) (P : Held S → Held S → Type 0) (Q : Type 0) : Type 0 where
   kept : HasStore at profile ⊎ Makes → FromStore at choice format profile closed P → OnRegister at choice format profile closed Makes P Q
-  none : format ≡ packed_blocks → LacksStore at profile → ¬ Makes → at.untouched → closed ≡ nothing_met → Q nothing_yet → OnRegister at choice format profile closed Makes P Q
+  none : format ≡ packed_blocks → LacksStore at profile → ¬ Makes → at.untouched → closed ≡ nothing_met → Q → OnRegister at choice format profile closed Makes P Q

@@ -18,7 +18,8 @@ abbrev pub LeadsOn : State → State → Option (List ℕ) → Option (List ℕ)
 LeadsOn old new wrote writes P =
     (before : Option Holdings) → IfSome before (Keeps old) → (later : Option Holdings) × IfSome later (Keeps new) × Writes wrote writes (λ bytes. P before bytes later)
 
--- The same, where nothing is said of the tables then.
+-- as far as it is known what a register holds that tables keep, P says what is written; of the tables then nothing is
+-- said
 abbrev pub Stops : State → Option (List ℕ) → Option (List ℕ) → (Option Holdings → List ℕ → Type 0) → Type 0
 Stops old wrote writes P = (before : Option Holdings) → IfSome before (Keeps old) → Writes wrote writes (P before)
 

@@ -24,7 +24,7 @@ ShowsFailures read_failed failed fault_failed code =
 abbrev pub EndsWith : ℕ → (Status → Type 0) → Type 0
 EndsWith code P = (status : Status) × (code ≡ status_code status) × P status
 
--- the greater of two
+-- the greater of two statuses
 abbrev pub greater : Status → Status → Status
 greater Answered other = other
 greater Refused Answered = Refused

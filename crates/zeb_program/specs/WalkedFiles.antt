@@ -27,7 +27,7 @@ GivesNone (Ok (Some path)) = ⊥
 GivesNone (Err (Unreadable path)) = ⊤
 GivesNone (Err Memory) = ⊥
 
--- There is no file of that number: the walk gives none behind fewer.
+-- there is no file of this number, since a walk ends before it or comes to a path that it can't go on at
 abbrev pub LacksNthFile : Tells → List (List ℕ) → ℕ → Type 0
 LacksNthFile at named number =
     (before : List (List ℕ)) × (left later : List Due) × (found : Result (Option (String Global)) WalkFault) × (length before ≤ number - 1)

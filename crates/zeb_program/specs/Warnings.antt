@@ -10,7 +10,7 @@ use Rattle.zeb_program.specs.declared.warnings.Place.{Place}
 
 -- ---- the records
 
--- position 9 of a record's leader has `a`
+-- position 9 of a record's leader has `a` (MARC 21)
 abbrev pub says_unicode : List ℕ → Bool
 says_unicode bytes = unwrap_or (slice_get bytes 9) 0 == 97
 
@@ -47,7 +47,8 @@ warning_line unmarked records first =
     codes "zebraidx: warning: read as UTF-8 without 'a' in position 9 of the leader: " ++ decimal unmarked ++ codes " of " ++ decimal records
     ++ codes " records, the first at file " ++ decimal first.file ++ codes " record " ++ decimal first.nth ++ 10 ∷ []
 
--- such a line
+-- the line that so many of all records are read as UTF-8 without an `a` in position 9 of the leader, with the place
+-- of the first
 abbrev pub IsWarning : List ℕ → Type 0
 IsWarning line = (unmarked : ℕ) × (records : ℕ) × (first : Place) × (line ≡ warning_line unmarked records first)
 

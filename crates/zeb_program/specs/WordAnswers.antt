@@ -21,10 +21,6 @@ use Rattle.zeb_program.specs.declared.statuses.Status.TheVariants.{Answered, Mis
 use Rattle.zeb_program.specs.Warnings.{WarnsOf, warning_bytes}
 use Rattle.zeb_program.specs.WordRuns.{RunsBatch, RunsShell, StopsBatch, StopsShell, StopsTask, TellsWhy, WritesReply}
 
--- words that name no command
-abbrev pub NamesNothing : List (List ℕ) → Type 0
-NamesNothing words = (named : Words) → ¬ NamesWords words named
-
 -- words that name a batch
 abbrev pub NamesBatch : List (List ℕ) → Type 0
 NamesBatch words = (named : Words) × NamesWords words named × (named.act ≡ Batch)
@@ -48,7 +44,7 @@ TellsUsage (Help text) old new fault_old fault_new status =
     (status ≡ Answered) × Appends old new (string_bytes text) × Keeps fault_old fault_new
 TellsUsage Memory old new fault_old fault_new status = (status ≡ Failed) × Keeps old new × Appends fault_old fault_new starved_line
 
--- what the task warns of goes to the fault output, and nothing else
+-- what a task that is answered warns of goes to the fault output, and nothing else
 abbrev pub Warns : (List ℕ → Option (List ℕ)) → Task → Option (List ℕ) → Option (List ℕ) → Type 0
 Warns told task fault_old fault_new = (warning : Option (List ℕ)) × WarnsOf told task warning × Appends fault_old fault_new (warning_bytes warning)
 
@@ -64,7 +60,8 @@ TellsApart at choice config task old new fault_old fault_new status =
     ((closed : Closed) × (status ≡ closing_status closed) × WritesReply at choice config task closed old new × WarnsClosed at.tells task closed fault_old fault_new)
     ⊎ (Keeps old new × TellsWhy at choice config task fault_old fault_new status)
 
--- What is written for words, and the status: of an input that has this before, where it tells that, and this behind, and of which a read failed or didn't.
+-- what is written for words to both outputs, and the status: for words that name no command, that name a batch, a
+-- shell, which leaves a part of the input only with status 3 or where nothing is answered, or a task
 pub data AnswersWords {S : Type 0} (at : Places S) (words : List (List ℕ)) (given left : Option (List ℕ)) (failed : Bool) (old new fault_old fault_new : Option (List ℕ)) (status : Status) : Type 0 where
   -- words of which no command is read: they name none, ask for help, or memory runs out at them; which of these it is, is the parser's to say. No store
   -- is opened then, and no byte of the input is gone.

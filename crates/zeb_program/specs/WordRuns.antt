@@ -23,8 +23,8 @@ use Rattle.zeb_program.specs.declared.line_input.LineFault.TheVariants.{Memory a
 use Rattle.zeb_program.specs.declared.tasks.Task.{Task}
 use Rattle.zeb_program.specs.declared.tasks.Task.TheVariants.{Ask}
 use Rattle.zeb_program.specs.Answers.{Writes}
-use Rattle.zeb_program.specs.Doing.{DoesTask, RunsText, ServesText, StopsPart, StopsText}
-use Rattle.zeb_program.specs.FaultAnswers.{IsOpeningFailure, Reaches}
+use Rattle.zeb_program.specs.Doing.{DoesOnNothing, DoesTask, RunsText, ServesText, StopsPart, StopsText}
+use Rattle.zeb_program.specs.FaultAnswers.{IsOpeningFailure}
 use Rattle.zeb_program.specs.FaultLines.{TellsCaused}
 use Rattle.zeb_program.specs.Inputs.{IsInput}
 use Rattle.zeb_program.specs.ProfileFiles.{ReadsProfile}
@@ -37,7 +37,7 @@ use Rattle.zeb_program.specs.declared.input.TextCause.{TextCause}
 use Rattle.zeb_program.specs.ScriptAnswers.{AnswersStopped, AreConditionsIn, RunsFromNothing}
 use Rattle.zeb_program.specs.Scripts.{BeginsRegister}
 use Rattle.zeb_program.specs.Statuses.{closing_status, greater}
-use Rattle.zeb_program.specs.TaskAnswers.{AnswersOn, ReadsWhole, paths_of}
+use Rattle.zeb_program.specs.TaskAnswers.{paths_of}
 use Rattle.zeb_program.specs.declared.statuses.Status.{Status}
 
 -- this is read of the profile's file
@@ -56,7 +56,7 @@ pub data ServesUnder {S : Type 0} (at : Places S) (choice : LayoutChoice) (profi
   -- then it is done all the same.
   answered : {result : Result Reply Fault} → (own : Result Reply Fault) → IsOwnOr result own → (format : Format) → (c : Conditions) → AreConditionsIn format profile c
       → OnRegister at choice format profile closed (task ≡ Ask Init) (DoesTask at.store at.tells at.sees format c task own)
-      (λ before. Reaches at.sees (ReadsWhole task) (paths_of task) own × AnswersOn at.tells c task own before) → ServesUnder at choice profile task closed result
+      (DoesOnNothing at.tells at.sees c task own) → ServesUnder at choice profile task closed result
   -- or why none is opened
   unopened : {why : Refusal} → HasStore at profile ⊎ (task ≡ Ask Init) → FailsOpening at profile why closed → ServesUnder at choice profile task closed (Err (Refused why))
   -- or why none is made in memory, where none stands there and none is to be made
@@ -124,7 +124,7 @@ pub data RunsLines {S : Type 0} (at : Places S) (config : String Global) (profil
       → FromStore at Unsaid format profile closed (RunsText at.store at.sees format c 0 text old new answered)
       → TellsClosed fault_old fault_new closed → RunsLines at config profile text old new fault_old fault_new (greater answered (closing_status closed))
   in_memory : {status : Status} → LacksStore at profile → ¬ BeginsRegister text → at.untouched → Keeps fault_old fault_new
-      → RunsFromNothing at.tells profile 0 text old new status → RunsLines at config profile text old new fault_old fault_new status
+      → RunsFromNothing at.sees profile 0 text old new status → RunsLines at config profile text old new fault_old fault_new status
   no_memory : {why : Refusal} → {status : Status} → LacksStore at profile → ¬ BeginsRegister text → at.untouched → IsOpeningFailure why → Keeps old new → Writes fault_old fault_new (λ bytes. TellsCaused (Refused why) None bytes status)
       → RunsLines at config profile text old new fault_old fault_new status
   no_register : {why : Refusal} → {closed : Closed} → {status : Status} → HasStore at profile ⊎ BeginsRegister text → FailsOpening at profile why closed → Keeps old new
@@ -158,7 +158,7 @@ pub data StopsLines {S : Type 0} (at : Places S) (profile : List Directive) (tex
       → FromStore at Unsaid format profile closed (StopsPart at.store at.sees format c 0 text old new)
       → TellsClosed fault_old fault_new closed → StopsLines at profile text old new fault_old fault_new
   part_in_memory : LacksStore at profile → ¬ BeginsRegister text → at.untouched → Keeps fault_old fault_new
-      → AnswersStopped at.tells profile 0 text old new → StopsLines at profile text old new fault_old fault_new
+      → AnswersStopped at.sees profile 0 text old new → StopsLines at profile text old new fault_old fault_new
   no_line : {why : Refusal} → {closed : Closed} → HasStore at profile ⊎ BeginsRegister text → FailsOpening at profile why closed → Keeps old new
       → TellsLeft fault_old fault_new closed → StopsLines at profile text old new fault_old fault_new
 

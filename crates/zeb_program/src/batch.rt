@@ -1,6 +1,6 @@
 //! A batch: commands in one session, one on a line.
 
-ghost use Rattle.std.specs.Prelude.{◌≡◌, ◌++◌, ◌∷◌, [], false, IfOk, OnErr};
+ghost use Rattle.std.specs.Prelude.{◌≡◌, ◌++◌, ◌∷◌, [], false, IfOk, MatchResult, OnErr};
 ghost use Rattle.zeb_paths.specs.Walks.{telling};
 ghost use Rattle.zeb_register.specs.Formats.{version_of};
 ghost use Rattle.sqlite.specs.Held.{state};
@@ -10,7 +10,7 @@ ghost use Rattle.zeb_engine.specs.Refusals.{refusal_text};
 ghost use Rattle.zeb_program.specs.ScriptAnswers.{AnswersOpened, AnswersStopped};
 ghost use Rattle.std.specs.Io.KnownBytes.{Appends};
 ghost use Rattle.zeb_program.specs.Answers.{Writes, bad_line, mark_line, IsAnswer, AnswersAsTold, AnswersBatch};
-ghost use Rattle.zeb_program.specs.Doing.{StopsLine, StopsPart};
+ghost use Rattle.zeb_program.specs.Doing.{DoesBatch, DoesLine, StopsLine, StopsPart};
 ghost use Rattle.zeb_program.specs.OverTables.{CommandOver, LineOver, LinesOver, ServesOver};
 ghost use Rattle.zeb_program.specs.PrivateServing.{Leads};
 ghost use Rattle.zeb_program.specs.PrivateWordRuns.{RunsOnNothing};
@@ -43,11 +43,13 @@ pub fn run_in_memory<P: Paths, W: Write>(
 ) -> Result<Status, AllocError>
     ensures sound { output.new.failed ≡ false → output.old.failed ≡ false }
     ensures answer { IfOk result (λ status. output.new.failed ≡ false
-        → AnswersOpened (P.tells paths.now) profile batch.entry.lines_before batch.entry.text.now
-        (W.contents output.old.writer) (W.contents output.new.writer) status) }
+        → AnswersOpened (telling (P.tells paths.now) (P.stands paths.now) (P.lists paths.now))
+        profile batch.entry.lines_before batch.entry.text.now (W.contents output.old.writer)
+        (W.contents output.new.writer) status) }
     ensures stopped { OnErr result (output.new.failed ≡ false
-        → AnswersStopped (P.tells paths.now) profile batch.entry.lines_before
-        batch.entry.text.now (W.contents output.old.writer) (W.contents output.new.writer)) }
+        → AnswersStopped (telling (P.tells paths.now) (P.stands paths.now) (P.lists paths.now))
+        profile batch.entry.lines_before batch.entry.text.now (W.contents output.old.writer)
+        (W.contents output.new.writer)) }
 {
     match session_in_memory(alloc, profile) {
         Ok(mut session) => run_lines(alloc, &mut session, paths, batch, output),
@@ -65,13 +67,15 @@ pub fn run_on_nothing<P: Paths, W: Write, V: Write>(
     fault_output: &mut Sink<V>,
 ) -> Result<Status, AllocError>
     ensures answer { IfOk result (λ status. output.new.failed ≡ false
-        → fault_output.new.failed ≡ false → RunsOnNothing (P.tells paths.now) profile
-        batch.entry.lines_before batch.entry.text.now (W.contents output.old.writer)
+        → fault_output.new.failed ≡ false → RunsOnNothing
+        (telling (P.tells paths.now) (P.stands paths.now) (P.lists paths.now))
+        profile batch.entry.lines_before batch.entry.text.now (W.contents output.old.writer)
         (W.contents output.new.writer) (V.contents fault_output.old.writer)
         (V.contents fault_output.new.writer) status) }
     ensures stopped { OnErr result (output.new.failed ≡ false
-        → AnswersStopped (P.tells paths.now) profile batch.entry.lines_before
-        batch.entry.text.now (W.contents output.old.writer) (W.contents output.new.writer)) }
+        → AnswersStopped (telling (P.tells paths.now) (P.stands paths.now) (P.lists paths.now))
+        profile batch.entry.lines_before batch.entry.text.now (W.contents output.old.writer)
+        (W.contents output.new.writer)) }
     ensures silent { OnErr result (fault_output.new ≡ fault_output.old) }
 {
     match session_in_memory(alloc, profile) {
@@ -111,8 +115,13 @@ pub fn run_lines<S: Alter, L: Layout, P: Paths, W: Write>(
         (conditions (version_of L.format) session.old.profile session.old.limits)
         batch.entry.lines_before batch.entry.text.now (W.contents output.old.writer)
         (W.contents output.new.writer) session.old.connection session.new.connection) }
-    ensures clean { HasCleanDisk (state S.Store session.new.connection)
-        → HasCleanDisk (state S.Store session.old.connection) }
+    // Whatever is written, also where a write fails.
+    ensures does { HasCleanDisk (state S.Store session.new.connection)
+        → HasCleanDisk (state S.Store session.old.connection) × DoesBatch S.Store
+        (telling (P.tells paths.now) (P.stands paths.now) (P.lists paths.now)) L.format
+        (conditions (version_of L.format) session.old.profile session.old.limits)
+        batch.entry.lines_before batch.entry.text.now result session.old.connection
+        session.new.connection }
 {
     let mut rest = batch.text;
     let mut number = batch.lines_before;
@@ -151,8 +160,12 @@ pub fn run_line<S: Alter, L: Layout, P: Paths, W: Write>(
         (P.lists paths.now)) L.format (conditions (version_of L.format) session.old.profile
         session.old.limits) number line.now
         session.old.connection bytes status session.new.connection)) }
-    // Where memory runs out at it, it may be done all the same.
-    ensures stopped { OnErr result ((output.new ≡ output.old)
+    // It is done, whatever is written; and where memory runs out at it, it may be done all the same.
+    ensures does { MatchResult result
+        (λ _. HasCleanDisk (state S.Store session.new.connection) → DoesLine S.Store
+        (telling (P.tells paths.now) (P.stands paths.now) (P.lists paths.now)) L.format
+        (conditions (version_of L.format) session.old.profile session.old.limits) number line.now
+        session.old.connection session.new.connection) (λ _. (output.new ≡ output.old)
         × (HasCleanDisk (state S.Store session.new.connection) → StopsLine S.Store
         (telling (P.tells paths.now) (P.stands paths.now) (P.lists paths.now)) L.format
         (conditions (version_of L.format) session.old.profile session.old.limits) line.now
@@ -191,12 +204,12 @@ fn run_command<S: Alter, L: Layout, W: Write>(
         (λ bytes. CommandOver L.format (conditions (version_of L.format) session.old.profile
         session.old.limits) command.now (state S.Store session.old.connection) bytes status
         (state S.Store session.new.connection))) }
-    // It is done all the same.
-    ensures stopped { OnErr result ((output.new ≡ output.old)
+    // It is done, whatever is written, also where memory runs out for that.
+    ensures does { OnErr result (output.new ≡ output.old)
         × (HasCleanDisk (state S.Store session.new.connection) → (answer : _)
         × ServesOver L.format (conditions (version_of L.format) session.old.profile
         session.old.limits) command.now (state S.Store session.old.connection)
-        (state S.Store session.new.connection) answer)) }
+        (state S.Store session.new.connection) answer) }
     // The session stays under its profile and its limits, and its disk was clean where it is.
     ensures stays { (session.new.profile ≡ session.old.profile)
         × (session.new.limits ≡ session.old.limits)

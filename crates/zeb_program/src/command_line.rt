@@ -4,7 +4,12 @@ ghost use Rattle.std.specs.Prelude.{◌≡◌, ◌≢◌, ◌⊎◌, ◌+◌, �
 ghost use Rattle.std.specs.Prelude.{OnErr, IsErrAnd};
 ghost use Rattle.zeb_change.specs.Conditions.{conditions};
 ghost use Rattle.zeb_register.specs.Formats.{version_of};
+ghost use Rattle.zeb_paths.specs.Walks.{telling};
+ghost use Rattle.zeb_words.specs.declared.words.LayoutChoice.TheVariants.{Unsaid};
+ghost use Rattle.zeb_program.specs.Doing.{DoesBatch};
+ghost use Rattle.zeb_program.specs.LeftStores.{LeavesAt, LeavesByBatch, LeavesByShell, LeavesByTask, LeavesStore};
 ghost use Rattle.zeb_program.specs.PrivateWordRuns.{OpensUnder, format_of};
+ghost use Rattle.zeb_program.specs.Scripts.{BeginsRegister};
 ghost use Rattle.zeb_program.specs.ProfileFiles.{ReadsProfile};
 ghost use Rattle.zeb_program.specs.Registers.{places};
 ghost use Rattle.zeb_program.specs.Statuses.{closing_status};
@@ -14,7 +19,7 @@ ghost use Rattle.std.specs.Io.KnownBytes.{Appends, IsAtEnd};
 ghost use Rattle.zeb_program.specs.PrivateFaults.{IsUnread};
 ghost use Rattle.zeb_program.specs.Inputs.{TakesAtMost};
 ghost use Rattle.zeb_program.specs.FixedLines.{misuse_line, usage_line};
-ghost use Rattle.zeb_program.specs.WordAnswers.{AnswersWords, NamesLines, NamesNothing, NamesShell, StopsWords, TellsApart, TellsUsage};
+ghost use Rattle.zeb_program.specs.WordAnswers.{AnswersWords, NamesLines, NamesShell, StopsWords, TellsApart, TellsUsage};
 ghost use Rattle.zeb_program.specs.Warnings.{warning_bytes};
 ghost use Rattle.zeb_program.specs.Closings.{TellsClosed};
 ghost use Rattle.std.specs.Option.{option_map};
@@ -53,7 +58,9 @@ pub fn run_words<R: Source, W: Output, V: Write, P: Paths>(
     ensures bounded { ¬ NamesShell (map string_bytes words.now) →
         TakesAtMost (GREATEST_INPUT + 1) (R.remaining input.old) (R.remaining input.new) }
     ensures unread { ¬ NamesLines (map string_bytes words.now) → input.new ≡ input.old }
-    ensures untouched { NamesNothing (map string_bytes words.now) → paths.new ≡ paths.old }
+    ensures store { LeavesStore (places P.Store.Store P.tells P.stands P.lists P.explains P.opens
+        P.refuses P.lacks P.has P.lets_go P.leaves paths.old paths.new)
+        (map string_bytes words.now) (R.remaining input.old) result }
     ensures failed_read { R.has_failed input.new ≡ true
         → IfOk result (λ status. status ≡ Status.Failed) }
     ensures answer { IfOk result (λ status. output.new.failed ≡ false
@@ -152,6 +159,10 @@ fn run_task<W: Write, V: Write, P: Paths>(
         → StopsTask (places P.Store.Store P.tells P.stands P.lists P.explains P.opens P.refuses
         P.lacks P.has P.lets_go P.leaves paths.old paths.new) choice config task.now
         (V.contents fault_output.old.writer) (V.contents fault_output.new.writer))) }
+    // What becomes of the store, whatever is written.
+    ensures store { LeavesByTask (places P.Store.Store P.tells P.stands P.lists P.explains
+        P.opens P.refuses P.lacks P.has P.lets_go P.leaves paths.old paths.new) choice config
+        task.now result }
 {
     let named = config.clone()?;
     let Performed { told, closed } = perform(alloc, config, choice, task, paths);
@@ -219,6 +230,9 @@ fn run_batch<R: Source, W: Write, V: Write, P: Paths>(
         P.lacks P.has P.lets_go P.leaves paths.old paths.new) config (R.remaining input.old)
         (W.contents output.old.writer) (W.contents output.new.writer)
         (V.contents fault_output.old.writer) (V.contents fault_output.new.writer)) }
+    ensures store { LeavesByBatch (places P.Store.Store P.tells P.stands P.lists P.explains
+        P.opens P.refuses P.lacks P.has P.lets_go P.leaves paths.old paths.new) config
+        (R.remaining input.old) result }
 {
     let named = config.clone()?;
     match begin_batch(alloc, config, paths, input) {
@@ -286,6 +300,11 @@ fn serve_batch<W: Write, V: Write, P: Paths>(
         P.lists P.explains P.opens P.refuses P.lacks P.has P.lets_go P.leaves paths.old paths.new)
         profile batch.entry.text.now (W.contents output.old.writer) (W.contents output.new.writer)
         (V.contents fault_output.old.writer) (V.contents fault_output.new.writer)) }
+    ensures store { batch.entry.lines_before ≡ 0 → LeavesAt (places P.Store.Store P.tells P.stands
+        P.lists P.explains P.opens P.refuses P.lacks P.has P.lets_go P.leaves paths.old paths.new)
+        Unsaid profile (BeginsRegister batch.entry.text.now) (λ format c. DoesBatch P.Store.Store
+        (telling (P.tells paths.new) (P.stands paths.new) (P.lists paths.new)) format c 0
+        batch.entry.text.now result) }
 {
     if !uses_store(paths, &profile, batch.begins()) {
         return run_on_nothing(alloc, profile, paths, batch, output, fault_output);
@@ -328,6 +347,9 @@ fn run_shell<R: Source, W: Output, V: Write, P: Paths>(
         P.lacks P.has P.lets_go P.leaves paths.old paths.new) config (R.remaining input.old)
         (R.remaining input.new) (W.contents output.old.writer) (W.contents output.new.writer)
         (V.contents fault_output.old.writer) (V.contents fault_output.new.writer)) }
+    ensures store { LeavesByShell (places P.Store.Store P.tells P.stands P.lists P.explains
+        P.opens P.refuses P.lacks P.has P.lets_go P.leaves paths.old paths.new) config
+        (R.remaining input.old) result }
 {
     let named = config.clone()?;
     match open(alloc, config, paths) {

@@ -4,10 +4,9 @@ ghost use Rattle.std.specs.Prelude.{◌≡◌, false, IfErr, IfOk};
 ghost use Rattle.sqlite.specs.Files.{file_state};
 ghost use Rattle.sqlite.specs.Steps.{IsEmpty};
 ghost use Rattle.zeb_change.specs.Conditions.{conditions};
-ghost use Rattle.zeb_image.specs.Holdings.{nothing_yet};
-ghost use Rattle.zeb_image.specs.Image.{Keeps};
 ghost use Rattle.zeb_register.specs.Formats.{packed_blocks, version_of};
 ghost use Rattle.zeb_program.specs.FaultAnswers.{IsOpeningFailure};
+ghost use Rattle.zeb_program.specs.PrivateServing.{HoldsNothing};
 ghost use Rattle.zeb_program.specs.ScriptAnswers.{AreScriptConditions};
 
 use crate::opening::session_over;
@@ -31,7 +30,7 @@ pub fn session_in_memory(
     alloc: Global,
     profile: Profile,
 ) -> Result<Session<FileStore<Memory>, Blocks>, Refusal>
-    ensures empty { IfOk result (λ session. Keeps (file_state session.connection) nothing_yet) }
+    ensures empty { IfOk result (λ session. HoldsNothing (file_state session.connection)) }
     ensures under { IfOk result (λ session. AreScriptConditions profile
         (conditions (version_of packed_blocks) session.profile session.limits)) }
     ensures failed { IfErr result IsOpeningFailure }

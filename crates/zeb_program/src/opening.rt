@@ -8,8 +8,8 @@ ghost use Rattle.zeb_engine.specs.Adopting.{HasOtherTables};
 ghost use Rattle.zeb_register.specs.Formats.{packed_blocks, version_of};
 ghost use Rattle.zeb_words.specs.declared.words.LayoutChoice.TheVariants.{Unsaid};
 ghost use Rattle.zeb_program.specs.FaultAnswers.{IsOpeningFailure, unopened_refusal};
-ghost use Rattle.zeb_program.specs.PrivateWordRuns.{OnlyLooked, TellsLayout};
-ghost use Rattle.zeb_program.specs.Registers.{IsGivenBack, IsTakenOver};
+ghost use Rattle.zeb_program.specs.PrivateWordRuns.{OnlyLooked, TakesOpen, TellsLayout};
+ghost use Rattle.zeb_program.specs.Registers.{IsGivenBack};
 ghost use Rattle.zeb_program.specs.ScriptAnswers.{AreScriptConditions};
 
 use sqlite::{Alter, Connection};
@@ -53,7 +53,7 @@ pub fn session_over<S: Alter + Drop>(
         × (why.0 ≡ Some back) × IsGivenBack S.Store connection back why.1)) }
     ensures keeps { IfOk opened
         (λ connection. IfOk result (λ session. HasCleanDisk (state S.Store session.connection)
-        → IsTakenOver S.Store connection session.connection)) }
+        → TakesOpen S.Store connection session.connection)) }
     ensures under { IfOk result (λ session. AreScriptConditions profile
         (conditions (version_of packed_blocks) session.profile session.limits)) }
 {

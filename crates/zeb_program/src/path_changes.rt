@@ -1,6 +1,6 @@
 //! The lines of a batch that name a change by the path of its file.
 
-ghost use Rattle.std.specs.Prelude.{◌≡◌, ◌≢◌, ◌⊎◌, ℕ, List, Some, false, string_bytes, IfOk, IfNone, IfSome, OnErr};
+ghost use Rattle.std.specs.Prelude.{◌≡◌, ◌≢◌, ◌⊎◌, ℕ, List, Some, false, string_bytes, IfOk, IfNone, IfSome, MatchResult};
 ghost use Rattle.sqlite.specs.Held.{state};
 ghost use Rattle.sqlite.specs.State.{HasCleanDisk};
 ghost use Rattle.zeb_change.specs.Conditions.{conditions};
@@ -9,7 +9,7 @@ ghost use Rattle.zeb_paths.specs.Walks.{telling};
 ghost use Rattle.zeb_register.specs.Formats.{version_of};
 ghost use Rattle.zeb_program.specs.Answers.{IsFileAnswer, Writes};
 ghost use Rattle.zeb_program.specs.Batches.{kind_word};
-ghost use Rattle.zeb_program.specs.PrivateServing.{Leads};
+ghost use Rattle.zeb_program.specs.PrivateServing.{DoesPath, Leads};
 ghost use Rattle.zeb_program.specs.OverTables.{PathOver};
 
 use crate::faults::tell;
@@ -71,14 +71,16 @@ pub fn run_path_change<S: Alter, L: Layout, P: Paths, W: Write>(
         session.old.limits) change.now
         (state S.Store session.old.connection) bytes status
         (state S.Store session.new.connection))) }
-    // It is done all the same, or nothing is.
-    ensures stopped { OnErr result ((output.new ≡ output.old)
-        × (HasCleanDisk (state S.Store session.new.connection)
-        → (session.new.connection ≡ session.old.connection) ⊎ (bytes : _) × (status : _)
-        × PathOver (telling (P.tells paths.now) (P.stands paths.now) (P.lists paths.now)) L.format
+    // It is done, whatever is written; and where memory runs out, it is done all the same, or nothing is.
+    ensures does { MatchResult result (λ _. HasCleanDisk (state S.Store session.new.connection)
+        → DoesPath (telling (P.tells paths.now) (P.stands paths.now) (P.lists paths.now)) L.format
         (conditions (version_of L.format) session.old.profile session.old.limits) change.now
-        (state S.Store session.old.connection) bytes status
-        (state S.Store session.new.connection))) }
+        (state S.Store session.old.connection) (state S.Store session.new.connection))
+        (λ _. (output.new ≡ output.old) × (HasCleanDisk (state S.Store session.new.connection)
+        → (session.new.connection ≡ session.old.connection)
+        ⊎ DoesPath (telling (P.tells paths.now) (P.stands paths.now) (P.lists paths.now)) L.format
+        (conditions (version_of L.format) session.old.profile session.old.limits) change.now
+        (state S.Store session.old.connection) (state S.Store session.new.connection))) }
     // The session stays under its profile and its limits, and its disk was clean where it is.
     ensures stays { (session.new.profile ≡ session.old.profile)
         × (session.new.limits ≡ session.old.limits)

@@ -1,14 +1,16 @@
 //! The program without its outside: words and input come in, output and a status go out.
 
-ghost use Rattle.std.specs.Prelude.{◌≡◌, ◌≢◌, ◌⊎◌, ◌+◌, [], true, false, map, string_bytes, IfOk, IfSome, OnErr};
+ghost use Rattle.std.specs.Prelude.{◌≡◌, ◌≢◌, ◌+◌, [], true, false, map, string_bytes, IfOk, IfSome, OnErr};
 ghost use Rattle.std.specs.Io.KnownBytes.{Appends};
+ghost use Rattle.zeb_paths.specs.Walks.{telling};
 ghost use Rattle.zeb_program.specs.Inputs.{TakesAtMost};
+ghost use Rattle.zeb_program.specs.LeftStores.{IsStarvedCode, LeavesStore};
 ghost use Rattle.zeb_program.specs.Registers.{places};
 ghost use Rattle.zeb_program.specs.FixedLines.{starved_line};
 ghost use Rattle.zeb_program.specs.ScriptAnswers.{AnswersScript, EndsEarly, EndsScript, MayStarve, fault_line};
 ghost use Rattle.zeb_program.specs.PrivateEnding.{IsLastStatus, PassesOn};
 ghost use Rattle.zeb_program.specs.Statuses.{EndsWith, ShowsFailures, fault_status};
-ghost use Rattle.zeb_program.specs.WordAnswers.{EndsWords, NamesLines, NamesNothing, NamesShell};
+ghost use Rattle.zeb_program.specs.WordAnswers.{EndsWords, NamesLines, NamesShell};
 
 use crate::batch::run_in_memory;
 use crate::command_line::run_words;
@@ -59,9 +61,12 @@ pub fn run<R: Source, W: Output, V: Output, P: Paths>(
         → TakesAtMost (GREATEST_INPUT + 1) (R.remaining input.old) (R.remaining input.new))
         × (words.now ≢ [] → ¬ NamesLines (map string_bytes words.now) → input.new ≡ input.old) }
 
-    // No store is opened without a word, nor for words that name no command.
-    ensures untouched { (words.now ≡ []) ⊎ NamesNothing (map string_bytes words.now)
-        → files.new ≡ files.old }
+    // No store is opened without a word. With words, whatever is written, and whatever fails: what becomes of the register's store. Where
+    // they name no command none is opened; and lines of a batch are left only where memory ran out for the program itself, with status 3.
+    ensures store { (words.now ≡ [] → files.new ≡ files.old) × (words.now ≢ [] → (ended : _)
+        × LeavesStore (places P.Store.Store P.tells P.stands P.lists P.explains P.opens P.refuses
+        P.lacks P.has P.lets_go P.leaves files.old files.new) (map string_bytes words.now)
+        (R.remaining input.old) ended × IsStarvedCode ended result) }
 
     // Where no write has failed, nothing of what was written is held back.
     ensures passed { (output.new.failed ≡ false → W.held_back output.new.writer ≡ [])
@@ -74,7 +79,8 @@ pub fn run<R: Source, W: Output, V: Output, P: Paths>(
         → MayStarve (V.contents fault_output.old.writer) (V.contents fault_output.new.writer)
         × (R.has_failed input.new ≡ false → output.new.failed ≡ false
         → IfSome (R.remaining input.old) (λ text. EndsWith result
-        (EndsScript (P.tells files.old) text (W.contents output.old.writer)
+        (EndsScript (telling (P.tells files.old) (P.stands files.old) (P.lists files.old)) text
+        (W.contents output.old.writer)
         (W.contents output.new.writer) (V.contents fault_output.old.writer)
         (V.contents fault_output.new.writer)))) }
 
@@ -150,10 +156,12 @@ fn run_script<R: Source, W: Write, P: Paths>(
     ensures sound { output.new.failed ≡ false → output.old.failed ≡ false }
     ensures answer { IfOk result (λ status. R.has_failed input.new ≡ false
         → output.new.failed ≡ false → IfSome (R.remaining input.old)
-        (λ text. AnswersScript (P.tells paths.now) text (W.contents output.old.writer)
+        (λ text. AnswersScript (telling (P.tells paths.now) (P.stands paths.now) (P.lists paths.now))
+        text (W.contents output.old.writer)
         (W.contents output.new.writer) status)) }
     ensures stopped { OnErr result (R.has_failed input.new ≡ false → output.new.failed ≡ false
-        → IfSome (R.remaining input.old) (λ text. EndsEarly (P.tells paths.now) text
+        → IfSome (R.remaining input.old) (λ text. EndsEarly
+        (telling (P.tells paths.now) (P.stands paths.now) (P.lists paths.now)) text
         (W.contents output.old.writer) (W.contents output.new.writer))) }
 {
     let text = match read_text(alloc, input, GREATEST_INPUT) {

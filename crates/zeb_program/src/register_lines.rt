@@ -5,7 +5,8 @@ ghost use Rattle.std.specs.Io.KnownBytes.{IsAtEnd};
 ghost use Rattle.zeb_change.specs.Conditions.{conditions};
 ghost use Rattle.zeb_paths.specs.Walks.{telling};
 ghost use Rattle.zeb_register.specs.Formats.{version_of};
-ghost use Rattle.zeb_program.specs.PrivateWordRuns.{ClosesAloud, EndsSession, RunsIn, ServesIn, StopsIn, StopsServing, format_of};
+ghost use Rattle.zeb_program.specs.Doing.{DoesBatch, DoesShell};
+ghost use Rattle.zeb_program.specs.PrivateWordRuns.{ClosesAloud, EndsSession, LeavesHeld, RunsIn, ServesIn, StopsIn, StopsServing, format_of};
 
 use crate::batch::run_lines;
 use crate::failures::tell_closed;
@@ -48,6 +49,12 @@ pub fn run_on<W: Write, V: Write, P: Paths>(
         batch.entry.lines_before batch.entry.text.now
         register.0.connection (W.contents output.old.writer) (W.contents output.new.writer)
         (V.contents fault_output.old.writer) (V.contents fault_output.new.writer)) }
+    // What becomes of the store, whatever is written.
+    ensures store { LeavesHeld P.Store.Store (P.leaves paths.now) register.0.connection
+        (DoesBatch P.Store.Store (telling (P.tells paths.now) (P.stands paths.now)
+        (P.lists paths.now)) (format_of register.1) (conditions (version_of (format_of register.1))
+        register.0.profile register.0.limits) batch.entry.lines_before batch.entry.text.now
+        result) }
 {
     let (session, layout) = register;
     match layout {
@@ -81,6 +88,10 @@ fn run_in<L: Layout, W: Write, V: Write, P: Paths>(
         session.profile session.limits) batch.entry.lines_before batch.entry.text.now
         session.connection (W.contents output.old.writer) (W.contents output.new.writer)
         (V.contents fault_output.old.writer) (V.contents fault_output.new.writer)) }
+    ensures store { LeavesHeld P.Store.Store (P.leaves paths.now) session.connection
+        (DoesBatch P.Store.Store (telling (P.tells paths.now) (P.stands paths.now)
+        (P.lists paths.now)) L.format (conditions (version_of L.format) session.profile
+        session.limits) batch.entry.lines_before batch.entry.text.now result) }
 {
     let mut session = session;
     let answered = run_lines(alloc, &mut session, paths, batch, output);
@@ -116,6 +127,11 @@ pub fn serve_on<R: Source, W: Output, V: Write, P: Paths>(
         (R.remaining input.old) (R.remaining input.new)
         register.0.connection (W.contents output.old.writer) (W.contents output.new.writer)
         (V.contents fault_output.old.writer) (V.contents fault_output.new.writer)) }
+    // What becomes of the store, whatever is written.
+    ensures store { LeavesHeld P.Store.Store (P.leaves paths.now) register.0.connection
+        (DoesShell P.Store.Store (telling (P.tells paths.now) (P.stands paths.now)
+        (P.lists paths.now)) (format_of register.1) (conditions (version_of (format_of register.1))
+        register.0.profile register.0.limits) (R.remaining input.old)) }
 {
     let (session, layout) = register;
     match layout {
@@ -155,6 +171,10 @@ fn serve_in<L: Layout, R: Source, W: Output, V: Write, P: Paths>(
         session.profile session.limits) (R.remaining input.old) (R.remaining input.new)
         session.connection (W.contents output.old.writer) (W.contents output.new.writer)
         (V.contents fault_output.old.writer) (V.contents fault_output.new.writer)) }
+    ensures store { LeavesHeld P.Store.Store (P.leaves paths.now) session.connection
+        (DoesShell P.Store.Store (telling (P.tells paths.now) (P.stands paths.now)
+        (P.lists paths.now)) L.format (conditions (version_of L.format) session.profile
+        session.limits) (R.remaining input.old)) }
 {
     let mut session = session;
     let answered = serve_lines(alloc, &mut session, paths, input, output, fault_output);

@@ -1,6 +1,6 @@
 //! A shell: the lines of the input in one session, each answered before the next is read.
 
-ghost use Rattle.std.specs.Prelude.{◌≡◌, ◌≢◌, ◌⊎◌, ◌↔◌, [], true, false, IfErr, IfOk, IfSome, OnErr};
+ghost use Rattle.std.specs.Prelude.{◌≡◌, ◌≢◌, ◌⊎◌, ◌↔◌, [], true, false, IfErr, IfOk, IfSome, MatchResult, OnErr};
 ghost use Rattle.std.specs.Io.KnownBytes.{IsAtEnd};
 ghost use Rattle.sqlite.specs.Held.{state};
 ghost use Rattle.sqlite.specs.State.{HasCleanDisk};
@@ -8,7 +8,7 @@ ghost use Rattle.zeb_change.specs.Conditions.{conditions};
 ghost use Rattle.zeb_paths.specs.Walks.{telling};
 ghost use Rattle.zeb_register.specs.Formats.{version_of};
 ghost use Rattle.zeb_program.specs.Answers.{AnswersAsTold, Writes};
-ghost use Rattle.zeb_program.specs.Doing.{RunsText, ServesText, StopsLine, StopsText};
+ghost use Rattle.zeb_program.specs.Doing.{DoesLine, DoesShell, RunsText, ServesText, StopsLine, StopsText};
 ghost use Rattle.zeb_program.specs.Lines.{first_line, after_first_line};
 ghost use Rattle.zeb_program.specs.OverTables.{LineOver};
 ghost use Rattle.zeb_program.specs.PrivateShell.{AnswersNextLine, ComesTo, StopsAtLine};
@@ -60,8 +60,11 @@ pub fn serve_lines<R: Source, S: Alter, L: Layout, P: Paths, W: Output, V: Write
         (R.remaining input.new) (W.contents output.old.writer) (W.contents output.new.writer)
         session.old.connection session.new.connection)) }
     ensures silent { OnErr result (fault_output.new ≡ fault_output.old) }
-    ensures clean { HasCleanDisk (state S.Store session.new.connection)
-        → HasCleanDisk (state S.Store session.old.connection) }
+    ensures does { HasCleanDisk (state S.Store session.new.connection)
+        → HasCleanDisk (state S.Store session.old.connection) × DoesShell S.Store
+        (telling (P.tells paths.now) (P.stands paths.now) (P.lists paths.now)) L.format
+        (conditions (version_of L.format) session.old.profile session.old.limits)
+        (R.remaining input.old) session.old.connection session.new.connection }
     ensures failed_read { R.has_failed input.new ≡ true
         → IfOk result (λ status. status ≡ Status.Failed) }
     ensures whole { IfOk result (λ status. status ≢ Status.Failed
@@ -109,8 +112,12 @@ pub fn run_shell_lines<R: Source, S: Alter, L: Layout, P: Paths, W: Output>(
         (conditions (version_of L.format) session.old.profile session.old.limits) why text
         (R.remaining input.new) (W.contents output.old.writer) (W.contents output.new.writer)
         session.old.connection session.new.connection)) }
-    ensures clean { HasCleanDisk (state S.Store session.new.connection)
-        → HasCleanDisk (state S.Store session.old.connection) }
+    // Whatever is written, also where a write fails.
+    ensures does { HasCleanDisk (state S.Store session.new.connection)
+        → HasCleanDisk (state S.Store session.old.connection) × DoesShell S.Store
+        (telling (P.tells paths.now) (P.stands paths.now) (P.lists paths.now)) L.format
+        (conditions (version_of L.format) session.old.profile session.old.limits)
+        (R.remaining input.old) session.old.connection session.new.connection }
     ensures failed { result ≡ Err (Unreadable FailedRead) ↔ R.has_failed input.new ≡ true }
     // Only where a write failed a line may be left.
     ensures whole { IfOk result (λ status. ((status ≡ Status.Failed) × (output.new.failed ≡ true))
@@ -200,7 +207,12 @@ fn run_bytes<S: Alter, L: Layout, P: Paths, W: Write>(
         (P.lists paths.now)) L.format (conditions (version_of L.format) session.old.profile
         session.old.limits) number
         (first_line bytes.items) session.old.connection written status session.new.connection)) }
-    ensures stopped { OnErr result ((output.new ≡ output.old)
+    ensures does { MatchResult result
+        (λ _. HasCleanDisk (state S.Store session.new.connection) → after_first_line bytes.items ≡ []
+        → DoesLine S.Store (telling (P.tells paths.now) (P.stands paths.now) (P.lists paths.now))
+        L.format (conditions (version_of L.format) session.old.profile session.old.limits) number
+        (first_line bytes.items) session.old.connection session.new.connection)
+        (λ _. (output.new ≡ output.old)
         × (HasCleanDisk (state S.Store session.new.connection) → after_first_line bytes.items ≡ []
         → StopsLine S.Store (telling (P.tells paths.now) (P.stands paths.now) (P.lists paths.now))
         L.format (conditions (version_of L.format) session.old.profile session.old.limits)

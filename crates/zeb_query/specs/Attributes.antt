@@ -37,6 +37,8 @@ value_held kind [] = None
 value_held kind (attribute ∷ attributes) =
     or_else (value_held kind attributes) (if attribute.kind == kind then Some attribute.value else None)
 
+-- the term type and the attributes that hold over a term, the leftmost attribute set that isn't Bib-1, and the
+-- leftmost attribute type outside 1 to 6
 pub record HoldingValue : Type 0 where
   pub other_set : Option (List ℕ)
   pub other_kind : Option ℕ
@@ -169,7 +171,7 @@ is_list (Entries index s) = elim s [ Phrase ↦ false | WordList ↦ true | Free
 -- What is compared for a term: its register, and its words, by the values that hold over it. Which register is searched, and where a
 -- truncation puts its stars, are this project's own rules.
 
--- the register that is searched: numbers, whole texts, or words
+-- the register that is searched: numbers for structure 109, else phrases for completeness 2 and 3, else words
 abbrev pub register_of : Values → Register
 register_of v =
     if is_numeric v.subject then register.Number else (
@@ -185,7 +187,7 @@ compares_words Record asked = false
 abbrev pub spread_of : Subject → Spread
 spread_of subject = if is_list subject then Each else Ends
 
--- the patterns of the words that are compared
+-- the patterns of the term's words, by its truncation and structure, where words are compared, and else none
 abbrev pub patterns_asked : Values → List ℕ → List (List Symbol)
 patterns_asked v text =
     if compares_words v.subject v.relation then patterns_of v.truncation (spread_of v.subject) (chars text) else []

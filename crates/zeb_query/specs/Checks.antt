@@ -29,7 +29,8 @@ abbrev pub Fails : {Y : Type 0} → QueryFault → Result Y Refusal → Type 0
 Fails Memory expected = Unit {0}
 Fails (Diagnostic n p a) expected = expected ≡ Err (record { number = n; place = p; addinfo = string_bytes a })
 
--- what a call returned, seen by `view`, is what the definition says, unless memory ran out
+-- a call returned what a definition says, its diagnostic with number, place and additional information, or want of
+-- memory
 abbrev pub Gives : {X Y : Type 0} → (X → Y) → Result X QueryFault → Result Y Refusal → Type 0
 Gives view (Ok x) expected = expected ≡ Ok (view x)
 Gives view (Err e) expected = Fails e expected
@@ -39,6 +40,7 @@ abbrev pub answered : {A : Type 0} → Option Refusal → A → Result A Refusal
 answered None x = Ok x
 answered (Some refusal) x = Err refusal
 
+-- a diagnostic with its number, place and additional information, in place of a value
 abbrev pub refused : {A : Type 0} → ℕ → ℕ → List ℕ → Result A Refusal
 refused number place addinfo = Err (record { number = number; place = place; addinfo = addinfo })
 
@@ -53,41 +55,43 @@ abbrev pub check : ℕ → ℕ → List ℕ → Bool → Check
 check place number addinfo applies =
     record { applies = applies; refusal = record { number = number; place = place; addinfo = addinfo } }
 
--- the diagnostic of the first check that applies
+-- the diagnostic of the first check in a list that applies
 abbrev pub first_that_applies : List Check → Option Refusal
 first_that_applies [] = None
 first_that_applies (c ∷ checks) = if c.applies then Some c.refusal else first_that_applies checks
 
--- the diagnostic of the first check that applies, or the value where none does
+-- the diagnostic of the first of these checks that applies, or this value where none does
 abbrev pub checked_by : {A : Type 0} → List Check → A → Result A Refusal
 checked_by checks x = answered (first_that_applies checks) x
 
 -- ---- the checks of a term
 
--- a value as written
+-- a value as written, or an empty text where none is
 abbrev pub written : Option (List ℕ) → List ℕ
 written text = unwrap_or text []
 
--- a term type is named that isn't kept
+-- the check of the term's type: one is named that is neither `general` nor `string`
 abbrev pub type_check : ℕ → Option (List ℕ) → Check
 type_check place type =
     check place 229 (written type) (option_map_or (λ text. not (bytes_eq text (codes "general") || bytes_eq text (codes "string"))) type false)
 
--- the leftmost set and the leftmost type that Bib-1 hasn't got
+-- the check of attribute sets: the leftmost that isn't Bib-1 is told, as by `kind_check` the leftmost attribute type
+-- outside 1 to 6
 abbrev pub set_check : ℕ → Option (List ℕ) → Check
 set_check place set = check place 121 (written set) (is_some set)
 
 abbrev pub kind_check : ℕ → Option ℕ → Check
 kind_check place kind = check place 113 (option_map_or decimal kind []) (is_some kind)
 
--- the use attribute, as written or none; a local number has no index
+-- the checks of the use attribute: one is written that names no index of the profile, or none is and the profile has
+-- no index for the default, 1016; a local number needs none
 abbrev pub use_checks : Profile → ℕ → Bool → Option (List ℕ) → List Check
 use_checks profile place local text =
     check place 114 (written text) (not local && (is_some text && is_none (index_used profile text)))
     ∷ check place 116 [] (not local && (is_none text && is_none (index_used profile text)))
     ∷ []
 
--- the term's type, the sets and types of the attributes over it, and the values of the six attribute types
+-- the checks of the term's type, of the sets and types of the attributes over it, and of the values of the six attribute types
 abbrev pub attribute_checks : Profile → ℕ → HoldingValue → List Check
 attribute_checks profile place h =
     type_check place h.term_type
@@ -105,7 +109,7 @@ attribute_checks profile place h =
 abbrev pub is_limited : Values → Bool
 is_limited v = is_first v.position || (is_truncated v.truncation || is_complete v.completeness)
 
--- values that aren't taken together with what the term names; the last ones with words without an order
+-- whether values aren't taken together with what the term asks for: a record, numbers, a phrase, or words without an order
 abbrev pub clashes_with : Subject → Values → Bool
 clashes_with Record v = is_limited v || not (is_equal v.relation)
 clashes_with (Entries index Numeric) v = is_limited v
@@ -113,7 +117,7 @@ clashes_with (Entries index Phrase) v = false
 clashes_with (Entries index WordList) v = is_first v.position || (is_complete v.completeness || is_ordered v.relation)
 clashes_with (Entries index FreeForm) v = is_first v.position || (is_complete v.completeness || is_ordered v.relation)
 
--- values that a scan, or a word near another, doesn't take, though a find may
+-- whether a scan, or a word near another, doesn't take the values, though a find may
 abbrev pub is_beyond : Purpose → Values → Bool
 is_beyond Find v = false
 is_beyond Scan v = not (is_equal v.relation) || (is_first v.position || (is_truncated v.truncation || is_list v.subject))
@@ -125,45 +129,47 @@ abbrev pub clashes : Purpose → Values → Bool
 clashes purpose v =
     clashes_with v.subject v || ((is_ordered v.relation && (is_first v.position || is_truncated v.truncation)) || is_beyond purpose v)
 
--- an index without the register
+-- no line of the profile has the term's index with the searched register as a target; a local number needs none
 abbrev pub lacks_register : Profile → Register → Subject → Bool
 lacks_register profile r Record = false
 lacks_register profile r (Entries index structure) = not (has_pair profile (index, r))
 
--- the number of words that are compared
+-- the check that at most 64 words are compared
 abbrev pub words_check : ℕ → Values → List ℕ → Check
 words_check place v text = check place 5 [] (nat_lt 64 (length (patterns_asked v text)))
 
--- values that aren't taken together, or an index without the searched register
+-- the check of values that aren't taken together, and of an index without the searched register
 abbrev pub clash_check : Purpose → Profile → ℕ → Values → Check
 clash_check purpose profile place v = check place 123 [] (clashes purpose v || lacks_register profile (register_of v) v.subject)
 
--- a term for the purpose
+-- the checks of a term for a purpose, in their order: of its attributes, of how many words are compared, and of values
+-- that aren't taken together; those of numbers aren't among them
 abbrev pub term_checks : Purpose → Profile → ℕ → HoldingValue → List ℕ → List Check
 term_checks purpose profile place h text =
     let v : Values = values_held profile h in
     attribute_checks profile place h ++ words_check place v text ∷ clash_check purpose profile place v ∷ []
 
--- a term that has to be a number of at most so many digits
+-- the check of a term that has to be a number of at most so many digits
 abbrev pub number_check : ℕ → ℕ → List ℕ → Check
 number_check most place text = check place 126 text (not (is_number most text))
 
--- a local number, and a number that is compared
+-- the check that a local number has at most 9 digits, or a number that is compared at most 18; none of another term
 abbrev pub number_checks : ℕ → List ℕ → Subject → Asked → List Check
 number_checks place text Record relation = number_check few place text ∷ []
 number_checks place text (Entries index structure) (Compared relation) = if asks_number structure then number_check many place text ∷ [] else []
 number_checks place text (Entries index structure) Always = []
 
--- a local number has no index
+-- the check that the term is no local number, which has no index
 abbrev pub index_check : ℕ → Subject → Check
 index_check place subject = check place 123 [] (is_local subject)
 
--- the checks of a term in a find, and in a scan, whose relation is equality
+-- the checks of a term in a find
 abbrev pub find_checks : Profile → ℕ → HoldingValue → List ℕ → List Check
 find_checks profile place h text =
     let v : Values = values_held profile h in
     term_checks Find profile place h text ++ number_checks place text v.subject v.relation
 
+-- the checks of a term in a scan, whose relation is equality
 abbrev pub scan_checks : Profile → ℕ → HoldingValue → List ℕ → List Check
 scan_checks profile place h text =
     let v : Values = values_held profile h in
@@ -171,17 +177,17 @@ scan_checks profile place h text =
 
 -- ---- proximity: the parameters
 
--- whether the left word has to stand before the right one
+-- the values of the parameter ordered: whether the left word has to stand before the right one
 abbrev pub orderings : List (List ℕ × Bool)
 orderings = (codes "0", false) ∷ (codes "1", true) ∷ []
 
--- how the number of words from the one to the other stands to the distance
+-- the values of the parameter relation: how the number of words from the one to the other stands to the distance
 abbrev pub distance_relations : List (List ℕ × DistanceRelation)
 distance_relations =
     (codes "1", Less) ∷ (codes "2", LessOrEqual) ∷ (codes "3", Equal) ∷ (codes "4", GreaterOrEqual) ∷ (codes "5", Greater)
     ∷ (codes "6", NotEqual) ∷ []
 
--- the first parameter that isn't kept is told
+-- the checks of the parameters of `@prox`, from left to right: the first that isn't kept is told
 abbrev pub parameter_checks : ℕ → ParametersValue → List Check
 parameter_checks place p =
     check place 110 p.exclusion (not (bytes_eq p.exclusion (codes "0")))
@@ -192,7 +198,7 @@ parameter_checks place p =
     ∷ check place 110 p.unit_code (not (bytes_eq p.unit_code (codes "2")))
     ∷ []
 
--- what parameters ask for that are kept
+-- what kept parameters of `@prox` ask for
 abbrev pub separation_of : ParametersValue → Separation
 separation_of p = record {
   distance = digits_value 10 p.distance;
@@ -208,7 +214,7 @@ pub record Operand : Type 0 where
   pub held : HoldingValue
   pub text : List ℕ
 
--- the term that a structure is, over which the set is named and the head stands
+-- a structure as an operand, if it is a term: with what holds over it, by the set that the query names and what stands in front of it
 abbrev pub operand_of : Option (List ℕ) → HeadValue → TreeValue → Option Operand
 operand_of set outer (TermValue place head text) = Some (record { place = place; held = holding_of set (heads outer head); text = text })
 operand_of set outer (NamedValue place head name) = None
@@ -219,6 +225,7 @@ abbrev pub one_of : {A : Type 0} → List A → Option A
 one_of (x ∷ []) = Some x
 one_of other = None
 
+-- the checks of a term near another term, last that it is no local number and has just one word
 abbrev pub operand_checks : Profile → Operand → List Check
 operand_checks profile o =
     let v : Values = values_held profile o.held in
@@ -228,6 +235,7 @@ operand_checks profile o =
 abbrev pub index_near : Profile → Operand → ℕ
 index_near profile o = index_in (values_held profile o.held).subject
 
+-- the check that the operands of `@prox` are terms, their checks, and the check that their indexes are one
 abbrev pub operands_checks : Profile → ℕ → Option Operand → Option Operand → List Check
 operands_checks profile place (Some left) (Some right) =
     operand_checks profile left
@@ -240,7 +248,9 @@ proximity_checks profile place parameters left right = parameter_checks place pa
 
 -- ---- a whole query
 
--- the checks of a structure, over which the set is named and the head stands
+-- the checks of a structure, for the set that the query names and what stands in front, in the order of its text:
+-- those of the parameters of `@prox` before those of its operands, and behind these that their indexes are one; a
+-- named result set is refused
 abbrev pub checks_in : Profile → Option (List ℕ) → HeadValue → TreeValue → List Check
 checks_in profile set outer (TermValue place head text) = find_checks profile place (holding_of set (heads outer head)) text
 checks_in profile set outer (NamedValue place head name) = check place 18 name true ∷ []
@@ -257,6 +267,7 @@ operator_named (BooleanOf on_sets.Or) = Or
 operator_named (BooleanOf on_sets.Not) = Not
 operator_named (ProximityOf parameters) = Proximity
 
+-- the checks of a scan: those of its term; an operator or a named result set in place of one is refused
 abbrev pub scan_checks_in : Profile → Option (List ℕ) → TreeValue → List Check
 scan_checks_in profile set (TermValue place head text) = scan_checks profile place (holding_of set (heads no_head head)) text
 scan_checks_in profile set (NamedValue place head name) = check place 18 name true ∷ []

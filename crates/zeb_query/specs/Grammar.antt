@@ -59,6 +59,7 @@ pub data TreeValue : Type 0 where
   NamedValue : ℕ → HeadValue → List ℕ → TreeValue
   PairValue : ℕ → HeadValue → ConnectiveValue → TreeValue → TreeValue → TreeValue
 
+-- a query as a value: the attribute set that it names, and its tree
 pub record QueryValue : Type 0 where
   pub attrset : Option (List ℕ)
   pub tree : TreeValue
@@ -89,6 +90,7 @@ tree_value (Named leaf) = NamedValue leaf.place (head_value leaf.head) (string_b
 tree_value (Pair' place head connective p left q right) =
     PairValue place (head_value head) (connective_value connective) (tree_value left) (tree_value right)
 
+-- what a query in memory is as a value
 abbrev pub query_value : Query → QueryValue
 query_value query = record { attrset = option_map string_bytes query.attrset; tree = tree_value query.tree }
 
@@ -133,7 +135,7 @@ keyword_spelled text = kept_text (
     (codes "@attrset", AttributeSet) ∷ (codes "@attr", Attribute) ∷ (codes "@term", TermType) ∷ (codes "@set", ResultSet)
     ∷ map (λ word. (operator_word word, Operator word)) (And ∷ Or ∷ Not ∷ Proximity ∷ [])) text
 
--- the keyword that a word is
+-- the keyword that a word is, if it is one of the eight, unquoted and in lower case
 abbrev pub keyword_of : Word → Option Keyword
 keyword_of word = elim word.spelling [ Plain ↦ keyword_spelled word.text | Quoted ↦ None | Bad ↦ None ]
 
@@ -160,12 +162,14 @@ abbrev pub if_any : ℕ → List ℕ → Option (ℕ × List ℕ)
 if_any kind [] = None
 if_any kind (b ∷ bs) = Some (kind, b ∷ bs)
 
+-- the type and the value of a text `TYPE=VALUE`, if its type is 1 to 9 digits and its value isn't empty
 unfoldable pub kind_and_value : List ℕ → Option (ℕ × List ℕ)
 kind_and_value text =
     if nat_lt (position_or_len is_equals_sign text) (length text)
     then option_and_then (λ kind. if_any kind (after_first is_equals_sign text)) (number_of few (before_first is_equals_sign text))
     else None
 
+-- nothing stands right before a node: neither an attribute nor a term type
 abbrev pub no_head : HeadValue
 no_head = record { attributes = []; term_type = None }
 
@@ -177,7 +181,7 @@ or_else None other = other
 abbrev pub heads : HeadValue → HeadValue → HeadValue
 heads outer inner = record { attributes = outer.attributes ++ inner.attributes; term_type = or_else inner.term_type outer.term_type }
 
--- a structure with more in front
+-- a structure with more attributes, or a term type, in front of it
 abbrev pub under : HeadValue → TreeValue → TreeValue
 under head (TermValue place inner text) = TermValue place (heads head inner) text
 under head (NamedValue place inner name) = NamedValue place (heads head inner) name
@@ -242,7 +246,7 @@ pub data IsQuery : List Word → QueryValue → Type 0 where
 
 -- ---- texts
 
--- the text's words are words of the query
+-- the words of the text spell the query
 pub record SpellsQuery (text : List ℕ) (query : QueryValue) : Type 0 where
   pub words : List Word
   pub are_words : AreWords (chars text) words

@@ -12,7 +12,7 @@ use Rattle.zeb_query.specs.Grammar.{IsQuery, NamedValue, PairValue, QueryValue, 
 
 -- ---- beginnings of queries
 
--- the places of the operators, in the order of the text
+-- the places of a query's operators, in the order of the text
 abbrev pub operators : TreeValue → List ℕ
 operators (PairValue place head connective left right) = place ∷ (operators left ++ operators right)
 operators (TermValue place head text) = []
@@ -32,7 +32,7 @@ IsBeginningWithin room words = (more : List Word) × IsQueryWithin room (words +
 
 -- ---- places of faults
 
--- the place of the first word that no query has after the words before it, for which there is room
+-- the place of the first word that no query has behind the words before it; some query within the limit on operators begins with these
 pub record IsStrange (room : ℕ) (words : List Word) (place : ℕ) : Type 0 where
   pub front : List Word
   pub word : Word
@@ -42,18 +42,20 @@ pub record IsStrange (room : ℕ) (words : List Word) (place : ℕ) : Type 0 whe
   pub begins : IsBeginningWithin room front
   pub strange : ¬ IsBeginning (front ++ word ∷ [])
 
--- the end, where all words together, for which there is room, are the beginning of a query and no query
+-- the text's end, where some query within the limit on operators begins with all its words, and they are no query themselves
 pub record IsUnfinished (end room : ℕ) (words : List Word) (place : ℕ) : Type 0 where
   pub place_is : place ≡ end
   pub begins : IsBeginningWithin room words
   pub unfinished : (query : QueryValue) → ¬ IsQuery words query
 
--- the place of 108
+-- the place of diagnostic 108: that of a word with which no query goes on (`IsStrange`), or the end of a text that is
+-- only the beginning of a query (`IsUnfinished`)
 abbrev pub IsUnspelled : ℕ → ℕ → List Word → ℕ → Type 0
 IsUnspelled end room words place = IsStrange room words place ⊎ IsUnfinished end room words place
 
--- the place of 6: that of the first operator for which there is no room, which is the one after so many operators in each
--- query that begins so, and some query does
+-- the place of diagnostic 6, that of an operator: some query within the limit on operators begins with the words
+-- before it, some query begins with these and the operator, and in each that does just as many operators stand before
+-- this one as the limit allows
 pub record IsCrowded (room : ℕ) (words : List Word) (place : ℕ) : Type 0 where
   pub front : List Word
   pub word : Word
@@ -74,7 +76,8 @@ pub record IsReadable (text : List ℕ) : Type 0 where
   pub spelled : SpellsQuery text query
   pub room : length (operators query.tree) ≤ 100
 
--- the number and the place of the text's fault
+-- the text has this diagnostic at this place: 11, at 0, where it has more than 65,535 bytes; else 108 (`IsUnspelled`)
+-- or 6 (`IsCrowded`), where at most 100 operators are allowed
 pub data IsFaulty (text : List ℕ) : ℕ → ℕ → Type 0 where
   is_long : 65535 < length text → IsFaulty text 11 0
   is_unspelled : (words : List Word) (place : ℕ) → length text ≤ 65535 → AreWords (chars text) words

@@ -30,6 +30,7 @@ pub data TermPlanValue : Type 0 where
   AllWordsOf : ℕ → List (List Symbol) → TermPlanValue
   AnyWordOf : ℕ → List (List Symbol) → TermPlanValue
 
+-- what a query asks for, as a value: without where texts and lists lie in memory
 pub data PlanValue : Type 0 where
   TermOf : TermPlanValue → PlanValue
   PairOf : Operator → PlanValue → PlanValue → PlanValue
@@ -46,6 +47,7 @@ term_plan_value (term.Phrase index patterns first) = PhraseOf index patterns.ite
 term_plan_value (term.AllWords index patterns) = AllWordsOf index patterns.items
 term_plan_value (term.AnyWord index patterns) = AnyWordOf index patterns.items
 
+-- what a plan asks for, as a value
 abbrev pub plan_value : Plan → PlanValue
 plan_value (Term plan) = TermOf (term_plan_value plan)
 plan_value (Pair' p op left right) = PairOf op (plan_value left) (plan_value right)
@@ -53,12 +55,12 @@ plan_value (Near plan) = NearOf plan.index plan.left plan.right plan.separation
 
 -- ---- terms, by the values that hold over them, where none of their checks applies
 
--- without words no record is asked for
+-- what is asked for, where there is a word; without one, what no record has (`NoWordsOf`)
 abbrev pub asked_with : {A : Type 0} → (words : List A) → ℕ → Register → TermPlanValue → TermPlanValue
 asked_with [] index register asked = NoWordsOf index register
 asked_with (word ∷ words) index register asked = asked
 
--- words that are compared by equality
+-- what words ask for that are compared by equality
 abbrev pub words_asked : ℕ → Structure → Position → Completeness → List (List Symbol) → TermPlanValue
 words_asked index structure position Complete patterns = CompleteOf index (joined_patterns patterns)
 words_asked index WordList position Incomplete patterns = AllWordsOf index patterns
@@ -85,6 +87,7 @@ abbrev pub subject_asked : Values → List ℕ → List (List Symbol) → Subjec
 subject_asked v text patterns Record = RecordNumberOf (digits_value 10 text)
 subject_asked v text patterns (Entries index structure) = entries_asked v index structure text patterns v.relation
 
+-- what a term asks for, by the values of its attributes, where none of its checks applies
 unfoldable pub plan_asked : Profile → HoldingValue → List ℕ → TermPlanValue
 plan_asked profile h text = let v : Values = values_held profile h in subject_asked v text (patterns_asked v text) v.subject
 
@@ -94,11 +97,12 @@ plan_asked profile h text = let v : Values = values_held profile h in subject_as
 abbrev pub operand_pattern : Profile → Operand → List Symbol
 operand_pattern profile o = unwrap_or (one_of (patterns_asked (values_held profile o.held) o.text)) []
 
--- for a structure that has a check which always applies, so that nothing is asked for
+-- what stands for a plan where there is none: one of the structure's checks always applies
 abbrev pub no_plan : PlanValue
 no_plan = TermOf (NoWordsOf 0 register.Word)
 
--- what `@prox` with these parameters asks for, where none of its checks applies
+-- what `@prox` asks for, where none of its checks applies: the one index, the patterns of the two words, and how they
+-- are separated
 abbrev pub near_asked : Profile → ParametersValue → Option Operand → Option Operand → PlanValue
 near_asked profile parameters (Some left) (Some right) =
     NearOf (index_near profile left) (operand_pattern profile left) (operand_pattern profile right) (separation_of parameters)
@@ -115,7 +119,7 @@ tree_asked profile set outer (PairValue place head (BooleanOf operator) left rig
 tree_asked profile set outer (PairValue place head (ProximityOf parameters) left right) =
     near_asked profile parameters (operand_of set (heads outer head) left) (operand_of set (heads outer head) right)
 
--- the first diagnostic of the query's checks, or what the query asks for
+-- the first diagnostic of the query's checks, or what it asks for where none applies
 abbrev pub plan_of : Profile → QueryValue → Result PlanValue Refusal
 plan_of profile query = checked_by (checks_in profile query.attrset no_head query.tree) (tree_asked profile query.attrset no_head query.tree)
 
@@ -133,6 +137,7 @@ HasSmallNumber (PhraseOf index patterns first) = Unit {0}
 HasSmallNumber (AllWordsOf index patterns) = Unit {0}
 HasSmallNumber (AnyWordOf index patterns) = Unit {0}
 
+-- the system numbers and the distances in a plan are below 10^9, and the numbers that it compares with below 10^18
 abbrev pub HasSmallNumbers : PlanValue → Type 0
 HasSmallNumbers (TermOf plan) = HasSmallNumber plan
 HasSmallNumbers (PairOf op left right) = HasSmallNumbers left × HasSmallNumbers right
@@ -148,6 +153,7 @@ pub record ScanValue : Type 0 where
   pub register : Register
   pub start : List ℕ
 
+-- where a scan begins, as a value: the index, the register and the text
 abbrev pub scan_value : ScanPlan → ScanValue
 scan_value plan = record { index = plan.index; register = plan.register; start = string_bytes plan.start }
 
@@ -155,12 +161,13 @@ scan_value plan = record { index = plan.index; register = plan.register; start =
 abbrev pub start_asked : Subject → List ℕ → List ℕ
 start_asked subject text = if is_numeric subject then number_key (digits_value 10 text) else joined_words text
 
+-- where a scan begins, by the values of its term's attributes, where none of its checks applies
 unfoldable pub scan_asked : Profile → HoldingValue → List ℕ → ScanValue
 scan_asked profile h text =
     let v : Values = values_held profile h in
     record { index = index_in v.subject; register = register_of v; start = start_asked v.subject text }
 
--- for a structure that has a check which always applies, so that no scan begins
+-- what stands for a scan's beginning where there is none: one of the structure's checks always applies
 abbrev pub no_scan : ScanValue
 no_scan = record { index = 0; register = register.Word; start = [] }
 

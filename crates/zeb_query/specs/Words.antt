@@ -7,7 +7,7 @@ use Rattle.zeb_query.specs.Cited.{AllPass, Spelling, Bad, Plain, Quoted}
 use Rattle.std.specs.Prelude.{Bool, List, [], encode_utf8_all, length, map, not, true, ℕ, ⊤, ◌++◌, ◌==◌, ◌∷◌, ◌≡◌, ◌≢◌, ◌⊎◌, ◌||◌, flat_map}
 use Rattle.std.specs.Str.{NonePass}
 
--- a word of a text, with its place
+-- a word of a text: its place, whether it is plain, quoted or bad, and its text
 pub record Word : Type 0 where
   pub place : ℕ
   pub spelling : Spelling
@@ -74,7 +74,8 @@ pub record IsStretch (before : List ℕ) (stretch : Stretch) (after : List ℕ) 
   pub place : stretch.word.place ≡ length (encode_utf8_all (before ++ stretch.blanks))
   pub is_written : IsWritten stretch.written after stretch.word.spelling stretch.word.text
 
--- the words of a text, which is stretches and then blanks, or none
+-- the text is blanks, or none, and words in turn, and blanks, or none, at the end; each word is written as it must be
+-- before what follows it, and its place is the number of bytes of UTF-8 before it
 pub record AreWords (text : List ℕ) (words : List Word) : Type 0 where
   pub stretches : List Stretch
   pub blanks : List ℕ

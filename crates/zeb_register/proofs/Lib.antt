@@ -41,7 +41,9 @@ pub mod PackedLists
 pub mod LeafReadings
 pub mod LeafSums
 pub mod LeafContents
+pub mod EachUnit
 pub mod SameLeaves
+pub mod OtherLeaves
 pub mod TakenLeaves
 pub mod LeafTerms
 pub mod KeyOrder

@@ -34,7 +34,7 @@ IsLeastFrom P start (Some id) = P id × (start ≤ℤ id) × ((other : ℤ) → 
 abbrev pub HoldsUnder : ℕ → ℤ → List Row → Trees → Type 0
 HoldsUnder tree id rests trees = (row : Row) → IsRest tree (Int id ∷ []) trees row ↔ Has rests row
 
--- no row stands in the tables of single postings and of counts
+-- no row stands in the tables of single postings and of terms with their numbers of records
 abbrev pub LacksPostingsAndDict : Trees → Type 0
 LacksPostingsAndDict trees = (trees postings_tree ≡ []) × (trees dict_tree ≡ [])
 
@@ -73,7 +73,7 @@ HasRecords id database = HoldsUnder records_tree id (map record_shown database.r
 abbrev pub RecordsAgree : List ExpectedDatabase → Trees → Type 0
 RecordsAgree = HoldsThere records_tree HasRecords
 
--- texts, databases and records are as expected
+-- texts, databases and records are just the expected ones, under whatever ids the databases are
 pub record ListsAgree (trees : Trees) (expected : Expected) : Type 0 where
   pub texts : KeepsExpectedTexts trees expected
   pub names : HasNames trees expected.databases.items

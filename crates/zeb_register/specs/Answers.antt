@@ -7,6 +7,7 @@ use Rattle.zeb_register.specs.declared.faults.RegFault.TheVariants.{Damaged, Sto
 use Rattle.zeb_register.specs.Calls.{MayRefuse}
 use Rattle.zeb_register.specs.Clauses.{OnStore}
 
+-- what is said of an accepted call's value, or of a refused one's refusal
 abbrev pub Answers : {A : Type 0} → (RegFault → Type 0) → (A → Type 0) → Result A RegFault → Type 0
 Answers Refused Done (Ok x) = Done x
 Answers Refused Done (Err fault) = Refused fault

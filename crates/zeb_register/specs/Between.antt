@@ -17,7 +17,7 @@ IsBetween first last text = (is_lt (slice_cmp nat_cmp text first) ≡ false) × 
 abbrev pub term_list : Content → RegisterOf → List ℕ → List Posting
 term_list content at term = content at.db.0 (key_in at.index at.register term)
 
--- it is a posting of one of the terms between the two
+-- a posting that the content has under one of the terms of the register from the first text to the last
 abbrev pub IsPostingBetween : Content → RegisterOf → (first last : List ℕ) → Posting → Type 0
 IsPostingBetween content at first last p = (term : List ℕ) × IsBetween first last term × Has (term_list content at term) p
 

@@ -28,15 +28,15 @@ MayRefuse old new = (old.is_open ≡ false) ⊎ (MoreFaults old.faults new.fault
 
 -- ---- what is said of every call. What a call returns is known where the disk has given back what was written to it.
 
--- a call inside a transaction: where it is accepted this is done, where it is refused nothing was committed, and a crash leaves what it
--- left before
+-- on a clean disk a call inside a transaction does what is said where it is accepted, and commits nothing where it is refused; a crash leaves what
+-- it left before
 pub record Inside {A E : Type 0} (old new : State) (result : Result A E) (Done : A → State → State → Type 0) : Type 0 where
   pub ok : HasCleanDisk new → IsTrue old.in_transaction → IfOk result (λ a. Done a old new)
   pub err : HasCleanDisk new → IsTrue old.in_transaction → OnErr result (KeepsCommit old new)
   pub crash : Survives old new (λ _. ⊥)
 
--- a call that reads: where it is accepted this is shown, outside a transaction nothing is changed whatever it answers, and a crash
--- leaves what it left before
+-- on a clean disk a call that reads shows what is said where it is accepted, and outside a transaction changes nothing, whatever it answers; a
+-- crash leaves what it left before
 pub record Reading {A E : Type 0} (old new : State) (result : Result A E) (Shown : A → State → State → Type 0) : Type 0 where
   pub idle : old.in_transaction ≡ false → new.in_transaction ≡ false
   pub ok : HasCleanDisk new → IfOk result (λ a. Shown a old new)

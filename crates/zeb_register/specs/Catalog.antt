@@ -36,7 +36,7 @@ IsListed list id name last =
 abbrev pub listed_order : ListedDatabase → ListedDatabase → Ordering
 listed_order a b = slice_cmp nat_cmp (string_bytes a.name) (string_bytes b.name)
 
--- these are the databases that are there, and names rise
+-- these are all databases that are there, with their ids, names and last numbers, by rising names
 pub record AreDatabases (trees : Trees) (list : List ListedDatabase) : Type 0 where
   pub each : (id : ℤ) (name : List ℕ) (last : ℤ) → HasDatabase trees id name last ↔ IsListed list id name last
   pub rising : IsStrictlySortedBy listed_order list

@@ -15,10 +15,11 @@ use Rattle.zeb_register.specs.Faults.{fault_of}
 use Rattle.zeb_register.specs.Sql.{KeepsTables}
 use Rattle.zeb_register.specs.Store.{IsStore, Changes, KeepsLists}
 
--- this is said of the tables as they were before the call
+-- on a clean disk this is said of a store's tables as they were before a call
 abbrev pub OnStore : State → State → (Trees → Type 0) → Type 0
 OnStore old new Said = HasCleanDisk new → IsStore old → Said old.now.trees
 
+-- on a clean disk this is said of a store's tables as they were before a call inside a transaction
 abbrev pub InStore : State → State → (Trees → Type 0) → Type 0
 InStore old new Said = HasCleanDisk new → IsTrue old.in_transaction → IsStore old → Said old.now.trees
 
@@ -30,10 +31,11 @@ Writes tree Rows old new result = Inside old new result (λ _. Alters tree Rows)
 
 -- ---- what an accepted call tells
 
--- the answer tells this of the tables
+-- the answer of an accepted call tells this of a store's tables
 abbrev pub Tells : {A E : Type 0} → State → State → Result A E → (Trees → A → Type 0) → Type 0
 Tells old new result Told = OnStore old new (λ trees. IfOk result (Told trees))
 
+-- the answer of an accepted call inside a transaction tells this of a store's tables
 abbrev pub TellsInside : {A E : Type 0} → State → State → Result A E → (Trees → A → Type 0) → Type 0
 TellsInside old new result Told = InStore old new (λ trees. IfOk result (Told trees))
 
@@ -51,6 +53,7 @@ ChangesTable tree old new result Rows = InStore old new (λ _. IfOk result (λ a
 abbrev pub IsHonest : {A : Type 0} → State → State → Result A RegFault → (Trees → Type 0) → Type 0
 IsHonest old new result Sound = OnStore old new (λ trees. result ≡ Err Damaged → ¬ Sound trees)
 
+-- a call inside a transaction answers Damaged only where the tables are not so
 abbrev pub IsHonestInside : {A : Type 0} → State → State → Result A RegFault → (Trees → Type 0) → Type 0
 IsHonestInside old new result Sound = InStore old new (λ trees. result ≡ Err Damaged → ¬ Sound trees)
 
@@ -58,24 +61,26 @@ IsHonestInside old new result Sound = InStore old new (λ trees. result ≡ Err 
 abbrev pub IsOpenDamage : {A : Type 0} → State → State → Result A RegFault → Type 0
 IsOpenDamage old new result = HasCleanDisk new → result ≡ Err Damaged → IsTrue old.is_open
 
+-- a call inside a transaction answers Damaged only on a connection that was open
 abbrev pub IsOpenDamageInside : {A : Type 0} → State → State → Result A RegFault → Type 0
 IsOpenDamageInside old new result = HasCleanDisk new → IsTrue old.in_transaction → result ≡ Err Damaged → IsTrue old.is_open
 
--- on the tables of a store a failure of it has a reason
+-- Store is answered on a store's tables only where the store may refuse
 abbrev pub IsReasoned : {A : Type 0} → State → State → Result A RegFault → Type 0
 IsReasoned old new result = HasCleanDisk new → IsStore old → result ≡ Err Store → MayRefuse old new
 
+-- a call inside a transaction answers Store on a store's tables only where the store may refuse
 abbrev pub IsReasonedInside : {A : Type 0} → State → State → Result A RegFault → Type 0
 IsReasonedInside old new result = InStore old new (λ _. result ≡ Err Store → MayRefuse old new)
 
--- the same of a statement, whose error is told as that refusal
+-- inside a transaction a statement on a store's tables fails with an error that is told as Store only where the store may refuse
 abbrev pub IsReasonedErrorInside : {A : Type 0} → State → State → Result A Error → Type 0
 IsReasonedErrorInside old new result = InStore old new (λ _. IfErr result (λ e. fault_of e ≡ Store → MayRefuse old new))
 
 -- ---- calls on tables that hold a content in some format
 
 module _ (Holds : Trees → Content → Type 0) where
-  -- the answer tells this of the content
+  -- the answer of an accepted call tells this of each content that the tables hold
   abbrev pub TellsHeld : {A E : Type 0} → State → State → Result A E → (Content → A → Type 0) → Type 0
   TellsHeld old new result Told = Tells old new result (λ trees answer. (content : Content) → Holds trees content → Told content answer)
 

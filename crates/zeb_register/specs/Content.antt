@@ -16,17 +16,19 @@ use Rattle.zeb_register.specs.declared.registers.RecordChange.{RecordChange}
 use Rattle.zeb_register.specs.Sql.{Loses}
 use Rattle.zeb_register.specs.Store.{IsStore, meta_tree, databases_tree, records_tree, TakesDatabase, IsRecordIn, IsPostingIn, postings_tree, blocks_tree, dict_tree}
 
+-- for each database's id and each key a list of postings; tables hold only one whose lists rise by system number, then by place
 abbrev pub Content : Type 0
 Content = ℤ → Key → List Posting
 
+-- places by the number of the unit, then by that of the word in it
 abbrev pub place_cmp : Place → Place → Ordering
 place_cmp p q = ordering_then (nat_cmp p.seq q.seq) (nat_cmp p.pos q.pos)
 
--- each list rises
+-- each list of a content rises
 abbrev pub HasRisingLists : Content → Type 0
 HasRisingLists content = (db : ℤ) (key : Key) → IsStrictlySortedBy posting_cmp (content db key)
 
--- the postings of a database as a set of occurrences: the record of this number has the key at this place
+-- a database's postings as a set of occurrences: the record of a number has an occurrence where it is posted
 abbrev pub posted : Content → ℤ → ℕ → Occurrence → Type 0
 posted content db n o = Has (content db o.key) (record { sysno = n; seq = o.seq; pos = o.pos })
 
@@ -48,6 +50,7 @@ pub record IsStorablePosting (key : Key) (p : Posting) : Type 0 where
   pub seq : 1 ≤ p.seq
   pub pos : 1 ≤ p.pos
 
+-- the term of each posting's key is UTF-8, its system number is one of 1 to 999,999,999, and both numbers of its place are 1 or more
 abbrev pub IsStorable : Content → Type 0
 IsStorable content = (db : ℤ) (key : Key) (p : Posting) → Has (content db key) p → IsStorablePosting key p
 
@@ -83,7 +86,7 @@ AreListChanges (change ∷ changes) old new =
 abbrev pub OldsRise : List RecordChange → Type 0
 OldsRise changes = AllByRecursion (λ (change : RecordChange). IsStrictlySortedBy place_cmp change.old.now) changes
 
--- one list is changed so, and no other
+-- a key's list in one database is changed by these changes in turn, and no other list is
 pub record AreChangedAt (db : ℤ) (key : Key) (changes : List RecordChange) (old new : Content) : Type 0 where
   pub list : AreListChanges changes (old db key) (new db key)
   pub others : (d : ℤ) (k : Key) → ¬ ((d ≡ db) × (k ≡ key)) → new d k ≡ old d k

@@ -19,7 +19,7 @@ own_key leaf = column leaf 0 ∷ column leaf 1 ∷ []
 abbrev pub IsUpTo : Row → Row → Type 0
 IsUpTo key leaf = row_cmp (own_key leaf) key ≢ Greater
 
--- the term of the leaf's own key is text
+-- the term of the leaf's own key is a text, and UTF-8
 pub record HasTextTerm (leaf : Row) : Type 0 where
   pub term : List ℕ
   pub is : column leaf 0 ≡ Text term

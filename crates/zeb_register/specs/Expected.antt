@@ -29,7 +29,8 @@ number_order a b = nat_cmp a.sysno b.sysno
 abbrev pub key_posting_order : KeyPosting → KeyPosting → Ordering
 key_posting_order a b = ordering_then (key_order a.key b.key) (posting_cmp a.posting b.posting)
 
--- names rise, and in each database records and postings rise
+-- what is expected has databases by rising names, and in each records by rising numbers, and postings by rising keys, those of one key by rising
+-- number and place
 pub record IsOrdered (expected : Expected) : Type 0 where
   pub names : IsStrictlySortedBy name_order expected.databases.items
   pub records : (database : ExpectedDatabase) → Has expected.databases.items database → IsStrictlySortedBy number_order database.records.items

@@ -11,6 +11,7 @@ abbrev pub fault_of : Error → RegFault
 fault_of (SqliteFailure OutOfMemory) = Memory
 fault_of _ = Store
 
+-- the name of each refusal of the tables, as it is printed
 abbrev pub fault_name : RegFault → List ℕ
 fault_name Damaged = codes "Damaged"
 fault_name Store = codes "Store"

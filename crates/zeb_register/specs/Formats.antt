@@ -7,6 +7,7 @@ use Rattle.zeb_register.specs.HeldLeaves.{HoldsLeaves}
 use Rattle.zeb_register.specs.PlainRows.{HoldsRows}
 use Rattle.zeb_register.specs.PackedBlocks.{HoldsBlocks}
 
+-- the three formats in which tables keep registers
 pub data Format : Type 0 where
   -- a row of `postings` for each posting
   plain_rows : Format

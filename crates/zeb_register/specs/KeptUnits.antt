@@ -12,10 +12,11 @@ use Rattle.zeb_register.specs.PlainRows.{register_front}
 use Rattle.zeb_register.specs.Sql.{HasRow}
 use Rattle.zeb_register.specs.Store.{blocks_tree, dict_tree, postings_tree}
 
--- units of a database are changed, each told by its key and the number of its record: this is one of them; and one is of this key
+-- the unit is one of those that are changed, all of one database, each told by its key and the number of its record
 abbrev pub HasUnit : ℤ → (Key → ℕ → Type 0) → ℤ → Key → ℕ → Type 0
 HasUnit db Changed d key sysno = (d ≡ db) × Changed key sysno
 
+-- the key has one of the units that are changed, all of one database, each told by its key and the number of its record
 abbrev pub HasKeyUnit : ℤ → (Key → ℕ → Type 0) → ℤ → Key → Type 0
 HasKeyUnit db Changed d key = (sysno : ℕ) × HasUnit db Changed d key sysno
 

@@ -23,26 +23,29 @@ LeavesReadBlock trees db key = PartReads (IsLeafOf trees db key) key.term
 
 -- ---- a unit: a database, a key and a record's number
 
--- it reads as the places that its block has in the record
+-- a unit reads as the places that its block has in the record
 abbrev pub LeavesRead : Trees → ℤ → Key → ℕ → List Place → Type 0
 LeavesRead trees db key sysno places =
     (part : List Posting) × LeavesReadBlock trees db key (sysno / 256) part × (places ≡ places_in sysno part)
 
--- it is malformed where its block is
+-- a unit is malformed where its block is
 abbrev pub IsLeafMalformed : Trees → ℤ → Key → ℕ → Type 0
 IsLeafMalformed trees db key sysno = IsPartMalformed (IsLeafOf trees db key) key.term (sysno / 256)
 
--- each block of the key reads as some postings; and one is malformed
+-- each block of the key reads as some postings
 abbrev pub AreLeavesWhole : Trees → ℤ → Key → Type 0
 AreLeavesWhole trees db key = (block : ℕ) → (part : List Posting) × LeavesReadBlock trees db key block part
 
+-- in leaves some block of the key is malformed
 abbrev pub HasMalformedLeaf : Trees → ℤ → Key → Type 0
 HasMalformedLeaf trees db key = (block : ℕ) × IsPartMalformed (IsLeafOf trees db key) key.term block
 
 -- ---- how many records have a key
 
+-- so many records have a key by the sum over its entries, where each leaf that covers a block of it shows its entries
 abbrev pub LeavesCount : Trees → ℤ → Key → ℕ → Type 0
 LeavesCount trees db key = SumsRecords (IsLeafOf trees db key) key.term
 
+-- a leaf that covers a block of the key shows no entries; or the key's register has leaves, and none covers some block of it
 abbrev pub AreLeavesMiscounted : Trees → ℤ → Key → Type 0
 AreLeavesMiscounted trees db key = LacksSum (IsLeafOf trees db key) key.term

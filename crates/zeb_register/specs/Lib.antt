@@ -23,6 +23,7 @@ pub mod Covering
 pub mod Readings
 pub mod LeafUnits
 pub mod HeldLeaves
+pub mod DamagedLeaves
 pub mod Worked
 pub mod Formats
 pub mod Tallies

@@ -22,6 +22,7 @@ pub record IsCount (P : ℕ → Type 0) (count : ℕ) : Type 0 where
   pub each : (n : ℕ) → Has numbers n ↔ P n
   pub count_is : count ≡ length numbers
 
+-- a term's key in a register of an index
 abbrev pub key_in : ℕ → Register → List ℕ → Key
 key_in index register term = record { index = index; register = register; term = term }
 

@@ -13,10 +13,11 @@ use Rattle.zeb_register.specs.PlainRows.{key_row}
 use Rattle.zeb_register.specs.Sql.{HasRow}
 use Rattle.zeb_register.specs.Store.{IsRest, blocks_tree, dict_tree, postings_tree}
 
--- a row of the key's blocks, shown by its columns behind the key; some such row; and the row of one block
+-- a row of the key's blocks, shown by its columns behind the key
 abbrev pub IsOfKey : Trees → ℤ → Key → Row → Type 0
 IsOfKey trees db key = IsRest blocks_tree (key_row db key) trees
 
+-- a row of the key's blocks has this block's number
 abbrev pub IsOfBlock : Trees → ℤ → Key → ℕ → Row → Type 0
 IsOfBlock trees db key block row = IsOfKey trees db key row × (column row 0 ≡ Int (pos block))
 
@@ -30,12 +31,13 @@ pub record BlockReads (trees : Trees) (db : ℤ) (key : Key) (block : ℕ) (part
   pub spelled : (row : Row) → IsOfBlock trees db key block row → SpellsPart row part
   pub there : part ≢ [] → (row : Row) × IsOfBlock trees db key block row
 
--- its row spells none
+-- a row of the key with this block's number spells no postings
 abbrev pub IsBlockMalformed : Trees → ℤ → Key → ℕ → Type 0
 IsBlockMalformed trees db key block = (row : Row) × IsOfBlock trees db key block row × IsMalformed row
 
 -- ---- a unit: a database, a key and a record's number
 
+-- in packed blocks a key has just these places in a record
 abbrev pub ReadsAs : Trees → ℤ → Key → ℕ → List Place → Type 0
 ReadsAs trees db key sysno places = (part : List Posting) × BlockReads trees db key (sysno / 256) part × (places ≡ places_in sysno part)
 
@@ -49,9 +51,11 @@ HasMalformed trees db key = (row : Row) × IsOfKey trees db key row × IsMalform
 
 -- ---- how many records have a key: 0 where it has no row of `dict`
 
+-- a row of the key in `dict`, shown by its columns behind the key
 abbrev pub IsCountOf : Trees → ℤ → Key → Row → Type 0
 IsCountOf trees db key = IsRest dict_tree (key_row db key) trees
 
+-- the key's row of `dict` says so many records, 1 to 999,999,999, or they are none and there is no row
 pub record CountsAs (trees : Trees) (db : ℤ) (key : Key) (records : ℕ) : Type 0 where
   pub said : (row : Row) → IsCountOf trees db key row → (1 ≤ records) × (records ≤ 999999999) × (column row 0 ≡ Int (pos records))
   pub there : 1 ≤ records → (row : Row) × IsCountOf trees db key row
@@ -62,6 +66,7 @@ IsMiscounted trees db key = (row : Row) × IsCountOf trees db key row × ¬ IsRe
 
 -- ---- each row of the registers is one of a block or a count
 
+-- each row of `blocks` is that of a block of a key, each of `dict` that of a key's count, and `postings` has none
 pub record AreBlocksAlone (trees : Trees) : Type 0 where
   pub blocks : (row : Row) → HasRow trees blocks_tree row → (db : ℤ) × (key : Key) × (block : ℕ) × (bytes : List ℕ) × (row ≡ block_row db key block bytes)
   pub dict : (row : Row) → HasRow trees dict_tree row → (db : ℤ) × (key : Key) × (records : ℕ) × (row ≡ dict_row db key records)

@@ -41,6 +41,7 @@ pub record IsRun (run : List KeyChanges) : Type 0 where
   pub keys : KeysRise run
   pub numbers : AllByRecursion (λ (one : KeyChanges). NumbersRise one.changes.now) run
 
+-- a key is one of the run
 abbrev pub IsOfRun : List KeyChanges → Key → Type 0
 IsOfRun run key = (one : KeyChanges) × Has run one × (one.key.now ≡ key)
 
@@ -101,6 +102,8 @@ pub record PutsRunBlocks (db : ℤ) (run : List KeyChanges) (old new : Trees) : 
 abbrev pub IsUnitAmong : List KeyChanges → Key → ℕ → Type 0
 IsUnitAmong run key sysno = (one : KeyChanges) × Has run one × IsUnitTouched one.key.now one.changes.now key sysno
 
+-- which rows alone may change: in plain rows those of the run's keys in changed records; in packed blocks those of blocks in which their changes
+-- lie, and the counts of changed keys; in leaves just the units of such blocks may change
 abbrev pub puts_run_rows : Format → ℤ → List KeyChanges → (old new : Trees) → Type 0
 puts_run_rows plain_rows = PutsRunPlaces
 puts_run_rows packed_blocks = PutsRunBlocks
@@ -108,7 +111,7 @@ puts_run_rows packed_leaves = λ db run. KeepsUnits db (IsUnitAmong run)
 
 -- ---- a call
 
--- the units of each key are changed so, and each other row is as it was
+-- the units of each key of the run are changed by its changes, and each other row, in leaves each other unit, is as it was
 pub record PutsKeys (format : Format) (db : ℤ) (run : List KeyChanges) (old new : Trees) : Type 0 where
   pub each : AllByRecursion (λ (one : KeyChanges). TurnsAny format db one.key.now one.changes.now old new) run
   pub rows : puts_run_rows format db run old new
@@ -120,7 +123,7 @@ LacksLeave format db run trees =
     (one : KeyChanges) × Has run one × AllByRecursion IsStorableChange one.changes.now
     × ((were are : KeyUnits) → ¬ AllowsChanges format db one.key.now one.changes.now trees were are)
 
--- Damaged is told only where the rows don't allow the changes of some key
+-- Damaged is told only where the changes of some key of the run can be stored, and the rows before don't allow them
 abbrev pub IsRunRefusedAs : Format → ℤ → List KeyChanges → Trees → RegFault → Type 0
 IsRunRefusedAs format db run trees fault = fault ≡ Damaged → LacksLeave format db run trees
 
@@ -131,7 +134,7 @@ ChangesKeys format db run old new result = InStore old new (λ trees.
 
 -- ---- what the changes make of contents, and of other rows
 
--- the lists of the keys are changed so, and no other
+-- the list of each key of the run in one database is changed by the key's changes, and no other list is
 pub record AreChangedBy (db : ℤ) (run : List KeyChanges) (old new : Content) : Type 0 where
   pub lists : AllByRecursion (λ (one : KeyChanges). AreListChanges one.changes.now (old db one.key.now) (new db one.key.now)) run
   pub others : (d : ℤ) (k : Key) → ¬ ((d ≡ db) × IsOfRun run k) → new d k ≡ old d k

@@ -16,7 +16,8 @@ use Rattle.zeb_register.specs.Store.{IsRest, blocks_tree, dict_tree, postings_tr
 
 -- ---- lists
 
--- each row of the key's list spells some postings; in leaves, each of its blocks reads as some
+-- in packed blocks each row of a key's blocks spells some postings, in leaves each of its blocks reads as some, and
+-- in plain rows nothing is asked
 abbrev pub IsListSound : Format → Trees → ℤ → Key → Type 0
 IsListSound plain_rows trees db key = Unit {0}
 IsListSound packed_blocks trees db key = AreAllSpelled trees (key_row db key)
@@ -24,17 +25,20 @@ IsListSound packed_leaves trees db key = AreLeavesWhole trees db key
 
 -- ---- terms
 
--- a row of `dict` that shows the key's term counts it, and then the key's list is sound; in leaves the same of an entry of the term
+-- In plain rows nothing is asked. In packed blocks each row of `dict` with the key's term counts it, and then the key's list is sound. In leaves
+-- the term has a count, so each leaf that covers a block of it shows its entries; and where one of these is of the term, the term is UTF-8 and the
+-- key's list is sound.
 abbrev pub IsTermSound : Format → Trees → ℤ → Key → Type 0
 IsTermSound plain_rows trees db key = Unit {0}
 IsTermSound packed_blocks trees db key = (row : Row) → IsRest dict_tree (register_front db key.index key.register) trees row → column row 0 ≡ Text key.term
     → CountsTerm row × AreAllSpelled trees (key_row db key)
 IsTermSound packed_leaves trees db key =
-    (e : Entry) → IsEntryOf (IsLeafOf trees db key) key.term e → IsUtf8 key.term × ((records : ℕ) × LeavesCount trees db key records) × AreLeavesWhole trees db key
+    ((records : ℕ) × LeavesCount trees db key records)
+    × ((e : Entry) → IsEntryOf (IsLeafOf trees db key) key.term e → IsUtf8 key.term × AreLeavesWhole trees db key)
 
 -- ---- rows that a change of a key leaves
 
--- the row spells some postings of a key
+-- a row of `blocks` spells some postings of a key whose term is UTF-8
 abbrev pub SpellsSome : Row → Type 0
 SpellsSome row = (db : ℤ) × (key : Key) × (rest : Row) × (part : List Posting) × (row ≡ key_row db key ++ rest) × IsUtf8 key.term × SpellsPart rest part
 

@@ -10,26 +10,31 @@ use Rattle.sqlite_rules.specs.Lists.{Has}
 use Rattle.zeb_register.specs.Tables.{store_schema}
 use Rattle.zeb_register.specs.Sql.{HasRow, HasLayout, ChangesOneTable}
 
+-- a connection's tables are the store's six and obey their schema, and the rowids of each are integers that rise
 abbrev pub IsStore : State → Type 0
 IsStore = HasLayout store_schema
 
--- the tables are there, with no row, inside a transaction
+-- the store's tables are there without a row, inside a transaction
 abbrev pub IsEmptyStore : State → Type 0
 IsEmptyStore s = IsStore s × IsTrue s.in_transaction × AllByRecursion (λ t. s.now.trees t.tree ≡ []) store_schema.tables
 
--- one table of the store is written
+-- one table of the store is written as said, each other is as it was, the tables are still a store's, and no transaction begins or ends
 abbrev pub Changes : ℕ → (ℕ → Trees → Trees → Type 0) → State → State → Type 0
 Changes = ChangesOneTable store_schema
 
+-- the table of texts, by the number that contracts name it by
 abbrev pub meta_tree : ℕ
 meta_tree = 0
 
+-- the table of single postings
 abbrev pub postings_tree : ℕ
 postings_tree = 7
 
+-- the table of blocks
 abbrev pub blocks_tree : ℕ
 blocks_tree = 9
 
+-- the table of terms with their numbers of records
 abbrev pub dict_tree : ℕ
 dict_tree = 11
 
@@ -37,6 +42,7 @@ dict_tree = 11
 abbrev pub IsPostingIn : ℤ → Row → Type 0
 IsPostingIn db columns = column columns 0 ≡ Int db
 
+-- the row of a name and its text
 abbrev pub entry : List ℕ → List ℕ → Row
 entry name value = Text name ∷ Text value ∷ []
 
@@ -56,6 +62,7 @@ IsValueOf trees name (Some value) = HasRow trees meta_tree (entry name (string_b
 abbrev pub AreReadableTexts : Trees → List ℕ → Type 0
 AreReadableTexts trees name = (value : List ℕ) → HasRow trees meta_tree (entry name value) → IsUtf8 value
 
+-- the table of databases
 abbrev pub databases_tree : ℕ
 databases_tree = 2
 
@@ -63,6 +70,7 @@ databases_tree = 2
 abbrev pub database_columns : List ℕ → ℤ → Row
 database_columns name last = Null ∷ Text name ∷ Int last ∷ []
 
+-- a database with this id, name and last number
 abbrev pub HasDatabase : Trees → ℤ → List ℕ → ℤ → Type 0
 HasDatabase trees id name last = Has (trees databases_tree) (Int id ∷ database_columns name last)
 
@@ -72,9 +80,11 @@ TakesDatabase id tree old new = (i : ℤ) (name : List ℕ) (last : ℤ) → Has
 
 -- ---- records
 
+-- the table of records
 abbrev pub records_tree : ℕ
 records_tree = 4
 
+-- the row of a kept record: its database's id, its number, its identifier and its bytes
 abbrev pub record_row : ℤ → ℤ → List ℕ → List ℕ → Row
 record_row db sysno ident bytes = Int db ∷ Int sysno ∷ Text ident ∷ Blob bytes ∷ []
 
@@ -104,13 +114,14 @@ IsRest tree front trees row = HasRow trees tree (front ++ row)
 abbrev pub LacksLists : Trees → Type 0
 LacksLists trees = (trees 0 ≡ []) × (trees 2 ≡ []) × (trees 4 ≡ [])
 
+-- the registers' three tables have no row
 abbrev pub LacksRegisters : Trees → Type 0
 LacksRegisters trees = (trees 7 ≡ []) × (trees 9 ≡ []) × (trees 11 ≡ [])
 
--- the lists are as they were
+-- the tables of texts, databases and records are as they were
 abbrev pub KeepsLists : Trees → Trees → Type 0
 KeepsLists old new = (new 0 ≡ old 0) × (new 2 ≡ old 2) × (new 4 ≡ old 4)
 
--- the registers are as they were
+-- the registers' three tables are as they were
 abbrev pub KeepsRegisters : Trees → Trees → Type 0
 KeepsRegisters old new = (new 7 ≡ old 7) × (new 9 ≡ old 9) × (new 11 ≡ old 11)

@@ -45,9 +45,11 @@ module _ (format : Format) (trees : Trees) (db : ℤ) (index : ℕ) (register : 
 
   -- ---- all terms
 
+  -- the list has all terms of the register that some record has, in the order of their bytes, with their counts
   abbrev pub ListsAll : List TermCount → Type 0
   ListsAll = ListsCounts (λ _. Unit {0})
 
+  -- the count of some term can't be shown
   abbrev pub HidesSome : Type 0
   HidesSome = (term : List ℕ) × HidesCount term
 
@@ -58,6 +60,7 @@ module _ (format : Format) (trees : Trees) (db : ℤ) (index : ℕ) (register : 
     abbrev pub IsNearest : List TermCount → List ℕ → Type 0
     IsNearest terms term = IsOn term × ((length terms < n) ⊎ ((t : TermCount) × Has terms t × ¬ IsNearer t.term term))
 
+    -- the n terms on one side of a text that are nearest to it, or all where they are fewer
     pub record ListsNearest (terms : List TermCount) : Type 0 where
       pub few : length terms ≤ n
       pub are : ListsCounts (IsNearest terms) terms
@@ -75,16 +78,19 @@ module _ (format : Format) (trees : Trees) (db : ℤ) (index : ℕ) (register : 
       pub few : (terms : List TermCount) → IsStrictlySortedBy term_cmp terms
           → ((t : TermCount) → Has terms t → IsShownNearer term t) → length terms < n
 
-  -- the first n that don't come before the start, and the last n that do
+  -- the first n terms that don't come before the start
   abbrev pub ListsFrom : (start : List ℕ) → ℕ → List TermCount → Type 0
   ListsFrom start = ListsNearest (λ term. ¬ Comes term start) Comes
 
+  -- the count of a term that doesn't come before the start can't be shown, and fewer than n terms nearer to the start have a count that can
   abbrev pub HidesFrom : (start : List ℕ) → ℕ → Type 0
   HidesFrom start = HidesNearest (λ term. ¬ Comes term start) Comes
 
+  -- the last n terms that come before the start
   abbrev pub ListsBefore : (start : List ℕ) → ℕ → List TermCount → Type 0
   ListsBefore start = ListsNearest (λ term. Comes term start) (λ one other. Comes other one)
 
+  -- the count of a term that comes before the start can't be shown, and fewer than n terms between the two have a count that can
   abbrev pub HidesBefore : (start : List ℕ) → ℕ → Type 0
   HidesBefore start = HidesNearest (λ term. Comes term start) (λ one other. Comes other one)
 
@@ -115,18 +121,25 @@ module _ (format : Format) (trees : Trees) (db : ℤ) (index : ℕ) (register : 
 
 -- ---- a call that reads tells the terms, or is refused
 
+-- a call tells all terms of the register, or is refused, as damage only where a term's count can't be shown
 abbrev pub TellsAll : Format → RegisterOf → State → State → Result (Vec TermCount Global) RegFault → Type 0
 TellsAll format at = TellsOr (λ trees. HidesSome format trees at.db.0 at.index at.register)
     (λ (trees : Trees) (list : Vec TermCount Global). ListsAll format trees at.db.0 at.index at.register list.items)
 
+-- a call tells the first n terms that don't come before the start, or is refused, as damage only where a count can't be shown on the way to the
+-- last of them
 abbrev pub TellsFrom : Format → RegisterOf → (start : List ℕ) → ℕ → State → State → Result (Vec TermCount Global) RegFault → Type 0
 TellsFrom format at start n = TellsOr (λ trees. HidesFrom format trees at.db.0 at.index at.register start n)
     (λ (trees : Trees) (list : Vec TermCount Global). ListsFrom format trees at.db.0 at.index at.register start n list.items)
 
+-- a call tells the last n terms that come before the start, or is refused, as damage only where a count can't be shown on the way to the first of
+-- them
 abbrev pub TellsBefore : Format → RegisterOf → (start : List ℕ) → ℕ → State → State → Result (Vec TermCount Global) RegFault → Type 0
 TellsBefore format at start n = TellsOr (λ trees. HidesBefore format trees at.db.0 at.index at.register start n)
     (λ (trees : Trees) (list : Vec TermCount Global). ListsBefore format trees at.db.0 at.index at.register start n list.items)
 
+-- a call tells the totals of a register, or is refused, as damage only where a term's count can't be shown, or a row of a term that some record has
+-- is malformed
 abbrev pub TellsTotals : Format → RegisterOf → State → State → Result Totals RegFault → Type 0
 TellsTotals format at = TellsOr (λ trees. HidesSums format trees at.db.0 at.index at.register) (λ trees totals. SumsUp format trees at.db.0 at.index at.register totals)
 

@@ -75,9 +75,11 @@ pub record TurnsUnit (format : Format) (change : RecordChange) (old new : KeyUni
   pub kept : (sysno : ℕ) → sysno ≢ change.sysno → new.places sysno ≡ old.places sysno
   pub count : turns_count format change old new
 
+-- nothing of a key's units differs
 abbrev pub AreSame : (one two : KeyUnits) → Type 0
 AreSame one two = ((sysno : ℕ) → two.places sysno ≡ one.places sysno) × (two.records ≡ one.records)
 
+-- the changes, one after the other, turn a key's old units into its new ones
 abbrev pub TurnsUnits : Format → List RecordChange → (old new : KeyUnits) → Type 0
 TurnsUnits format [] old new = AreSame old new
 TurnsUnits format (change ∷ changes) old new = (mid : KeyUnits) × TurnsUnit format change old mid × TurnsUnits format changes mid new
@@ -92,7 +94,7 @@ pub record TurnsPlaces (change : RecordChange) (old new : List Posting) : Type 0
 
 -- ---- which units the changes read
 
--- one of them is of the record; and one is of a record in the block
+-- one of the changes is of the record
 abbrev pub IsChanged : List RecordChange → ℕ → Type 0
 IsChanged changes sysno = (change : RecordChange) × Has changes change × (change.sysno ≡ sysno)
 
@@ -173,11 +175,15 @@ IsUnitTouched key changes k sysno = (k ≡ key) × IsTouched changes (sysno / 25
 
 -- ---- in each format
 
+-- in packed blocks so many records have the key, and where none has, no block in which a change lies has a row; in
+-- another format nothing is said
 abbrev pub is_counted : Format → ℤ → Key → List RecordChange → Trees → ℕ → Type 0
 is_counted plain_rows db key changes trees records = Unit {0}
 is_counted packed_blocks db key changes trees records = IsCounted db key changes trees records
 is_counted packed_leaves db key changes trees records = Unit {0}
 
+-- which rows alone may change: in plain rows those of the key in changed records; in packed blocks those of the key's blocks in which changes lie,
+-- and its row of `dict`, which says the new count; in leaves just the units of such blocks may change
 abbrev pub puts_rows : Format → ℤ → Key → List RecordChange → ℕ → (old new : Trees) → Type 0
 puts_rows plain_rows db key changes records old new = PutsPlaces db key changes old new
 puts_rows packed_blocks db key changes records old new = PutsBlocks db key changes records old new
@@ -192,7 +198,8 @@ pub record AllowsChanges (format : Format) (db : ℤ) (key : Key) (changes : Lis
   pub found : (sysno : ℕ) → are_read format changes sysno → reads_as format trees db key sysno (were.places sysno)
   pub turns : TurnsUnits format changes were are
 
--- The changes can be stored. The units read as the new places, the key is counted so, and each other row is as it was.
+-- The changes can be stored, and the rows before allow them. The units that are read read as the new places after, a count that is kept goes along,
+-- and each other row, in leaves each other unit, is as it was.
 pub record PutsUnits (format : Format) (db : ℤ) (key : Key) (changes : List RecordChange) (old new : Trees) : Type 0 where
   pub text : IsUtf8 key.term
   pub stored : AllByRecursion IsStorableChange changes

@@ -25,21 +25,27 @@ use Rattle.zeb_register.specs.PlainUnits.{AreAllShown, AreRowsAlone, HasShownNon
 
 -- ---- one unit, one count
 
+-- a unit, which is a database, a key and the number of a record, reads as these places
 abbrev pub reads_as : Format → Trees → ℤ → Key → ℕ → List Place → Type 0
 reads_as plain_rows = RowsRead
 reads_as packed_blocks = ReadsAs
 reads_as packed_leaves = LeavesRead
 
+-- a unit is malformed: in plain rows a row of it shows no posting; in packed blocks the row of its block spells none; in leaves its block isn't
+-- readable
 abbrev pub is_malformed : Format → Trees → ℤ → Key → ℕ → Type 0
 is_malformed plain_rows = IsRowMalformed
 is_malformed packed_blocks = IsMalformedAt
 is_malformed packed_leaves = IsLeafMalformed
 
+-- the rows of a key in a database count so many records that have it
 abbrev pub counts_as : Format → Trees → ℤ → Key → ℕ → Type 0
 counts_as plain_rows = RowsCount
 counts_as packed_blocks = CountsAs
 counts_as packed_leaves = LeavesCount
 
+-- a key is miscounted: in plain rows a row of it shows no posting; in packed blocks its row of `dict` says no number of records; in leaves no
+-- entries can be read where some block of it has to stand
 abbrev pub is_miscounted : Format → Trees → ℤ → Key → Type 0
 is_miscounted plain_rows = HasShownNone
 is_miscounted packed_blocks = IsMiscounted
@@ -103,7 +109,8 @@ pub record HoldsUnits (format : Format) (trees : Trees) (content : Content) : Ty
   pub counts : (db : ℤ) (key : Key) (records : ℕ) → IsCount (HasKey (posted content db) key) records → counts_as format trees db key records
   pub alone : are_alone format trees
 
--- where the tables hold a content, what is told of them by units is told of it, and they are damaged for no content that can be stored
+-- where the tables hold a content, what is told by units and counts is told of it, and they are damaged for no
+-- content that can be stored
 abbrev pub TellsOfContent : {A : Type 0} → Format → Trees → (Told : A → Type 0) → (Damage : Type 0) → (Content → A → Type 0) → Type 0
 TellsOfContent format trees Told Damage Says =
     (content : Content) → holds_in format trees content → ((answer : _) → Told answer → Says content answer) × (IsStorable content → ¬ Damage)

@@ -21,9 +21,11 @@ abbrev pub second_entries : List Entry
 second_entries =
     entry (codes "b") 1 1 (0 ∷ 2 ∷ 2 ∷ []) ∷ entry (codes "c") 0 2 (1 ∷ 2 ∷ 2 ∷ 0xfe ∷ 1 ∷ 1 ∷ 1 ∷ []) ∷ []
 
+-- a first leaf of a register, in which a and b each have record 1
 abbrev pub first_leaf : Row
 first_leaf = leaf [] 0 first_entries
 
+-- a second leaf of a register, with b in record 256 and c in records 1 and 255
 abbrev pub second_leaf : Row
 second_leaf = leaf (codes "b") 1 second_entries
 

@@ -6,6 +6,7 @@ ghost use Rattle.sqlite.specs.Tree.{Trees};
 ghost use Rattle.sqlite_rules.specs.Lists.{Has};
 ghost use Rattle.zeb_blocks.specs.Worked.{at};
 ghost use Rattle.zeb_register.specs.Covering.{Covers, leaf_key, own_key};
+ghost use Rattle.zeb_register.specs.DamagedLeaves.{AreAlikeBeside, DifferInLeaf, leaf_row};
 ghost use Rattle.zeb_register.specs.HeldLeaves.{AreLeavesAlone, HoldsLeaves, IsLeafAlone};
 ghost use Rattle.zeb_register.specs.LeafUnits.{AreLeavesWhole};
 ghost use Rattle.zeb_register.specs.LeafUnits.{IsLeafOf, LeavesCount, LeavesRead};
@@ -41,6 +42,14 @@ pub fn held_registers_begin_at_the_least_key()
     ensures { (trees : Trees) (content : Content) → HoldsLeaves trees content
         → (db : ℤ) (key : _) (leaf : _) → IsLeafOf trees db key leaf
         → (first : _) × IsLeafOf trees db key first × (own_key first ≡ leaf_key [] 0) }
+{}
+
+/// A damaged leaf damages what it covers, and nothing else. Where tables differ in one leaf alone, of which both have the own key, all that this
+/// leaf doesn't cover reads, counts, is malformed and is miscounted in both alike, in each register of each database.
+pub fn damage_stays_in_its_leaf()
+    ensures { (db : ℤ) (key : _) (leaf other : _) (one two : Trees)
+        → DifferInLeaf db key leaf other one two
+        → AreAlikeBeside (leaf_row db key leaf) one two }
 {}
 
 /// The definitions, tried on a register of two leaves. The first has a in record 1 and b in record 1; the second, from block 1 of b

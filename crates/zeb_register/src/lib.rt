@@ -48,9 +48,10 @@ pub use kept::{
 };
 pub use laws::calls_tell_of_the_content;
 pub use leaf_laws::{
-    held_registers_begin_at_the_least_key, units_tell_held_leaves, worked_registers,
+    damage_stays_in_its_leaf, held_registers_begin_at_the_least_key, units_tell_held_leaves,
+    worked_registers,
 };
-pub use lists::rows_are_lists;
+pub use lists::{each_unit_reads_or_is_malformed, rows_are_lists};
 pub use meta::{meta_of, meta_put};
 pub use occurring::{OccurrenceSet, occurrences_have_one_list_of_terms};
 pub use plain::Rows;

@@ -5,8 +5,10 @@ ghost use Rattle.sqlite.specs.declared.types.Value.TheVariants.{Int};
 ghost use Rattle.sqlite.specs.Held.{state};
 ghost use Rattle.sqlite.specs.Order.{Row};
 ghost use Rattle.sqlite.specs.Tree.{Trees};
+ghost use Rattle.zeb_register.specs.Formats.{Format};
 ghost use Rattle.zeb_register.specs.Sql.{HasRow, IsListOf};
 ghost use Rattle.zeb_register.specs.Store.{IsStore, meta_tree, records_tree, entry, HasDatabase, HasRecord, IsRest};
+ghost use Rattle.zeb_register.specs.Units.{is_malformed, reads_as};
 
 use sqlite::{Alter, Connection};
 
@@ -38,6 +40,16 @@ pub fn rows_are_lists<S: Alter>(conn: &Connection<S>)
     ensures lists { (trees : Trees) (db : ℤ) (one two : List Row)
         → IsListOf (IsRest records_tree (Int db ∷ []) trees) one
         → IsListOf (IsRest records_tree (Int db ∷ []) trees) two → one ≡ two }
+{
+    let _ = conn;
+}
+
+/// In the tables of a store no unit is neither malformed nor reads as some places, in each format and whatever the rows of the registers are.
+pub fn each_unit_reads_or_is_malformed<S: Alter>(conn: &Connection<S>)
+    ensures { IsStore (state S.Store conn.now) → (format : Format) (db : ℤ) (key : _) (sysno : ℕ)
+        → ¬ ((¬ is_malformed format (state S.Store conn.now).now.trees db key sysno)
+        × ((places : List _)
+        → ¬ reads_as format (state S.Store conn.now).now.trees db key sysno places)) }
 {
     let _ = conn;
 }

@@ -14,6 +14,9 @@ use crate::registers::{Place, RecordChange};
 use std::alloc::Global;
 use zeb_blocks::Posting;
 
+/// How many places more there is room for where postings are parted: most changes put a record's few places behind all others.
+const MORE_PLACES: usize = 4;
+
 /// Postings parted at a record: those of the records before it, its own places, and the postings of the records behind it.
 #[derive(Debug, Drop)]
 struct Parted {
@@ -49,7 +52,7 @@ fn parted_at(alloc: Global, list: &[Posting], sysno: u64) -> Result<Parted, RegF
         result }
 {
     let mut parted = Parted {
-        before: Vec::new(alloc),
+        before: Vec::with_capacity(alloc, list.len().saturating_add(MORE_PLACES))?,
         own: Vec::new(alloc),
         behind: Vec::new(alloc),
     };

@@ -16,7 +16,7 @@ use Rattle.zeb_search.proofs.UnitLemmas.{of_list, on_list}
 
 -- ---- rows, whatever they hold
 
--- a count that can be shown is that of a row, or of entries, and then the list is sound
+-- a count that can be shown is that of a row, or of leaves, and where it is of some record the list is sound
 shown_sound : (format : Format) (trees : Trees) (db : ℤ) (index : ℕ) (register : Register) (term : List ℕ) (list : List Posting) (records : ℕ) → shows_count format trees db (key_in index register term) records
     → (1 ≤ records → HasAll format trees db (key_in index register term) list) → IsTermSound format trees db (key_in index register term)
 shown_sound plain_rows trees db index register term list records shows all = tt
@@ -24,9 +24,10 @@ shown_sound packed_blocks trees db index register term list records shows all = 
     let is : row ≡ Text term ∷ drop 1 row = begins row (Text term) shown (λ none. cc) in
     let said = shows.0.said (drop 1 row) (subst (IsRest dict_tree (register_front db index register) trees) is there) in
     ((term, shown, shows.1 said.0, (records, ap (λ (r : Row). column r 1) is ∙ said.2, said.0, said.1)), (all said.0).whole)
-shown_sound packed_leaves trees db index register term list records shows all = λ e is.
-    let some = entry_counted (IsLeafOf trees db (key_in index register term)) term e records is shows.0 in
-    (shows.1 some, (records, shows.0), (all some).whole)
+shown_sound packed_leaves trees db index register term list records shows all = (
+  (records, shows.0),
+  λ e is. (let some = entry_counted (IsLeafOf trees db (key_in index register term)) term e records is shows.0 in (shows.1 some, (all some).whole)),
+)
 
 module _ (format : Format) (trees : Trees) (db : ℤ) (IsNamed : Type 0) (index : ℕ) (register : Register) (P : List ℕ → Type 0) where
   abbrev named : List ℕ → Key

@@ -24,7 +24,7 @@ use Rattle.zeb_query.specs.Attributes.{HoldingValue, asks_number, completeness_o
 use Rattle.zeb_search.specs.Comparing.{StandsInOrder}
 use Rattle.zeb_search.specs.Holds.{Fits, HasEntry, HasMatch, HasPhrase, IsNumberAt}
 
--- these are the occurrences that records have, each with the record's number
+-- a list as a set of occurrences: the record of a number has the occurrence that stands with this number in it
 abbrev pub occurs_in : List (ℕ × Occurrence) → ℕ → Occurrence → Type 0
 occurs_in occurrences n occurrence = Has occurrences (n, occurrence)
 

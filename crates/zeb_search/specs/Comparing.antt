@@ -11,7 +11,7 @@ use Rattle.zeb_query.specs.declared.plans.Relation.{Relation}
 use Rattle.zeb_query.specs.declared.plans.Relation.TheVariants as relation
 use Rattle.zeb_query.specs.declared.plans.Separation.{Separation}
 
--- the first number stands in the relation to the other
+-- a number is less than another one, or equal to it, or greater, as the relation asks
 abbrev pub Stands : Relation → ℕ → ℕ → Type 0
 Stands relation.Less a b = a < b
 Stands relation.LessOrEqual a b = a ≤ b
@@ -23,7 +23,7 @@ Stands relation.Greater a b = b < a
 abbrev pub Precedes : List ℕ → List ℕ → Type 0
 Precedes a b = slice_cmp nat_cmp a b ≡ ordering.Less
 
--- the first text stands in the relation to the other
+-- a text comes before another one in the order of their bytes, or after it, or is it, as the relation asks
 abbrev pub StandsInOrder : Relation → List ℕ → List ℕ → Type 0
 StandsInOrder relation.Less a b = Precedes a b
 StandsInOrder relation.LessOrEqual a b = Precedes a b ⊎ (a ≡ b)
@@ -31,7 +31,7 @@ StandsInOrder relation.Equal a b = a ≡ b
 StandsInOrder relation.GreaterOrEqual a b = Precedes b a ⊎ (a ≡ b)
 StandsInOrder relation.Greater a b = Precedes b a
 
--- the number of words from one word to another stands so to the distance
+-- a number of words is less than a distance, or equal to it, or greater, or another one, as the relation asks
 abbrev pub IsDistant : DistanceRelation → ℕ → ℕ → Type 0
 IsDistant at.Less words distance = words < distance
 IsDistant at.LessOrEqual words distance = words ≤ distance
@@ -45,6 +45,7 @@ abbrev pub AreApart : Bool → ℕ → ℕ → ℕ → Type 0
 AreApart true words i j = (0 < words) × (i + words ≡ j)
 AreApart false words i j = (0 < words) × ((i + words ≡ j) ⊎ (j + words ≡ i))
 
--- two places of words in one unit are separated so
+-- two words of one unit are apart by a number of words that stands to the distance as the relation asks; where the order matters, the second is
+-- behind the first
 abbrev pub AreSeparated : Separation → ℕ → ℕ → Type 0
 AreSeparated separation i j = (words : ℕ) × AreApart separation.ordered words i j × IsDistant separation.relation words separation.distance

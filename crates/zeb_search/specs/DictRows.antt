@@ -12,7 +12,7 @@ use Rattle.zeb_search.specs.SearchCounts.{HasNoStar, IsOneKey}
 
 -- `row_work` says what a row adds to its count
 module _ (row_work : ℕ) (content : Content) (db : ℤ) where
-  -- the distinct terms of a register add so much
+  -- how many rows of `dict` the terms of a register count as: `row_work` for each that some record has
   abbrev pub RegisterDict : ℕ → Register → ℕ → Type 0
   RegisterDict index register n = (terms : List TermCount) × AreTermsOf (posted content db) index register terms × (n ≡ row_work * length terms)
 

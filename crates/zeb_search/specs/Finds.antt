@@ -42,10 +42,11 @@ Follow (list ∷ lists) n seq at = Has list (record { sysno = n; seq = seq; pos 
 abbrev pub HasRun : List (List Posting) → Bool → ℕ → Type 0
 HasRun lists first n = (lists ≢ []) × (seq : ℕ) × (at : ℕ) × (first ≡ true → at ≡ 1) × Follow lists n seq at
 
--- the record has a posting of each of some lists, and of one of them
+-- the record has a posting of each of some lists, and there is a list
 abbrev pub HasEach : List (List Posting) → ℕ → Type 0
 HasEach lists n = (lists ≢ []) × ((list : List Posting) → Has lists list → HasPosting list n)
 
+-- the record has a posting of one of some lists
 abbrev pub HasSome : List (List Posting) → ℕ → Type 0
 HasSome lists n = (list : List Posting) × Has lists list × HasPosting list n
 
@@ -168,6 +169,8 @@ module _ (format : Format) (trees : Trees) (db : ℤ) where
   PlanFinds (NearOf index left right separation) hits = (lefts : List Posting) × (rights : List Posting)
       × ReadsWord index left lefts × ReadsWord index right rights × AreNumbers (IsNear separation lefts rights) hits
 
+  -- an entry that a plan asks for, or a stray one, has a malformed row; or a count can't be shown in a register whose counts it reads; or a record
+  -- that it asks for by number has an identifier that isn't UTF-8
   abbrev pub PlanHides : PlanValue → Type 0
   PlanHides (TermOf plan) = TermHides plan
   PlanHides (PairOf operator left right) = PlanHides left ⊎ PlanHides right
@@ -175,5 +178,7 @@ module _ (format : Format) (trees : Trees) (db : ℤ) where
 
 -- ---- a call that reads finds such numbers, or is refused
 
+-- a call finds what a plan does on the tables of a store, or is refused, as damage only where a row or a count that the plan may read is malformed,
+-- or the identifier of a record that it asks for by number isn't UTF-8
 abbrev pub FindsPlan : Format → ℤ → PlanValue → State → State → Result (Vec ℕ Global) RegFault → Type 0
 FindsPlan format db plan = TellsOr (λ trees. PlanHides format trees db plan) (λ (trees : Trees) (hits : Vec ℕ Global). PlanFinds format trees db plan hits.items)

@@ -22,15 +22,15 @@ use Rattle.zeb_search.specs.Comparing.{Stands, StandsInOrder, AreSeparated}
 
 -- ---- entries of a register
 
--- the pattern matches the entry
+-- a pattern matches an entry, which is UTF-8
 abbrev pub Fits : List Symbol → List ℕ → Type 0
 Fits pattern term = IsUtf8 term × Matches pattern (chars term)
 
--- the entry is the key of a number that stands so to the given one
+-- an entry is the term of a number below 10^18 that stands to the given one as the relation asks
 abbrev pub IsNumberAt : Relation → ℕ → List ℕ → Type 0
 IsNumberAt relation number term = (value : ℕ) × (value < 10 ^ 18) × (term ≡ number_key value) × Stands relation value number
 
--- two conditions under an operator
+-- both of two conditions hold, or either, or the first and not the second, as the operator asks
 abbrev pub AreJoined : Operator → Type 0 → Type 0 → Type 0
 AreJoined operator.And left right = left × right
 AreJoined operator.Or left right = left ⊎ right
@@ -68,7 +68,9 @@ module _ (O : ℕ → Occurrence → Type 0) where
   -- ---- terms and trees; `IsKept` says of which records the database has
 
   module _ (IsKept : ℕ → Type 0) where
-    -- the term holds on the record with this number; without words, or without a pattern, it holds on none
+    -- one term of a plan holds on the record of a number: the record is kept and has the number that is asked for; or it has an entry that is asked
+    -- for: any, one that stands in the relation, or a whole phrase that matches the pattern; or its words match the patterns, one after another,
+    -- all of them, or one; without words, or without a pattern, it holds on none
     abbrev pub TermHolds : TermPlanValue → ℕ → Type 0
     TermHolds (RecordNumberOf number) n = (n ≡ number) × IsKept n
     TermHolds (NoWordsOf index register) n = ⊥
@@ -80,7 +82,8 @@ module _ (O : ℕ → Occurrence → Type 0) where
     TermHolds (AllWordsOf index patterns) n = (patterns ≢ []) × ((pattern : List Symbol) → Has patterns pattern → HasMatch index pattern n)
     TermHolds (AnyWordOf index patterns) n = (pattern : List Symbol) × Has patterns pattern × HasMatch index pattern n
 
-    -- the query holds on the record with this number
+    -- a plan holds on the record of a number: its one term holds; or both of its sides do, either does, or the left and not the right; or two words
+    -- of one unit match its two patterns and are as far apart as it asks
     abbrev pub TreeHolds : PlanValue → ℕ → Type 0
     TreeHolds (TermOf plan) n = TermHolds plan n
     TreeHolds (PairOf operator left right) n = AreJoined operator (TreeHolds left n) (TreeHolds right n)

@@ -23,7 +23,7 @@ pub record AreKeysOf (O : ℕ → Occurrence → Type 0) (index : ℕ) (register
 
 -- `rows` says how many rows a list has
 module _ (rows : List Posting → ℕ) (content : Content) (db : ℤ) where
-  -- the lists of these keys have so many rows
+  -- how many rows of `blocks` the lists of some keys have
   abbrev pub rows_under : List Key → ℕ
   rows_under keys = sum_by (λ key. rows (content db key)) keys
 

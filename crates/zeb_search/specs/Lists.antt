@@ -10,11 +10,11 @@ use Rattle.sqlite_rules.specs.Lists.{Has}
 abbrev pub Rise : {X : Type 0} → (X → List ℕ) → List X → Type 0
 Rise text xs = IsStrictlySortedBy (slice_cmp nat_cmp) (map text xs)
 
--- just those that are P, each once, in order
+-- a list rises and has just the members of a kind, each once
 pub record AreJust {X : Type 0} (cmp : X → X → Ordering) (P : X → Type 0) (list : List X) : Type 0 where
   pub rising : IsStrictlySortedBy cmp list
   pub each : (x : X) → Has list x ↔ P x
 
--- just the numbers that are P, rising
+-- a list of record numbers rises and has just those that are P
 abbrev pub AreNumbers : (P : ℕ → Type 0) → List ℕ → Type 0
 AreNumbers P = AreJust nat_cmp P

@@ -8,7 +8,7 @@ use Rattle.zeb_register.specs.Kept.{AreReadableIdents}
 use Rattle.zeb_register.specs.Store.{HasRecord}
 use Rattle.zeb_search.specs.Holds.{TreeHolds}
 
--- the record of this number has the identifier
+-- in the tables the record of a number has this identifier
 abbrev pub has_ident_in : Trees → ℤ → ℕ → List ℕ → Type 0
 has_ident_in trees db n ident = (bytes : List ℕ) × HasRecord trees db (pos n) ident bytes
 
@@ -16,6 +16,7 @@ has_ident_in trees db n ident = (bytes : List ℕ) × HasRecord trees db (pos n)
 abbrev pub is_kept_in : Trees → ℤ → ℕ → Type 0
 is_kept_in trees db n = (ident : List ℕ) × has_ident_in trees db n ident
 
+-- a plan holds on the record of a number by the registers' postings and the table of records
 abbrev pub HoldsIn : Trees → Content → ℤ → PlanValue → ℕ → Type 0
 HoldsIn trees content db = TreeHolds (posted content db) (is_kept_in trees db)
 

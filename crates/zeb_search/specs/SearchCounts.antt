@@ -19,6 +19,7 @@ use Rattle.zeb_register.specs.Tallies.{Rises}
 abbrev pub HasNoStar : List Symbol → Type 0
 HasNoStar pattern = ¬ Contains pattern Star
 
+-- none of several patterns has a star
 abbrev pub AreWithoutStars : List (List Symbol) → Type 0
 AreWithoutStars patterns = (pattern : List Symbol) → Has patterns pattern → HasNoStar pattern
 
@@ -38,7 +39,7 @@ TermNamesEntries (PhraseOf index patterns first) = AreWithoutStars patterns
 TermNamesEntries (AllWordsOf index patterns) = AreWithoutStars patterns
 TermNamesEntries (AnyWordOf index patterns) = AreWithoutStars patterns
 
--- each term of the plan does
+-- each term of the plan asks for no entry but such as it names
 abbrev pub NamesEntries : PlanValue → Type 0
 NamesEntries (TermOf plan) = TermNamesEntries plan
 NamesEntries (PairOf operator left right) = NamesEntries left × NamesEntries right

@@ -24,7 +24,7 @@ module _ (format : Format) (trees : Trees) (db : ℤ) where
   abbrev pub AreWordsSound : ℕ → List (List Symbol) → Type 0
   AreWordsSound index patterns = (pattern : List Symbol) → Has patterns pattern → AreEntriesSound (HasNoStar pattern) index register.Word (Fits pattern)
 
-  -- the entries that a term asks for
+  -- the rows of the entries that one term of a plan asks for are sound
   abbrev pub AreTermRowsSound : TermPlanValue → Type 0
   AreTermRowsSound (RecordNumberOf number) = Unit {0}
   AreTermRowsSound (NoWordsOf index register) = Unit {0}

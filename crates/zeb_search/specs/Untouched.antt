@@ -3,6 +3,6 @@
 use Rattle.std.specs.Prelude.{◌≡◌, IsTrue}
 use Rattle.sqlite.specs.State.{State, IsUnchanged}
 
--- what is seen stays, and where the connection is open, nothing is changed
+-- what is seen is as it was, and so is all else of the connection where it was open
 abbrev pub IsUntouched : State → State → Type 0
 IsUntouched old new = (new.now ≡ old.now) × (IsTrue old.is_open → IsUnchanged old new)

@@ -8,6 +8,7 @@ use Rattle.caseless.specs.Caseless.{default_case_fold}
 abbrev pub is_diacritical_mark : ℕ → Bool
 is_diacritical_mark c = nat_le 0x300 c && nat_le c 0x36F
 
--- the text decomposed, its case folded, decomposed again, and its diacritical marks dropped
+-- NFD, default case folding, NFD, and the marks U+0300 to U+036F dropped (the Unicode Standard's canonical caseless
+-- matching, D145; that marks are dropped is this project's own rule)
 unfoldable pub folded : List ℕ → List ℕ
 folded text = filter (λ c. not (is_diacritical_mark c)) (nfd (default_case_fold (nfd text)))

@@ -13,6 +13,6 @@ numerals_of text = filter (λ digits. nat_le (length digits) 18) (runs_of is_asc
 abbrev pub numbers_of : List ℕ → List ℕ
 numbers_of text = map (digits_value 10) (numerals_of text)
 
--- the numeral of a number below 10 ^ 18, with leading zeros
+-- a number's decimal numeral with leading zeros to 18 digits
 unfoldable pub number_key : ℕ → List ℕ
 number_key number = replicate (18 - length (decimal number)) 48 ++ decimal number

@@ -41,7 +41,7 @@ truncated Both Each patterns = map (λ pattern. Star ∷ (pattern ++ Star ∷ []
 truncated None spread patterns = patterns
 truncated Hash spread patterns = patterns
 
--- the patterns of a term, word by word
+-- a term's words as patterns, with the stars that its truncation puts
 abbrev pub patterns_of : Cut → Spread → List ℕ → List (List Symbol)
 patterns_of cut spread term =
     truncated cut spread (map (map (symbol_of cut)) (runs_of (belongs_to_word cut) (folded term)))

@@ -18,7 +18,7 @@ abbrev pub is_not_empty : List ℕ → Bool
 is_not_empty [] = false
 is_not_empty (c ∷ cs) = true
 
--- the runs of characters that pass: the text cut at every other character, without the empty parts
+-- the runs of characters that pass a test: the text cut at every other character, without the empty parts
 unfoldable pub runs_of : (ℕ → Bool) → List ℕ → List (List ℕ)
 runs_of passes text = filter is_not_empty (slice_split (λ c. not (passes c)) text)
 
@@ -34,7 +34,7 @@ AreRuns passes text [] = NonePass passes text
 AreRuns passes text (run ∷ runs) = (gap rest : List ℕ) × (text ≡ gap ++ (run ++ rest))
     × NonePass passes gap × (run ≢ []) × AllPass passes run × IsCutOff passes rest × AreRuns passes rest runs
 
--- the words of a text
+-- the runs of characters of General_Category L, M or N in the folded text
 abbrev pub words_of : List ℕ → List (List ℕ)
 words_of text = runs_of is_word_character (folded text)
 

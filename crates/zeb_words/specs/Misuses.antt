@@ -10,6 +10,7 @@ use Rattle.zeb_words.specs.declared.misuses.Misuse.TheVariants.{Name, PastNumber
 use Rattle.zeb_words.specs.declared.words.Usage.{Usage}
 use Rattle.zeb_words.specs.declared.words.Usage.TheVariants.{BadUsage, Refused, Help, Memory}
 
+-- the line that says for which cause the program itself refuses words
 abbrev pub misuse_text : Misuse → List ℕ
 misuse_text Name = codes "a database's name has 1 to 64 ASCII letters, digits, '-', '_' and '.', and no others"
 misuse_text PastNumber = codes "the position is above the number of terms"

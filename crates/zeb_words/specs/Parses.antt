@@ -92,6 +92,8 @@ upkeep_app =
     and_sub (and_sub (and_sub changes_app
     (new_app (codes "check"))) (new_app (codes "reindex"))) (founding_app (codes "upgrade"))
 
+-- what the parser is told: the options `-c`, `-d`, `-s` and `--version`, its commands, and the arguments and ranges
+-- of each
 abbrev pub program_app : App
 program_app =
     and_sub (and_sub (and_sub (and_sub (and_sub (and_sub upkeep_app
@@ -124,7 +126,8 @@ pub record IsNumberRead (read : Option Text) (other n : ℕ) : Type 0 where
   pub value : (text : Text) → read ≡ Some text → IsNumeral 10 (without_leading_plus text)
       → digits_value 10 (without_leading_plus text) < 2 ^ 32 → n ≡ digits_value 10 (without_leading_plus text)
 
--- the act is what a command of this name with these matches comes to, where the flag `-s` stands or doesn't
+-- the act is the command of this name, with what its matches say: a database's name, paths, the flag of a layout, or a query and two numbers, which
+-- have defaults, where a scan's position is at most its number of terms; the flag `-s` stands with `update` alone
 abbrev pub IsActRead : Text → Bool → List Row → Act → Type 0
 IsActRead name shows rows (Init choice) = (name ≡ codes "init") × (shows ≡ false) × IsChoiceRead (one_of (codes "leaves") rows) choice
 IsActRead name shows rows (Create database) =
@@ -152,7 +155,8 @@ IsActRead name shows rows (Scan query number position) =
 IsActRead name shows rows Batch = (name ≡ codes "batch") × (shows ≡ false)
 IsActRead name shows rows Shell = (name ≡ codes "shell") × (shows ≡ false)
 
--- the same of all words, by the matches of the options and those of the command
+-- the profile's file, the database, the flag and the command, by the matches of the options and of the command, each but the command by its default
+-- where it isn't given
 pub record IsReadFrom (rows : List Row) (sub : Option (Text × List Row)) (named : Words) : Type 0 where
   pub config : string_bytes named.config ≡ text_or (codes "config") (codes "zebra.cfg") rows
   pub database : name_bytes named.database ≡ text_or (codes "database") (codes "Default") rows
@@ -163,7 +167,7 @@ pub record IsReadFrom (rows : List Row) (sub : Option (Text × List Row)) (named
   pub is : sub ≡ Some (name, given)
   pub act : IsActRead name shows given named.act
 
--- the parser takes the words, and its matches come to this
+-- the parser finds no fault in the words, and the command is what its matches come to
 pub record IsParsedAs (words : List Text) (named : Words) : Type 0 where
   pub sound : fault_of program_app words ≡ []
   pub read : IsReadFrom (matches_of program_app words) (subcommand_of program_app words) named
@@ -192,6 +196,7 @@ IsRequest kind = (kind ≡ DisplayHelp) ⊎ (kind ≡ DisplayVersion)
 abbrev pub HasRequest : Kinds → Type 0
 HasRequest kinds = (kind : ErrorKind) × IsAmong kind kinds × IsRequest kind
 
+-- among the kinds of what the parser finds is one of a mistake, which is no request for help or the version
 abbrev pub HasMistake : Kinds → Type 0
 HasMistake kinds = (kind : ErrorKind) × IsAmong kind kinds × (IsRequest kind → ⊥)
 

@@ -58,7 +58,7 @@ fn with_changes<'a>(alloc: Global) -> Result<Command<'a>, AllocError>
     ensures { IfOk result (λ command. app_of command ≡ changes_app) }
 {
     with_options(alloc)?
-        .subcommand(founding(alloc, "init", "Empty the register")?)?
+        .subcommand(founding(alloc, "init", "Begin or empty the whole register")?)?
         .subcommand(naming(alloc, "create", "Make a database")?)?
         .subcommand(naming(alloc, "drop", "Take a database away")?)?
         .subcommand(changing(alloc, "update", "Add or replace records")?)?
@@ -71,6 +71,7 @@ fn with_options<'a>(alloc: Global) -> Result<Command<'a>, AllocError>
     ensures { IfOk result (λ command. app_of command ≡ top_app) }
 {
     Command::new(alloc, "zebraidx")
+        .bin_name("zebraidx")?
         .about(ABOUT)
         .version(VERSION)
         .no_binary_name(true)
@@ -155,7 +156,10 @@ fn naming<'a>(alloc: Global, name: &'a str, about: &'a str) -> Result<Command<'a
     ensures app { IfOk result (λ command. app_of command ≡ naming_app name.entry.now) }
     ensures local { IfOk result (λ command. (out-Command command).has_globals ≡ false) }
 {
-    let database = Arg::new(alloc, "name").value_name("NAME").required(true);
+    let database = Arg::new(alloc, "name")
+        .value_name("NAME")
+        .required(true)
+        .help("Of the database: ASCII letters, digits, '-', '_' and '.'");
     plain(alloc, name, about).arg(database)
 }
 
@@ -167,7 +171,8 @@ fn changing<'a>(alloc: Global, name: &'a str, about: &'a str) -> Result<Command<
     let paths = Arg::new(alloc, "path")
         .value_name("PATH")
         .action(ArgAction::Append)
-        .required(true);
+        .required(true)
+        .help("A file of records in ISO 2709, or a folder of such files");
     plain(alloc, name, about).arg(paths)
 }
 

@@ -3,13 +3,13 @@
 ghost use Rattle.std.specs.Prelude.{◌≡◌, ◌≢◌, ◌++◌, List, map, IfOk, OnOk};
 ghost use Rattle.sqlite.specs.Held.{state};
 ghost use Rattle.sqlite.specs.Values.{bound};
-ghost use Rattle.zeb_packed.specs.PrivateNewRows.{AreBlockValues, AreLacking, GainsAll, joined, new_block_row};
+ghost use Rattle.zeb_packed.specs.PrivateNewRows.{AreLacking, AreValuesOf, GainsAll, joined, new_block_row, new_count_row};
 ghost use Rattle.zeb_register.specs.Calls.{GoesOn, Inside};
 ghost use Rattle.zeb_register.specs.Clauses.{ChangesTable, InStore};
 ghost use Rattle.zeb_register.specs.PrivateRowStatements.{IsUnchangedByViolation};
-ghost use Rattle.zeb_register.specs.Store.{blocks_tree};
+ghost use Rattle.zeb_register.specs.Store.{blocks_tree, dict_tree};
 
-use crate::new_rows::NewBlock;
+use crate::new_rows::{NewBlock, NewCount};
 use sqlite::types::ValueRef;
 use sqlite::{Alter, Error, Transaction, params};
 use std::alloc::Global;
@@ -19,9 +19,13 @@ use zeb_register::{DatabaseId, RegFault};
 /// So many rows are put at once.
 pub(crate) const MANY: usize = 16;
 
-/// Puts as many rows.
+/// Puts as many rows of `blocks`.
 const ADD_BLOCKS: &str =
     "INSERT INTO blocks VALUES (?, ?, ?, ?, ?, ?), (?, ?, ?, ?, ?, ?), (?, ?, ?, ?, ?, ?), (?, ?, ?, ?, ?, ?), (?, ?, ?, ?, ?, ?), (?, ?, ?, ?, ?, ?), (?, ?, ?, ?, ?, ?), (?, ?, ?, ?, ?, ?), (?, ?, ?, ?, ?, ?), (?, ?, ?, ?, ?, ?), (?, ?, ?, ?, ?, ?), (?, ?, ?, ?, ?, ?), (?, ?, ?, ?, ?, ?), (?, ?, ?, ?, ?, ?), (?, ?, ?, ?, ?, ?), (?, ?, ?, ?, ?, ?)";
+
+/// Puts as many rows of `dict`.
+const ADD_COUNTS: &str =
+    "INSERT INTO dict VALUES (?, ?, ?, ?, ?), (?, ?, ?, ?, ?), (?, ?, ?, ?, ?), (?, ?, ?, ?, ?), (?, ?, ?, ?, ?), (?, ?, ?, ?, ?), (?, ?, ?, ?, ?), (?, ?, ?, ?, ?), (?, ?, ?, ?, ?), (?, ?, ?, ?, ?), (?, ?, ?, ?, ?), (?, ?, ?, ?, ?), (?, ?, ?, ?, ?), (?, ?, ?, ?, ?), (?, ?, ?, ?, ?), (?, ?, ?, ?, ?)";
 
 /// Puts as many rows of `blocks` at once, whose values these are. It is refused where one of the keys has a row for its block.
 pub(crate) fn blocks_add<S: Alter>(
@@ -31,10 +35,12 @@ pub(crate) fn blocks_add<S: Alter>(
     ensures same { tx.new.conn.ghost_name ≡ tx.old.conn.ghost_name }
     ensures call { Inside (state S.Store tx.old.conn.now) (state S.Store tx.new.conn.now) result
         (λ _. GoesOn) }
-    ensures put { (db : _) (blocks : List _) → AreBlockValues db blocks (bound values.now)
+    ensures put { (db : _) (blocks : List _)
+        → AreValuesOf (new_block_row db) blocks (bound values.now)
         → ChangesTable blocks_tree (state S.Store tx.old.conn.now) (state S.Store tx.new.conn.now)
         result (λ _. GainsAll (map (new_block_row db) blocks)) }
-    ensures lacking { (db : _) (blocks : List _) → AreBlockValues db blocks (bound values.now)
+    ensures lacking { (db : _) (blocks : List _)
+        → AreValuesOf (new_block_row db) blocks (bound values.now)
         → InStore (state S.Store tx.old.conn.now) (state S.Store tx.new.conn.now)
         (λ trees. OnOk result (AreLacking db blocks trees)) }
     ensures violated { IsUnchangedByViolation (state S.Store tx.old.conn.now)
@@ -75,5 +81,56 @@ fn add_block_values<'a, 'b>(
     let term = one.key.term.as_str();
     let number = stored(one.block)?;
     values.extend_from_slice(params![db, one.key.index, reg, term, number, &one.bytes])?;
+    Ok(())
+}
+
+/// Puts as many rows of `dict` at once, whose values these are. It is refused where one of the keys has a row.
+pub(crate) fn counts_add<S: Alter>(
+    tx: &mut Transaction<'_, S>,
+    values: &[ValueRef<'_>],
+) -> Result<usize, Error>
+    ensures same { tx.new.conn.ghost_name ≡ tx.old.conn.ghost_name }
+    ensures call { Inside (state S.Store tx.old.conn.now) (state S.Store tx.new.conn.now) result
+        (λ _. GoesOn) }
+    ensures put { (db : _) (counts : List _)
+        → AreValuesOf (new_count_row db) counts (bound values.now)
+        → ChangesTable dict_tree (state S.Store tx.old.conn.now) (state S.Store tx.new.conn.now)
+        result (λ _. GainsAll (map (new_count_row db) counts)) }
+{
+    tx.execute(ADD_COUNTS, values)
+}
+
+/// The values of rows of `dict`, one row behind the other.
+pub(crate) fn count_values<'a, 'b>(
+    alloc: Global,
+    db: DatabaseId,
+    counts: &'a [NewCount<'b>],
+) -> Result<Vec<ValueRef<'a>>, RegFault>
+    ensures values { IfOk result (λ values.
+        bound values.items ≡ joined (map (new_count_row db.0) counts.now)) }
+    ensures honest { result ≢ Err RegFault.Damaged }
+{
+    let mut values = Vec::new(alloc);
+    for one in counts {
+        add_count_values(&mut values, db, one)?;
+    }
+    Ok(values)
+}
+
+/// Puts the values of a row of `dict` behind those before it.
+fn add_count_values<'a, 'b>(
+    values: &mut Vec<ValueRef<'a>>,
+    db: DatabaseId,
+    one: &'a NewCount<'b>,
+) -> Result<(), RegFault>
+    ensures added { OnOk result
+        (bound values.new.items ≡ bound values.old.items ++ new_count_row db.0 one.now) }
+    ensures honest { result ≢ Err RegFault.Damaged }
+{
+    let db = db.column();
+    let reg = u32::from(one.key.register.code());
+    let term = one.key.term.as_str();
+    let number = stored(one.records)?;
+    values.extend_from_slice(params![db, one.key.index, reg, term, number])?;
     Ok(())
 }

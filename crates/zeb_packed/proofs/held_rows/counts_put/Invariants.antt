@@ -1,16 +1,19 @@
 -- The rows so far are put.
-use Rattle.zeb_packed.proofs.Cited.{◌≡◌, ◌≤◌, IsTrue, length, map, take, state, HasCleanDisk, Survives, GoesOn, Changes, IsStore, dict_tree}
+use Rattle.zeb_packed.proofs.Cited.{◌≡◌, ◌≤◌, ◌-◌, IsTrue, length, map, take, state, HasCleanDisk, Survives, GoesOn, Changes, IsStore, dict_tree}
 use Rattle.zeb_packed.specs.PrivateNewRows.{GainsAll, new_count_row}
 use Rattle.zeb_packed.proofs.held_rows.counts_put.Given as goal
 
-abbrev pub invariant-loop-one : goal.invariant-loop-one
-invariant-loop-one g l =
+abbrev pub invariant-loop-done : goal.invariant-loop-done
+invariant-loop-done g l =
     let old = state g.S.Store l.fn.tx.conn.now in
     let now = state g.S.Store l.tx.conn.now in
     record {
       same : l.tx.conn.ghost_name ≡ l.fn.tx.conn.ghost_name;
+      within : l.done ≤ length l.counts;
       crash : Survives old now (λ _. ⊥);
       on : HasCleanDisk now → IsTrue old.in_transaction → IsTrue old.is_open → GoesOn old now;
-      within : l.one-index ≤ length l.counts;
-      put : HasCleanDisk now → IsTrue old.in_transaction → IsTrue old.is_open → IsStore old → Changes dict_tree (GainsAll (map (new_count_row l.db.0) (take l.one-index l.counts))) old now;
+      put : HasCleanDisk now → IsTrue old.in_transaction → IsTrue old.is_open → IsStore old → Changes dict_tree (GainsAll (map (new_count_row l.db.0) (take l.done l.counts))) old now;
     }
+
+abbrev pub decreases-loop-done : goal.decreases-loop-done
+decreases-loop-done g l = length l.counts - l.done

@@ -1,12 +1,12 @@
 use Rattle.zeb_packed.proofs.Cited.{◌∙◌, Err, arith, rules, sym, ap, state, HasCleanDisk, goes_keeps, on_err, quiet_then, reads_goes, refused_so, store_same}
 use Rattle.sqlite.specs.Values.{bound}
 use Rattle.zeb_packed.proofs.HeldPuts.{stands_same}
-use Rattle.zeb_packed.specs.PrivateNewRows.{AreBlockValues}
+use Rattle.zeb_packed.specs.PrivateNewRows.{AreValuesOf, new_block_row}
 use Rattle.zeb_packed.proofs.held_rows.many_put.Goals as goal
 
 pub returns-in-Ok-clause-put : goal.returns-in-Ok-clause-put
 returns-in-Ok-clause-put g c clean inside store =
-    let are : AreBlockValues c.args.db.0 c.args.blocks.now (bound c.deref.result.now) = (c.requires, ap bound c.deref.ensures.value ∙ c.in_ok-values.ensures.values) in
+    let are : AreValuesOf (new_block_row c.args.db.0) c.args.blocks.now (bound c.deref.result.now) = (c.requires, ap bound c.deref.ensures.value ∙ c.in_ok-values.ensures.values) in
     (c.in-Ok.ensures.put c.args.db.0 c.args.blocks.now are clean inside store, c.in-Ok.ensures.lacking c.args.db.0 c.args.blocks.now are clean inside store)
 
 pub returns-in_err-all_absent-in-Err-clause-put : goal.returns-in_err-all_absent-in-Err-clause-put

@@ -1,5 +1,5 @@
 use Rattle.zeb_program.proofs.Cited.{◌∙◌, refl, Err, Ok, state, HasCleanDisk, conditions, version_of}
-use Rattle.zeb_program.proofs.LineStopLemmas.{same_err, stopped_silent}
+use Rattle.zeb_program.proofs.LineStopLemmas.{same_err}
 use Rattle.zeb_program.proofs.OverLemmas.{refused_over, replied_over}
 use Rattle.zeb_program.proofs.ServingLemmas.{refused_command, replied_command}
 use Rattle.zeb_program.proofs.batch.run_command.Goals as goal
@@ -25,12 +25,14 @@ returns-in-Err-clause-over g c =
     refused_over g.L.Layout.format (conditions (version_of g.L.Layout.format) c.args.session.now.profile c.args.session.now.limits) c.args.command.now old new _ _ _ (HasCleanDisk new) c.in-Err.refusal c.refuse.result
     c.in-Err.ensures.step c.in-Err.ensures.tables c.in-Err.ensures.lasts c.in-Err.ensures.holds.0.durable c.refuse.ensures.answer
 
-pub returns-in_err-render-in-Ok-clause-stopped : goal.returns-in_err-render-in-Ok-clause-stopped
-returns-in_err-render-in-Ok-clause-stopped g c =
-    stopped_silent c.from_residual.result _ _ (same_err c.from_residual.result refl)
-    (λ clean. (Ok c.in-Ok.reply, (c.in-Ok.ensures.step clean, c.in-Ok.ensures.tables clean, c.in-Ok.ensures.lasts, c.in-Ok.ensures.holds.0.durable clean)))
+pub returns-in_ok-render-in-Ok-clause-does : goal.returns-in_ok-render-in-Ok-clause-does
+returns-in_ok-render-in-Ok-clause-does g c =
+    (tt, λ clean. (Ok c.in-Ok.reply, (c.in-Ok.ensures.step clean, c.in-Ok.ensures.tables clean, c.in-Ok.ensures.lasts, c.in-Ok.ensures.holds.0.durable clean)))
 
-pub returns-in-Err-clause-stopped : goal.returns-in-Err-clause-stopped
-returns-in-Err-clause-stopped g c =
-    stopped_silent c.refuse.result _ _ c.refuse.ensures.stopped
-    (λ clean. (Err c.in-Err.refusal, (c.in-Err.ensures.step clean, c.in-Err.ensures.tables clean, c.in-Err.ensures.lasts, c.in-Err.ensures.holds.0.durable clean)))
+pub returns-in_err-render-in-Ok-clause-does : goal.returns-in_err-render-in-Ok-clause-does
+returns-in_err-render-in-Ok-clause-does g c =
+    (same_err c.from_residual.result refl, λ clean. (Ok c.in-Ok.reply, (c.in-Ok.ensures.step clean, c.in-Ok.ensures.tables clean, c.in-Ok.ensures.lasts, c.in-Ok.ensures.holds.0.durable clean)))
+
+pub returns-in-Err-clause-does : goal.returns-in-Err-clause-does
+returns-in-Err-clause-does g c =
+    (c.refuse.ensures.stopped, λ clean. (Err c.in-Err.refusal, (c.in-Err.ensures.step clean, c.in-Err.ensures.tables clean, c.in-Err.ensures.lasts, c.in-Err.ensures.holds.0.durable clean)))

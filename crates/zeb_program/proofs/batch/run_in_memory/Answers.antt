@@ -1,4 +1,4 @@
-use Rattle.zeb_program.proofs.Cited.{refl, codes, HasCleanDisk, file_state, conditions}
+use Rattle.zeb_program.proofs.Cited.{refl, codes, HasCleanDisk, file_state, over_files, conditions}
 use Rattle.zeb_paths.specs.Walks.{telling}
 use Rattle.zeb_program.proofs.MemoryLemmas.{always_clean}
 use Rattle.zeb_program.proofs.ScriptAnswerLemmas.{refused_opening, opened_batch, run_from_nothing, stopped_batch, silent_refusal}
@@ -8,14 +8,14 @@ pub returns-in-Ok-clause-answer : goal.returns-in-Ok-clause-answer
 returns-in-Ok-clause-answer g c =
     let last = c.run_lines.new.session.connection in
     let k = conditions (codes "2") c.in-Ok.session.profile c.in-Ok.session.limits in
-    let tells = g.P.Paths.tells c.args.paths.now in
+    let at = telling (g.P.Paths.tells c.args.paths.now) (g.P.Paths.stands c.args.paths.now) (g.P.Paths.lists c.args.paths.now) in
     let old = g.W.Write.contents c.args.output.now.writer in
     let new = g.W.Write.contents c.run_lines.new.output.writer in
     let n = c.args.batch.lines_before in
     let text = c.args.batch.text.now in
-    opened_batch tells c.args.profile old new n text c.run_lines.new.output.failed c.run_lines.result
-    (run_from_nothing tells k c.args.profile (file_state c.in-Ok.session.connection) (file_state last) old new n text c.run_lines.new.output.failed (HasCleanDisk (file_state last)) c.run_lines.result
-    c.in-Ok.ensures.under c.in-Ok.ensures.empty (always_clean (λ _. refl) last) c.run_lines.ensures.answer)
+    opened_batch at c.args.profile old new n text c.run_lines.new.output.failed c.run_lines.result
+    (run_from_nothing over_files at _ k c.args.profile c.in-Ok.session.connection last old new n text c.run_lines.new.output.failed (HasCleanDisk (file_state last)) c.run_lines.result
+    c.in-Ok.ensures.under c.in-Ok.ensures.empty (always_clean (λ _. refl) last) c.run_lines.ensures.answer c.run_lines.ensures.over)
 
 pub returns-in-Ok-clause-stopped : goal.returns-in-Ok-clause-stopped
 returns-in-Ok-clause-stopped g c =
@@ -26,9 +26,9 @@ returns-in-Ok-clause-stopped g c =
     c.args.batch.lines_before c.args.batch.text.now c.run_lines.new.output.failed (HasCleanDisk (file_state last)) c.run_lines.result c.in-Ok.ensures.under c.in-Ok.ensures.empty (always_clean (λ _. refl) last) c.run_lines.ensures.stopped
 
 pub returns-in-Err-clause-answer : goal.returns-in-Err-clause-answer
-returns-in-Err-clause-answer g c = refused_opening (g.P.Paths.tells c.args.paths.now) _ _ _ _ _ _ c.in-Err.refusal c.refuse.result c.in-Err.ensures.failed c.refuse.ensures.answer
+returns-in-Err-clause-answer g c = refused_opening (telling (g.P.Paths.tells c.args.paths.now) (g.P.Paths.stands c.args.paths.now) (g.P.Paths.lists c.args.paths.now)) _ _ _ _ _ _ c.in-Err.refusal c.refuse.result c.in-Err.ensures.failed c.refuse.ensures.answer
 
 pub returns-in-Err-clause-stopped : goal.returns-in-Err-clause-stopped
 returns-in-Err-clause-stopped g c =
-    silent_refusal (g.P.Paths.tells c.args.paths.now) (λ sink. g.W.Write.contents sink.writer) c.refuse.new.output.failed c.args.output.now c.refuse.new.output c.args.profile c.args.batch.lines_before c.args.batch.text.now
+    silent_refusal (telling (g.P.Paths.tells c.args.paths.now) (g.P.Paths.stands c.args.paths.now) (g.P.Paths.lists c.args.paths.now)) (λ sink. g.W.Write.contents sink.writer) c.refuse.new.output.failed c.args.output.now c.refuse.new.output c.args.profile c.args.batch.lines_before c.args.batch.text.now
     c.refuse.result c.refuse.ensures.stopped

@@ -1,7 +1,7 @@
-use Rattle.zeb_program.proofs.Cited.{[], inl, refl, subst, state, HasCleanDisk, conditions, string_bytes, Appends, bad_line, mark_line, SaysText, Remark, Order, Path, Mark, Bad, version_of}
+use Rattle.zeb_program.proofs.Cited.{◌≡◌, [], inl, refl, rules, subst, Err, Answered, Misused, state, HasCleanDisk, conditions, string_bytes, Appends, bad_line, mark_line, SaysText, Remark, Order, Path, Mark, Bad, version_of}
 use Rattle.zeb_program.proofs.AnswerLemmas.{Appends-nil}
 use Rattle.zeb_paths.specs.Walks.{telling}
-use Rattle.zeb_program.proofs.LineStopLemmas.{same_err, stopped_command, stopped_path, stopped_silent}
+use Rattle.zeb_program.proofs.DoneLemmas.{done_command, done_path, met_err}
 use Rattle.zeb_program.proofs.OverLemmas.{alone, said_over}
 use Rattle.zeb_program.proofs.PathLemmas.{path_line}
 use Rattle.zeb_program.proofs.ServingLemmas.{bad_line_answer, mark_answer, ordered_line, remark_line}
@@ -69,18 +69,30 @@ pub returns-in-Mark-clause-over : goal.returns-in-Mark-clause-over
 returns-in-Mark-clause-over g c = λ sound _.
     (mark_line (string_bytes c.in-Mark.text), (Mark c.in-Mark.text, inl (c.utf8.line, subst (SaysText c.args.line.now) c.in-Mark.is c.in_ok-read.ensures), (refl, c.write_mark.ensures.status, alone (state g.S.Store c.args.session.now.connection))), subst (λ t. Appends (g.W.Write.contents c.args.output.now.writer) (g.W.Write.contents c.write_mark.new.output.writer) (mark_line t)) c.as_str.ensures.value (c.write_mark.ensures.line sound))
 
-pub returns-in-Command-clause-stopped : goal.returns-in-Command-clause-stopped
-returns-in-Command-clause-stopped g c =
-    let new = c.run_command.new.session.connection in
-    stopped_command g.S.Store (telling (g.P.Paths.tells c.args.paths.now) (g.P.Paths.stands c.args.paths.now) (g.P.Paths.lists c.args.paths.now)) g.L.Layout.format (conditions (version_of g.L.Layout.format) c.args.session.now.profile c.args.session.now.limits) c.args.session.now.connection new
-    c.args.line.now c.in-Command.command _ (HasCleanDisk (state g.S.Store new)) c.run_command.result (inl (c.utf8.line, subst (SaysText c.args.line.now) c.in-Command.is c.in_ok-read.ensures)) c.run_command.ensures.stopped
+pub returns-in-Remark-clause-does : goal.returns-in-Remark-clause-does
+returns-in-Remark-clause-does g c = λ _.
+    ([], Answered, (Remark, inl (c.utf8.line, subst (SaysText c.args.line.now) c.in-Remark.is c.in_ok-read.ensures), (refl, refl, alone (state g.S.Store c.args.session.now.connection))))
 
-pub returns-in-Path-clause-stopped : goal.returns-in-Path-clause-stopped
-returns-in-Path-clause-stopped g c =
-    let new = c.run_path_change.new.session.connection in
-    stopped_path g.S.Store (telling (g.P.Paths.tells c.args.paths.now) (g.P.Paths.stands c.args.paths.now) (g.P.Paths.lists c.args.paths.now)) g.L.Layout.format (conditions (version_of g.L.Layout.format) c.args.session.now.profile c.args.session.now.limits) c.args.session.now.connection new
-    c.args.line.now c.in-Path.change _ (HasCleanDisk (state g.S.Store new)) c.run_path_change.result (inl (c.utf8.line, subst (SaysText c.args.line.now) c.in-Path.is c.in_ok-read.ensures)) c.run_path_change.ensures.stopped
+pub returns-in-Command-clause-does : goal.returns-in-Command-clause-does
+returns-in-Command-clause-does g c =
+    done_command g.S.Store (telling (g.P.Paths.tells c.args.paths.now) (g.P.Paths.stands c.args.paths.now) (g.P.Paths.lists c.args.paths.now)) g.L.Layout.format (conditions (version_of g.L.Layout.format) c.args.session.now.profile c.args.session.now.limits) c.args.session.now.connection c.run_command.new.session.connection
+    c.args.number c.args.line.now c.in-Command.command _ _ c.run_command.result (inl (c.utf8.line, subst (SaysText c.args.line.now) c.in-Command.is c.in_ok-read.ensures)) c.run_command.ensures.does
+
+pub returns-in-Path-clause-does : goal.returns-in-Path-clause-does
+returns-in-Path-clause-does g c =
+    done_path g.S.Store (telling (g.P.Paths.tells c.args.paths.now) (g.P.Paths.stands c.args.paths.now) (g.P.Paths.lists c.args.paths.now)) g.L.Layout.format (conditions (version_of g.L.Layout.format) c.args.session.now.profile c.args.session.now.limits) c.args.session.now.connection c.run_path_change.new.session.connection
+    c.args.number c.args.line.now c.in-Path.change _ _ c.run_path_change.result (inl (c.utf8.line, subst (SaysText c.args.line.now) c.in-Path.is c.in_ok-read.ensures)) c.run_path_change.ensures.does
+
+pub returns-in-Mark-clause-does : goal.returns-in-Mark-clause-does
+returns-in-Mark-clause-does g c = λ _.
+    (mark_line (string_bytes c.in-Mark.text), Answered, (Mark c.in-Mark.text, inl (c.utf8.line, subst (SaysText c.args.line.now) c.in-Mark.is c.in_ok-read.ensures), (refl, refl, alone (state g.S.Store c.args.session.now.connection))))
+
+pub returns-in-Bad-clause-does : goal.returns-in-Bad-clause-does
+returns-in-Bad-clause-does g c = λ _.
+    (bad_line c.args.number, Misused, (Bad, inl (c.utf8.line, subst (SaysText c.args.line.now) c.in-Bad.is c.in_ok-read.ensures), (refl, refl, alone (state g.S.Store c.args.session.now.connection))))
 
 -- nothing is done for a line that there is no memory to read
-pub returns-in_err-read-clause-stopped : goal.returns-in_err-read-clause-stopped
-returns-in_err-read-clause-stopped g c = stopped_silent c.from_residual.result _ _ (same_err c.from_residual.result refl) (λ _. inl refl)
+pub returns-in_err-read-clause-does : goal.returns-in_err-read-clause-does
+returns-in_err-read-clause-does g c =
+    let is : c.from_residual.result ≡ Err c.in_err-read.field-0.0 = search rules in
+    met_err _ c.from_residual.result c.in_err-read.field-0.0 is _ _ refl (λ _. inl refl)

@@ -1,7 +1,8 @@
-use Rattle.zeb_program.proofs.Cited.{◌∙◌, ◌+◌, arith, ap, length, refl, rules, subst, subst₂, sym, IsUtf8, state, HasCleanDisk, conditions, AnswersAsTold, Writes, LineOver, LeadsOn, version_of}
+use Rattle.zeb_program.proofs.Cited.{◌≡◌, ◌∙◌, ◌+◌, Err, arith, ap, length, refl, rules, subst, subst₂, sym, IsUtf8, state, HasCleanDisk, conditions, AnswersAsTold, Writes, LineOver, LeadsOn, version_of}
 use Rattle.zeb_paths.specs.Walks.{telling}
-use Rattle.zeb_program.specs.Doing.{StopsLine}
+use Rattle.zeb_program.specs.Doing.{DoesLine, StopsLine}
 use Rattle.zeb_program.proofs.AnswerLemmas.{answered_all, answered_line, answered_start}
+use Rattle.zeb_program.proofs.DoneLemmas.{done_all, done_line, done_part, done_start, done_stopped}
 use Rattle.zeb_program.proofs.LineStopLemmas.{stop_failure}
 use Rattle.zeb_program.proofs.ServingLemmas.{reaches_start, reaches_line, reaches_end}
 use Rattle.zeb_program.proofs.ScriptLemmas.{after_first_line-IsUtf8, not_empty, is_empty, length-after_first_line}
@@ -18,6 +19,7 @@ loop-rest-init g c =
       sound = λ sound. sound;
       under = (refl, refl);
       clean = λ clean. clean;
+      done = λ clean. done_start g.S.Store (telling (g.P.Paths.tells c.args.paths.now) (g.P.Paths.stands c.args.paths.now) (g.P.Paths.lists c.args.paths.now)) g.L.Layout.format k c.args.batch.lines_before c.args.batch.text.now c.args.session.now.connection;
       over = λ sound clean. answered_start (LineOver g.S.Store (telling (g.P.Paths.tells c.args.paths.now) (g.P.Paths.stands c.args.paths.now) (g.P.Paths.lists c.args.paths.now)) g.L.Layout.format (conditions (version_of g.L.Layout.format) c.args.session.now.profile c.args.session.now.limits)) (g.W.Write.contents c.args.output.now.writer) c.args.batch.lines_before c.args.batch.text.now c.args.session.now.connection;
       answers = λ sound clean. reaches_start (g.P.Paths.tells c.args.paths.now) k old (g.W.Write.contents c.args.output.now.writer) c.args.batch.lines_before c.args.batch.text.now;
     }
@@ -41,6 +43,11 @@ loop-rest-preserved g c =
       sound = λ sound. c.loop-rest.invariant.sound (c.run_line.ensures.sound sound);
       under = (c.run_line.ensures.stays.0 ∙ same.0, c.run_line.ensures.stays.1 ∙ same.1);
       clean = λ clean. c.loop-rest.invariant.clean (c.run_line.ensures.stays.2 clean);
+      done = λ clean.
+          let step = subst₂ (λ p l. DoesLine g.S.Store at g.L.Layout.format (conditions (version_of g.L.Layout.format) p l) (number + 1) line c.loop-rest.session.connection c.run_line.new.session.connection)
+          same.0 same.1 (c.in_ok-run_line.ensures.does clean) in
+          done_line g.S.Store at g.L.Layout.format k c.args.batch.lines_before c.args.batch.text.now c.args.session.now.connection number rest line c.cut_line.result.1.now c.loop-rest.session.connection c.run_line.new.session.connection
+          some c.cut_line.ensures.line c.cut_line.ensures.rest (c.loop-rest.invariant.done (c.run_line.ensures.stays.2 clean)) step;
       over = λ sound clean.
           let was = c.loop-rest.invariant.over (c.run_line.ensures.sound sound) (c.run_line.ensures.stays.2 clean) in
           let step = subst₂ (λ p l. Writes (g.W.Write.contents c.loop-rest.output.writer) (g.W.Write.contents c.run_line.new.output.writer)
@@ -73,10 +80,36 @@ returns-in_err-run_line-clause-stopped g c =
     let at = telling (g.P.Paths.tells c.args.paths.now) (g.P.Paths.stands c.args.paths.now) (g.P.Paths.lists c.args.paths.now) in
     let now = c.loop-rest.session.connection in
     let new = c.run_line.new.session.connection in
-    let stopped = c.in_err-run_line.ensures.stopped in
+    let stopped = c.in_err-run_line.ensures.does in
     rw stopped.0
     (stop_failure g.S.Store at format k (g.W.Write.contents c.args.output.now.writer) (g.W.Write.contents c.loop-rest.output.writer) c.args.batch.lines_before c.args.batch.text.now c.args.session.now.connection now new c.loop-rest.number rest c.loop-rest.greatest
     c.from_residual.result c.loop-rest.output.failed (HasCleanDisk (state g.S.Store new)) (not_empty rest c.loop-rest-test.ensures)
     (λ sound clean. c.loop-rest.invariant.over sound (c.run_line.ensures.stays.2 clean)) (λ sound clean. c.loop-rest.invariant.answers sound (c.run_line.ensures.stays.2 clean))
     (λ clean. subst (λ line. StopsLine g.S.Store at format k line now new) c.cut_line.ensures.line
     (subst₂ (λ p l. StopsLine g.S.Store at format (conditions (version_of format) p l) c.cut_line.result.0.now now new) same.0 same.1 (stopped.1 clean))))
+
+pub returns-clause-does : goal.returns-clause-does
+returns-clause-does g c = λ clean.
+    let k = conditions (version_of g.L.Layout.format) c.args.session.now.profile c.args.session.now.limits in (
+      c.loop-rest.invariant.clean clean,
+      done_all g.S.Store (telling (g.P.Paths.tells c.args.paths.now) (g.P.Paths.stands c.args.paths.now) (g.P.Paths.lists c.args.paths.now)) g.L.Layout.format k c.args.batch.lines_before c.args.batch.text.now c.args.session.now.connection c.loop-rest.number c.loop-rest.rest.now c.loop-rest.session.connection
+          (is_empty c.loop-rest.rest.now c.loop-rest-test.ensures) (c.loop-rest.invariant.done clean),
+    )
+
+pub returns-in_err-run_line-clause-does : goal.returns-in_err-run_line-clause-does
+returns-in_err-run_line-clause-does g c = λ clean.
+    let is : c.from_residual.result ≡ Err c.in_err-run_line.field-0.0 = search rules in
+    let rest = c.loop-rest.rest.now in
+    let same = c.loop-rest.invariant.under in
+    let format = g.L.Layout.format in
+    let k = conditions (version_of format) c.args.session.now.profile c.args.session.now.limits in
+    let at = telling (g.P.Paths.tells c.args.paths.now) (g.P.Paths.stands c.args.paths.now) (g.P.Paths.lists c.args.paths.now) in
+    let now = c.loop-rest.session.connection in
+    let new = c.run_line.new.session.connection in
+    let before = c.run_line.ensures.stays.2 clean in (
+      c.loop-rest.invariant.clean before,
+      done_stopped g.S.Store at format k c.args.batch.lines_before c.args.batch.text.now c.args.session.now.connection new c.from_residual.result c.in_err-run_line.field-0.0 is
+          (done_part g.S.Store at format k c.args.batch.lines_before c.args.batch.text.now c.args.session.now.connection c.loop-rest.number rest now new (c.loop-rest.invariant.done before)
+          (subst (λ line. StopsLine g.S.Store at format k line now new) c.cut_line.ensures.line
+          (subst₂ (λ p l. StopsLine g.S.Store at format (conditions (version_of format) p l) c.cut_line.result.0.now now new) same.0 same.1 (c.in_err-run_line.ensures.does.1 clean)))),
+    )

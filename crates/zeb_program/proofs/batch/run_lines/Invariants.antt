@@ -1,6 +1,7 @@
 use Rattle.zeb_program.proofs.Cited.{◌≡◌, ◌+◌, ◌<◌, ◌^◌, false, length, state, HasCleanDisk, conditions, LineOver, Utf8, shadow, version_of}
 use Rattle.zeb_paths.specs.Walks.{telling}
 use Rattle.zeb_program.proofs.AnswerLemmas.{IsAnswered}
+use Rattle.zeb_program.proofs.DoneLemmas.{HasDone}
 use Rattle.zeb_program.proofs.ServingLemmas.{Reaches}
 use Rattle.zeb_program.proofs.batch.run_lines.Given as goal
 
@@ -14,6 +15,9 @@ invariant-loop-rest g l =
       sound : l.output.failed ≡ false → l.initial.output.failed ≡ false;
       under : (l.session.profile ≡ before.profile) × (l.session.limits ≡ before.limits);
       clean : HasCleanDisk (state g.S.Store l.session.connection) → HasCleanDisk (state g.S.Store before.connection);
+      done : HasCleanDisk (state g.S.Store l.session.connection)
+          → HasDone g.S.Store (telling (g.P.Paths.tells l.paths) (g.P.Paths.stands l.paths) (g.P.Paths.lists l.paths)) g.L.Layout.format (conditions (version_of g.L.Layout.format) before.profile before.limits)
+          l.batch.lines_before l.batch.text.now before.connection l.number l.rest l.session.connection;
       over : l.output.failed ≡ false → HasCleanDisk (state g.S.Store l.session.connection)
           → IsAnswered (LineOver g.S.Store (telling (g.P.Paths.tells l.paths) (g.P.Paths.stands l.paths) (g.P.Paths.lists l.paths)) g.L.Layout.format (conditions (version_of g.L.Layout.format) before.profile before.limits))
           (g.W.Write.contents l.initial.output.writer) (g.W.Write.contents l.output.writer) l.batch.lines_before l.batch.text.now before.connection l.number l.rest l.greatest l.session.connection;

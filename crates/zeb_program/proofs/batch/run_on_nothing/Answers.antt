@@ -1,4 +1,4 @@
-use Rattle.zeb_program.proofs.Cited.{refl, codes, HasCleanDisk, file_state, conditions}
+use Rattle.zeb_program.proofs.Cited.{refl, codes, HasCleanDisk, file_state, over_files, conditions}
 use Rattle.zeb_paths.specs.Walks.{telling}
 use Rattle.zeb_program.proofs.MemoryLemmas.{always_clean}
 use Rattle.zeb_program.proofs.ScriptAnswerLemmas.{run_from_nothing, stopped_batch}
@@ -9,14 +9,14 @@ pub returns-in-Ok-clause-answer : goal.returns-in-Ok-clause-answer
 returns-in-Ok-clause-answer g c =
     let last = c.run_lines.new.session.connection in
     let k = conditions (codes "2") c.in-Ok.session.profile c.in-Ok.session.limits in
-    let tells = g.P.Paths.tells c.args.paths.now in
+    let at = telling (g.P.Paths.tells c.args.paths.now) (g.P.Paths.stands c.args.paths.now) (g.P.Paths.lists c.args.paths.now) in
     let old = g.W.Write.contents c.args.output.now.writer in
     let new = g.W.Write.contents c.run_lines.new.output.writer in
     let n = c.args.batch.lines_before in
     let text = c.args.batch.text.now in
-    ran_on_nothing tells c.args.profile n text old new (g.V.Write.contents c.args.fault_output.now.writer) c.run_lines.new.output.failed c.args.fault_output.now.failed c.run_lines.result
-    (run_from_nothing tells k c.args.profile (file_state c.in-Ok.session.connection) (file_state last) old new n text c.run_lines.new.output.failed (HasCleanDisk (file_state last)) c.run_lines.result
-    c.in-Ok.ensures.under c.in-Ok.ensures.empty (always_clean (λ _. refl) last) c.run_lines.ensures.answer)
+    ran_on_nothing at c.args.profile n text old new (g.V.Write.contents c.args.fault_output.now.writer) c.run_lines.new.output.failed c.args.fault_output.now.failed c.run_lines.result
+    (run_from_nothing over_files at _ k c.args.profile c.in-Ok.session.connection last old new n text c.run_lines.new.output.failed (HasCleanDisk (file_state last)) c.run_lines.result
+    c.in-Ok.ensures.under c.in-Ok.ensures.empty (always_clean (λ _. refl) last) c.run_lines.ensures.answer c.run_lines.ensures.over)
 
 pub returns-in-Ok-clause-stopped : goal.returns-in-Ok-clause-stopped
 returns-in-Ok-clause-stopped g c =
@@ -28,9 +28,9 @@ returns-in-Ok-clause-stopped g c =
 
 pub returns-in-Err-clause-answer : goal.returns-in-Err-clause-answer
 returns-in-Err-clause-answer g c =
-    refused_on_nothing (g.P.Paths.tells c.args.paths.now) c.args.profile c.args.batch.lines_before c.args.batch.text.now (g.W.Write.contents c.args.output.now.writer) _ _ c.in-Err.refusal c.from.result _ _ c.tell_failure.result
+    refused_on_nothing (telling (g.P.Paths.tells c.args.paths.now) (g.P.Paths.stands c.args.paths.now) (g.P.Paths.lists c.args.paths.now)) c.args.profile c.args.batch.lines_before c.args.batch.text.now (g.W.Write.contents c.args.output.now.writer) _ _ c.in-Err.refusal c.from.result _ _ c.tell_failure.result
     c.in-Err.ensures.failed c.from.ensures c.tell_failure.ensures.told
 
 pub returns-in-Err-clause-stopped : goal.returns-in-Err-clause-stopped
 returns-in-Err-clause-stopped g c =
-    stopped_on_nothing (g.P.Paths.tells c.args.paths.now) c.args.profile c.args.batch.lines_before c.args.batch.text.now (g.W.Write.contents c.args.output.now.writer) _ c.tell_failure.result
+    stopped_on_nothing (telling (g.P.Paths.tells c.args.paths.now) (g.P.Paths.stands c.args.paths.now) (g.P.Paths.lists c.args.paths.now)) c.args.profile c.args.batch.lines_before c.args.batch.text.now (g.W.Write.contents c.args.output.now.writer) _ c.tell_failure.result

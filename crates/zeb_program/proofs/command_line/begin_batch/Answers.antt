@@ -3,7 +3,8 @@ use Rattle.std.specs.Prelude.{Err}
 use Rattle.zeb_program.specs.Registers.{places}
 use Rattle.zeb_program.specs.WordRuns.{StopsReading}
 use Rattle.zeb_program.proofs.ScriptAnswerLemmas.{text_input}
-use Rattle.zeb_program.proofs.WordRunLemmas.{passed_failure, profile_fault}
+use Rattle.zeb_program.proofs.ResultValues.{passed_failure}
+use Rattle.zeb_program.proofs.WordRunLemmas.{profile_fault}
 use Rattle.zeb_program.proofs.command_line.begin_batch.Goals as goal
 
 pub returns-in-Ok-clause-begun : goal.returns-in-Ok-clause-begun

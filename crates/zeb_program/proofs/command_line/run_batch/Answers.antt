@@ -1,8 +1,10 @@
-use Rattle.std.proofs.Common.{refl, subst, sym}
+use Rattle.std.proofs.Common.{◌≡◌, inl, inr, refl, rules, subst, sym}
+use Rattle.std.specs.Prelude.{Err}
 use Rattle.std.proofs.KnownBytes.{Keeps-refl}
 use Rattle.zeb_register.proofs.Calls.{on_err}
 use Rattle.zeb_program.specs.Registers.{places}
 use Rattle.zeb_program.specs.WordRuns.{IsText, batch_silent}
+use Rattle.zeb_program.proofs.LeftLemmas.{starved}
 use Rattle.zeb_program.proofs.StopLemmas.{stop_batch, stop_unread}
 use Rattle.zeb_program.proofs.WordRunLemmas.{batch_refused, batch_run}
 use Rattle.zeb_program.proofs.command_line.run_batch.Goals as goal
@@ -30,3 +32,16 @@ returns-in-Err-clause-stopped g c =
 pub returns-in_err-named-clause-stopped : goal.returns-in_err-named-clause-stopped
 returns-in_err-named-clause-stopped g c =
     on_err c.from_residual.result _ (λ _ _. batch_silent refl (Keeps-refl (g.W.Write.contents c.args.output.now.writer)) (Keeps-refl (g.V.Write.contents c.args.fault_output.now.writer)))
+
+pub returns-in-Ok-clause-store : goal.returns-in-Ok-clause-store
+returns-in-Ok-clause-store g c =
+    inr (c.as_str.result.now, subst (IsText (g.R.Source.remaining c.args.input.now)) (sym c.as_str.ensures.value) c.in-Ok.ensures.begun.1, c.in-Ok.profile, c.in-Ok.ensures.begun.0, c.serve_batch.ensures.store refl)
+
+pub returns-in-Err-clause-store : goal.returns-in-Err-clause-store
+returns-in-Err-clause-store g c =
+    inl (refl, inr (g.R.Source.has_failed c.begin_batch.new.input, c.in-Err.failure.fault, c.in-Err.failure.cause, c.in-Err.ensures.refused))
+
+pub returns-in_err-named-clause-store : goal.returns-in_err-named-clause-store
+returns-in_err-named-clause-store g c =
+    let is : c.from_residual.result ≡ Err c.in_err-named.field-0.0 = search rules in
+    inl (refl, inl (starved c.from_residual.result c.in_err-named.field-0.0 is))

@@ -1,9 +1,11 @@
-use Rattle.std.proofs.Common.{refl}
+use Rattle.std.proofs.Common.{◌≡◌, inl, refl, rules}
+use Rattle.std.specs.Prelude.{Err}
 use Rattle.zeb_change.specs.Conditions.{conditions}
 use Rattle.zeb_register.proofs.Calls.{on_err}
 use Rattle.zeb_register.specs.Formats.{version_of}
 use Rattle.zeb_program.specs.PrivateWordRuns.{format_of}
 use Rattle.zeb_program.specs.Registers.{places}
+use Rattle.zeb_program.proofs.LeftLemmas.{left_served, left_unserved, starved}
 use Rattle.zeb_program.proofs.StopLemmas.{stop_serving, stop_unnamed, stop_unserved}
 use Rattle.zeb_program.proofs.WordAnswerLemmas.{shell_read, shell_refused}
 use Rattle.zeb_program.proofs.WordRunLemmas.{shell_served, shell_unopened}
@@ -42,3 +44,19 @@ returns-in-Err-clause-stopped g c =
 pub returns-in_err-named-clause-stopped : goal.returns-in_err-named-clause-stopped
 returns-in_err-named-clause-stopped g c =
     on_err c.from_residual.result _ (λ _ _. stop_unnamed (places g.P.Store.Store g.P.Paths.tells g.P.Paths.stands g.P.Paths.lists g.P.Paths.explains g.P.Paths.opens g.P.Paths.refuses g.P.Paths.lacks g.P.Paths.has g.P.Paths.lets_go g.P.Paths.leaves c.args.paths.now c.args.paths.now) c.args.config _ (g.W.Write.contents c.args.output.now.writer) (g.V.Write.contents c.args.fault_output.now.writer) refl)
+
+pub returns-in-Ok-clause-store : goal.returns-in-Ok-clause-store
+returns-in-Ok-clause-store g c =
+    let register = c.in-Ok.register in
+    let format = format_of register.1 in
+    left_served (places g.P.Store.Store g.P.Paths.tells g.P.Paths.stands g.P.Paths.lists g.P.Paths.explains g.P.Paths.opens g.P.Paths.refuses g.P.Paths.lacks g.P.Paths.has g.P.Paths.lets_go g.P.Paths.leaves c.args.paths.now c.open.new.paths) c.args.config format (conditions (version_of format) register.0.profile register.0.limits) register.0.connection
+    (g.R.Source.remaining c.args.input.now) c.serve_on.result c.in-Ok.ensures.opened c.serve_on.ensures.store
+
+pub returns-in-Err-clause-store : goal.returns-in-Err-clause-store
+returns-in-Err-clause-store g c =
+    left_unserved (places g.P.Store.Store g.P.Paths.tells g.P.Paths.stands g.P.Paths.lists g.P.Paths.explains g.P.Paths.opens g.P.Paths.refuses g.P.Paths.lacks g.P.Paths.has g.P.Paths.lets_go g.P.Paths.leaves c.args.paths.now c.open.new.paths) c.args.config (g.R.Source.remaining c.args.input.now) c.in-Err.refused.failure.fault c.in-Err.refused.failure.cause c.in-Err.refused.closed c.tell_unanswered.result c.in-Err.ensures.failed
+
+pub returns-in_err-named-clause-store : goal.returns-in_err-named-clause-store
+returns-in_err-named-clause-store g c =
+    let is : c.from_residual.result ≡ Err c.in_err-named.field-0.0 = search rules in
+    inl (refl, inl (starved c.from_residual.result c.in_err-named.field-0.0 is))

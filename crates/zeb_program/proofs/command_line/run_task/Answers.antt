@@ -1,9 +1,11 @@
-use Rattle.std.proofs.Common.{inl, refl, string_bytes}
+use Rattle.std.proofs.Common.{◌≡◌, inl, refl, rules, string_bytes}
+use Rattle.std.specs.Prelude.{Ok, Err}
 use Rattle.std.proofs.KnownBytes.{Keeps-refl}
 use Rattle.std.specs.Option.{option_map}
 use Rattle.zeb_register.proofs.Calls.{on_err}
 use Rattle.zeb_program.specs.PrivateWordRuns.{ExplainsRun}
 use Rattle.zeb_program.specs.Registers.{places}
+use Rattle.zeb_program.proofs.LeftLemmas.{left_task, starved}
 use Rattle.zeb_program.proofs.WordRunLemmas.{stopped_told, told_done, told_warns, told_why}
 use Rattle.zeb_program.proofs.command_line.run_task.Goals as goal
 
@@ -28,3 +30,18 @@ returns-in-Err-clause-stopped g c =
 pub returns-in_err-named-clause-stopped : goal.returns-in_err-named-clause-stopped
 returns-in_err-named-clause-stopped g c =
     on_err c.from_residual.result _ (refl, λ _. inl (refl, Keeps-refl (g.V.Write.contents c.args.fault_output.now.writer)))
+
+pub returns-in-Ok-clause-store : goal.returns-in-Ok-clause-store
+returns-in-Ok-clause-store g c =
+    let at = (places g.P.Store.Store g.P.Paths.tells g.P.Paths.stands g.P.Paths.lists g.P.Paths.explains g.P.Paths.opens g.P.Paths.refuses g.P.Paths.lacks g.P.Paths.has g.P.Paths.lets_go g.P.Paths.leaves c.args.paths.now c.perform-told.new.paths) in
+    left_task at c.args.choice c.args.task.now c.args.config c.perform-told.result (ExplainsRun at c.args.config c.args.task.now) (Ok c.tell_answer.result) c.perform-told.ensures.performs
+
+pub returns-in-Err-clause-store : goal.returns-in-Err-clause-store
+returns-in-Err-clause-store g c =
+    let at = (places g.P.Store.Store g.P.Paths.tells g.P.Paths.stands g.P.Paths.lists g.P.Paths.explains g.P.Paths.opens g.P.Paths.refuses g.P.Paths.lacks g.P.Paths.has g.P.Paths.lets_go g.P.Paths.leaves c.args.paths.now c.perform-told.new.paths) in
+    left_task at c.args.choice c.args.task.now c.args.config c.perform-told.result (ExplainsRun at c.args.config c.args.task.now) c.tell_unanswered.result c.perform-told.ensures.performs
+
+pub returns-in_err-named-clause-store : goal.returns-in_err-named-clause-store
+returns-in_err-named-clause-store g c =
+    let is : c.from_residual.result ≡ Err c.in_err-named.field-0.0 = search rules in
+    inl (refl, inl (starved c.from_residual.result c.in_err-named.field-0.0 is))

@@ -1,5 +1,6 @@
-use Rattle.std.proofs.Common.{[], map, string_bytes, inl, inr, arith, refl}
+use Rattle.std.proofs.Common.{[], map, string_bytes, inl, inr, arith, refl, subst}
 use Rattle.std.proofs.KnownBytes.{Consumes-nil}
+use Rattle.zeb_program.specs.LeftStores.{LeavesByTask, left_alone, left_by_batch, left_by_shell, left_by_task}
 use Rattle.zeb_program.specs.Registers.{places}
 use Rattle.zeb_program.specs.WordAnswers.{misused}
 use Rattle.zeb_program.proofs.WordAnswerLemmas.{batch_words, shell_kept, shell_words, stopped_batch_words, stopped_shell_words, stopped_task_words, task_words}
@@ -53,11 +54,16 @@ pub returns-in-Shell-clause-stopped : goal.returns-in-Shell-clause-stopped
 returns-in-Shell-clause-stopped g c =
     stopped_shell_words (places g.P.Store.Store g.P.Paths.tells g.P.Paths.stands g.P.Paths.lists g.P.Paths.explains g.P.Paths.opens g.P.Paths.refuses g.P.Paths.lacks g.P.Paths.has g.P.Paths.lets_go g.P.Paths.leaves c.args.paths.now c.run_shell.new.paths) (map string_bytes c.args.words.now) _ _ _ _ _ _ c.in-Ok.words _ _ c.run_shell.result c.in-Ok.ensures.named c.in-Shell.ensures c.run_shell.ensures.stopped
 
-pub returns-in-Task-clause-untouched : goal.returns-in-Task-clause-untouched
-returns-in-Task-clause-untouched g c = λ none. absurd (none c.in-Ok.words c.in-Ok.ensures.named)
+pub returns-in-Err-clause-store : goal.returns-in-Err-clause-store
+returns-in-Err-clause-store g c = left_alone c.in-Err.usage c.in-Err.ensures.nameless refl
 
-pub returns-in-Batch-clause-untouched : goal.returns-in-Batch-clause-untouched
-returns-in-Batch-clause-untouched g c = λ none. absurd (none c.in-Ok.words c.in-Ok.ensures.named)
+pub returns-in-Task-clause-store : goal.returns-in-Task-clause-store
+returns-in-Task-clause-store g c =
+    left_by_task c.in-Ok.words c.in-Task.task c.in-Ok.ensures.named c.in-Task.ensures
+    (subst (λ choice. LeavesByTask (places g.P.Store.Store g.P.Paths.tells g.P.Paths.stands g.P.Paths.lists g.P.Paths.explains g.P.Paths.opens g.P.Paths.refuses g.P.Paths.lacks g.P.Paths.has g.P.Paths.lets_go g.P.Paths.leaves c.args.paths.now c.run_task.new.paths) choice c.in-Ok.words.config c.in-Task.task c.run_task.result) c.layout_asked-choice.ensures c.run_task.ensures.store)
 
-pub returns-in-Shell-clause-untouched : goal.returns-in-Shell-clause-untouched
-returns-in-Shell-clause-untouched g c = λ none. absurd (none c.in-Ok.words c.in-Ok.ensures.named)
+pub returns-in-Batch-clause-store : goal.returns-in-Batch-clause-store
+returns-in-Batch-clause-store g c = left_by_batch c.in-Ok.words c.in-Ok.ensures.named c.in-Batch.ensures c.run_batch.ensures.store
+
+pub returns-in-Shell-clause-store : goal.returns-in-Shell-clause-store
+returns-in-Shell-clause-store g c = left_by_shell c.in-Ok.words c.in-Ok.ensures.named c.in-Shell.ensures c.run_shell.ensures.store

@@ -2,7 +2,11 @@ use Rattle.std.proofs.Common.{◌≡◌, false, true, refl, rules}
 use Rattle.zeb_change.specs.Conditions.{conditions}
 use Rattle.zeb_register.specs.Formats.{version_of}
 use Rattle.zeb_program.specs.PrivateWordRuns.{format_of}
+use Rattle.zeb_program.specs.LeftStores.{unused as none_used}
 use Rattle.zeb_program.specs.Registers.{places}
+use Rattle.zeb_program.specs.Scripts.{BeginsRegister}
+use Rattle.zeb_words.specs.declared.words.LayoutChoice.TheVariants.{Unsaid}
+use Rattle.zeb_program.proofs.LeftLemmas.{left_lines, left_unopened}
 use Rattle.zeb_program.proofs.StopLemmas.{stop_kept, stop_none, stop_unopened}
 use Rattle.zeb_program.proofs.WordRunLemmas.{begun_or, run_kept, run_none, run_unopened}
 use Rattle.zeb_program.proofs.command_line.serve_batch.Goals as goal
@@ -50,3 +54,24 @@ returns-in-Err-clause-stopped g c = λ first.
     let uses : c.uses_store.result ≡ true = search rules in
     let may = begun_or _ _ c.begins.result (c.uses_store.ensures.used uses) c.begins.ensures.some in
     stop_unopened (places g.P.Store.Store g.P.Paths.tells g.P.Paths.stands g.P.Paths.lists g.P.Paths.explains g.P.Paths.opens g.P.Paths.refuses g.P.Paths.lacks g.P.Paths.has g.P.Paths.lets_go g.P.Paths.leaves c.args.paths.now c.open_register.new.paths) c.args.profile c.args.batch.text.now _ _ _ c.in-Err.refused.failure.fault c.in-Err.refused.failure.cause c.in-Err.refused.closed _ _ c.tell_unanswered.result may c.in-Err.ensures.failed c.tell_unanswered.ensures.stopped
+
+pub returns-then-not-uses_store-clause-store : goal.returns-then-not-uses_store-clause-store
+returns-then-not-uses_store-clause-store g c = λ first.
+    let unused : c.uses_store.result ≡ false = search rules in
+    let no = c.uses_store.ensures.unused unused in
+    none_used refl no.0 (c.begins.ensures.none no.1)
+
+pub returns-in-Ok-clause-store : goal.returns-in-Ok-clause-store
+returns-in-Ok-clause-store g c = λ first.
+    let uses : c.uses_store.result ≡ true = search rules in
+    let may = begun_or _ _ c.begins.result (c.uses_store.ensures.used uses) c.begins.ensures.some in
+    let register = c.in-Ok.register in
+    let format = format_of register.1 in
+    left_lines (places g.P.Store.Store g.P.Paths.tells g.P.Paths.stands g.P.Paths.lists g.P.Paths.explains g.P.Paths.opens g.P.Paths.refuses g.P.Paths.lacks g.P.Paths.has g.P.Paths.lets_go g.P.Paths.leaves c.args.paths.now c.open_register.new.paths) c.args.profile format (conditions (version_of format) register.0.profile register.0.limits) register.0.connection c.args.batch.lines_before c.args.batch.text.now
+    c.run_on.result first may c.in-Ok.ensures.under c.in-Ok.ensures.opened c.run_on.ensures.store
+
+pub returns-in-Err-clause-store : goal.returns-in-Err-clause-store
+returns-in-Err-clause-store g c = λ first.
+    let uses : c.uses_store.result ≡ true = search rules in
+    let may = begun_or _ _ c.begins.result (c.uses_store.ensures.used uses) c.begins.ensures.some in
+    left_unopened (places g.P.Store.Store g.P.Paths.tells g.P.Paths.stands g.P.Paths.lists g.P.Paths.explains g.P.Paths.opens g.P.Paths.refuses g.P.Paths.lacks g.P.Paths.has g.P.Paths.lets_go g.P.Paths.leaves c.args.paths.now c.open_register.new.paths) Unsaid c.args.profile (BeginsRegister c.args.batch.text.now) _ c.in-Err.refused.failure.fault c.in-Err.refused.failure.cause c.in-Err.refused.closed may c.in-Err.ensures.failed

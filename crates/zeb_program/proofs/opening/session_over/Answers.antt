@@ -1,18 +1,15 @@
 -- What adopting the store says, of what is given on.
 use Rattle.zeb_program.proofs.Cited.{refl, Some, Held, state, HasCleanDisk, Ghosts, Store, AdoptLasts}
 use Rattle.zeb_engine.specs.Taking.{TakesOver}
-use Rattle.zeb_program.specs.Registers.{IsTakenOver}
+use Rattle.zeb_program.specs.PrivateWordRuns.{TakesOpen}
 use Rattle.zeb_program.proofs.OpenedStores.{opened_store}
 use Rattle.zeb_program.proofs.ResultValues.{both_so, given_err, holds_of, narrowed_fault, narrowed_so}
 use Rattle.zeb_program.proofs.opening.session_over.Goals as goal
 
 is_taken : {S : Type 0} (store : Ghosts S) (opened taken : Held S) → (HasCleanDisk (state store taken) → TakesOver (state store opened) (state store taken)) × AdoptLasts (state store opened) (state store taken)
-    → HasCleanDisk (state store taken) → IsTakenOver store opened taken
-is_taken store opened taken both clean = record {
-  keeps = (both.0 clean).keeps;
-  store = λ is. opened_store _ _ is.0 is.1 ((both.0 clean).there is.1);
-  lasts = both.1;
-}
+    → HasCleanDisk (state store taken) → TakesOpen store opened taken
+is_taken store opened taken both clean =
+    (record { keeps = (both.0 clean).keeps; store = λ is. opened_store _ _ is.0 is.1 ((both.0 clean).there is.1); lasts = both.1 }, (both.0 clean).stays.1)
 
 pub returns-in-Ok-clause-other : goal.returns-in-Ok-clause-other
 returns-in-Ok-clause-other g c =

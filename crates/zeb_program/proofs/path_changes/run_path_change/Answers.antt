@@ -1,10 +1,11 @@
-use Rattle.std.proofs.Common.{◌∙◌, [], ◌∷◌, ap, inl, map, refl, string_bytes}
+use Rattle.std.proofs.Common.{◌∙◌, [], ◌∷◌, ap, inl, inr, map, refl, string_bytes}
 use Rattle.sqlite.specs.Held.{state}
 use Rattle.sqlite.specs.State.{HasCleanDisk}
 use Rattle.zeb_change.specs.Conditions.{conditions}
 use Rattle.zeb_paths.specs.Walks.{telling}
 use Rattle.zeb_register.specs.Formats.{version_of}
-use Rattle.zeb_program.proofs.LineStopLemmas.{same_err, stopped_fault, stopped_reply, stopped_silent}
+use Rattle.zeb_program.proofs.DoneLemmas.{met_done, met_either}
+use Rattle.zeb_program.proofs.LineStopLemmas.{done_fault, done_reply, same_err, stopped_fault}
 use Rattle.zeb_program.proofs.OverLemmas.{refused_path, replied_path}
 use Rattle.zeb_program.proofs.PathLemmas.{refused_file, replied_file}
 use Rattle.zeb_program.proofs.path_changes.run_path_change.Goals as goal
@@ -46,15 +47,24 @@ returns-in-Err-clause-over g c =
     c.in-Err.fault c.tell.result c.from_ref-named.ensures.value
     c.in-Err.ensures.reaches c.in-Err.ensures.changes c.tell.ensures.told
 
-pub returns-in_err-render-in-Ok-clause-stopped : goal.returns-in_err-render-in-Ok-clause-stopped
-returns-in_err-render-in-Ok-clause-stopped g c =
-    stopped_silent c.from_residual.result _ _ (same_err c.from_residual.result refl)
-    (λ clean. stopped_reply g.S.Store (telling (g.P.Paths.tells c.args.paths.now) (g.P.Paths.stands c.args.paths.now) (g.P.Paths.lists c.args.paths.now)) g.L.Layout.format (conditions (version_of g.L.Layout.format) c.args.session.now.profile c.args.session.now.limits) c.args.change.now
-    c.args.session.now.connection c.change_by_paths.new.session.connection c.from_ref-named.result.now c.from_ref-named.ensures.value c.in-Ok.reply c.in-Ok.ensures.reaches (c.in-Ok.ensures.changes clean))
+pub returns-in_ok-render-in-Ok-clause-does : goal.returns-in_ok-render-in-Ok-clause-does
+returns-in_ok-render-in-Ok-clause-does g c = λ clean.
+    done_reply g.S.Store (telling (g.P.Paths.tells c.args.paths.now) (g.P.Paths.stands c.args.paths.now) (g.P.Paths.lists c.args.paths.now)) g.L.Layout.format (conditions (version_of g.L.Layout.format) c.args.session.now.profile c.args.session.now.limits) c.args.change.now
+    c.args.session.now.connection c.change_by_paths.new.session.connection c.from_ref-named.result.now c.from_ref-named.ensures.value c.in-Ok.reply c.in-Ok.ensures.reaches (c.in-Ok.ensures.changes clean)
 
-pub returns-in-Err-clause-stopped : goal.returns-in-Err-clause-stopped
-returns-in-Err-clause-stopped g c =
-    stopped_silent c.tell.result _ _ c.tell.ensures.silent
+pub returns-in_err-render-in-Ok-clause-does : goal.returns-in_err-render-in-Ok-clause-does
+returns-in_err-render-in-Ok-clause-does g c =
+    met_done c.from_residual.result _ _ _ (same_err c.from_residual.result refl)
+    (λ clean. done_reply g.S.Store (telling (g.P.Paths.tells c.args.paths.now) (g.P.Paths.stands c.args.paths.now) (g.P.Paths.lists c.args.paths.now)) g.L.Layout.format (conditions (version_of g.L.Layout.format) c.args.session.now.profile c.args.session.now.limits) c.args.change.now
+    c.args.session.now.connection c.change_by_paths.new.session.connection c.from_ref-named.result.now c.from_ref-named.ensures.value c.in-Ok.reply c.in-Ok.ensures.reaches (c.in-Ok.ensures.changes clean))
+    (λ done clean. inr (done clean))
+
+pub returns-in-Err-clause-does : goal.returns-in-Err-clause-does
+returns-in-Err-clause-does g c =
+    met_either c.tell.result _ _ _ c.tell.ensures.silent
+    (λ told clean. done_fault g.S.Store (telling (g.P.Paths.tells c.args.paths.now) (g.P.Paths.stands c.args.paths.now) (g.P.Paths.lists c.args.paths.now)) g.L.Layout.format (conditions (version_of g.L.Layout.format) c.args.session.now.profile c.args.session.now.limits) c.args.change.now
+    c.args.session.now.connection c.change_by_paths.new.session.connection c.from_ref-named.result.now c.from_ref-named.ensures.value c.in-Err.fault
+    (λ is. told (c.tell.ensures.memory is)) c.in-Err.ensures.reaches (c.in-Err.ensures.changes clean))
     (λ clean. stopped_fault g.S.Store (telling (g.P.Paths.tells c.args.paths.now) (g.P.Paths.stands c.args.paths.now) (g.P.Paths.lists c.args.paths.now)) g.L.Layout.format (conditions (version_of g.L.Layout.format) c.args.session.now.profile c.args.session.now.limits) c.args.change.now
     c.args.session.now.connection c.change_by_paths.new.session.connection c.from_ref-named.result.now c.from_ref-named.ensures.value c.in-Err.fault
     (λ unread. ap (λ session. session.connection) (c.in-Err.ensures.unread unread)) c.in-Err.ensures.reaches (c.in-Err.ensures.changes clean))

@@ -1,8 +1,13 @@
-use Rattle.std.proofs.Common.{◌≡◌, ◌≢◌, [], false, inl, inr, map, rules, string_bytes}
-use Rattle.std.specs.Prelude.{IfSome}
+use Rattle.std.proofs.Common.{◌≡◌, ◌≢◌, [], false, map, refl, rules, string_bytes}
+use Rattle.std.specs.Prelude.{IfSome, Ok}
+use Rattle.zeb_words.specs.declared.words.Usage.TheVariants.{Memory}
+use Rattle.zeb_program.specs.LeftStores.{left_alone}
+use Rattle.zeb_program.specs.declared.statuses.Status.TheVariants.{Answered}
+use Rattle.zeb_paths.specs.Walks.{telling}
 use Rattle.zeb_program.specs.Registers.{places}
 use Rattle.zeb_program.specs.ScriptAnswers.{EndsScript}
 use Rattle.zeb_program.specs.WordAnswers.{EndsWords}
+use Rattle.zeb_program.proofs.LeftLemmas.{starved_code}
 use Rattle.zeb_program.proofs.ScriptAnswerLemmas.{ended_script, ends_with, kept_script, may_starve}
 use Rattle.zeb_program.proofs.WordAnswerLemmas.{ended_words, kept_words}
 use Rattle.zeb_program.proofs.program.run.Goals as goal
@@ -16,22 +21,31 @@ returns-then-is_empty-clause-script g c = λ none quiet.
       may_starve (λ sink. g.V.Write.contents sink.writer) c.args.fault_output.now c.tell_starved-status.new.fault_output c.tell_starved-status.result c.run_script-ended.result _ fault_new c.tell_starved-status.ensures.answered c.tell_starved-status.ensures.starved still
           (c.finish.ensures.passed_fault quiet).2,
       λ read sound.
-          let tells = g.P.Paths.tells c.args.files.now in
+          let at = telling (g.P.Paths.tells c.args.files.now) (g.P.Paths.stands c.args.files.now) (g.P.Paths.lists c.args.files.now) in
           let left = g.R.Source.remaining c.args.input.now in
           let old = g.W.Write.contents c.args.output.now.writer in
           let mid = g.W.Write.contents c.run_script-ended.new.output.writer in
           let new = g.W.Write.contents c.finish.new.output.writer in
-          let told = ended_script tells left old mid (λ sink. g.V.Write.contents sink.writer) c.args.fault_output.now c.tell_starved-status.new.fault_output _ _ _ c.tell_starved-status.result c.run_script-ended.result c.run_script-ended.ensures.answer c.run_script-ended.ensures.stopped
+          let told = ended_script at left old mid (λ sink. g.V.Write.contents sink.writer) c.args.fault_output.now c.tell_starved-status.new.fault_output _ _ _ c.tell_starved-status.result c.run_script-ended.result c.run_script-ended.ensures.answer c.run_script-ended.ensures.stopped
           c.tell_starved-status.ensures.answered c.tell_starved-status.ensures.starved still read ((c.finish.ensures.passed sound).0) in
-          let kept : IfSome left (λ text. EndsScript tells text old new fault_old fault_new c.finish.result) = rw (c.finish.ensures.status.1 sound quiet)
-          (kept_script tells left old mid new fault_old fault_mid fault_new _ ((c.finish.ensures.passed sound).2) ((c.finish.ensures.passed_fault quiet).2) told) in
-          ends_with left (λ text. EndsScript tells text old new fault_old fault_new) c.code.result c.finish.result c.code.ensures kept,
+          let kept : IfSome left (λ text. EndsScript at text old new fault_old fault_new c.finish.result) = rw (c.finish.ensures.status.1 sound quiet)
+          (kept_script at left old mid new fault_old fault_mid fault_new _ ((c.finish.ensures.passed sound).2) ((c.finish.ensures.passed_fault quiet).2) told) in
+          ends_with left (λ text. EndsScript at text old new fault_old fault_new) c.code.result c.finish.result c.code.ensures kept,
     )
 
-pub returns-clause-untouched : goal.returns-clause-untouched
-returns-clause-untouched g c = λ which.
-    let some : c.args.words.now ≢ [] = search rules in
-    elim which [ inl none ↦ absurd (some none) | inr nothing ↦ c.run_words-ended.ensures.untouched nothing ]
+pub returns-then-is_empty-clause-store : goal.returns-then-is_empty-clause-store
+returns-then-is_empty-clause-store g c = (λ _. refl, λ _. (Ok Answered, left_alone Memory tt refl, tt))
+
+pub returns-clause-store : goal.returns-clause-store
+returns-clause-store g c =
+    let some : c.args.words.now ≢ [] = search rules in (
+      λ none. absurd (some none),
+      λ _. (
+        c.run_words-ended.result,
+        c.run_words-ended.ensures.store,
+        starved_code c.run_words-ended.result c.tell_starved-status-2.result c.finish-2.result c.code-2.result _ c.tell_starved-status-2.ensures.starved c.finish-2.ensures.status.0 c.code-2.ensures,
+      ),
+    )
 
 pub returns-clause-words : goal.returns-clause-words
 returns-clause-words g c = λ some sound quiet.

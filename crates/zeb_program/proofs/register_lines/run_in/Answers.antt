@@ -10,7 +10,7 @@ use Rattle.zeb_program.specs.OverTables.{LinesOver}
 use Rattle.zeb_program.specs.declared.statuses.Status.{Status}
 use Rattle.zeb_program.specs.Serving.{LeadsOn}
 use Rattle.zeb_program.specs.PrivateWordRuns.{ClosesAloud, RunsIn, StopsIn}
-use Rattle.zeb_program.proofs.SessionLemmas.{both_ok, ended_err, ended_ok}
+use Rattle.zeb_program.proofs.SessionLemmas.{both_ok, ended_err, ended_ok, left_batch}
 use Rattle.zeb_program.proofs.register_lines.run_in.Goals as goal
 
 pub returns-clause-answer : goal.returns-clause-answer
@@ -42,7 +42,7 @@ returns-clause-answer g c =
       refl,
       record {
         last = last;
-        clean = c.run_lines-answered.ensures.clean;
+        clean = λ whole. (c.run_lines-answered.ensures.does whole).0;
         lines = λ whole. record { over = lines.0 sound whole; answers = lines.1 sound whole };
         ends = closes.0;
         closes = closes.1 quiet;
@@ -67,4 +67,12 @@ returns-clause-stopped g c =
     (c.run_lines-answered.new.output.failed ≡ false → HasCleanDisk (state store last) → StopsPart store at g.L.Layout.format k n text old new held last)
     (c.run_lines-answered.new.output.failed ≡ false → c.end_session.new.fault_output.failed ≡ false → StopsIn store leaves at g.L.Layout.format k n text held old new fault_old fault_new)
     c.end_session.ensures.ends c.run_lines-answered.ensures.stopped
-    (λ closed lines closes sound quiet. (closed, record { last = last; clean = c.run_lines-answered.ensures.clean; lines = lines sound; ends = closes.0; closes = closes.1 quiet }))
+    (λ closed lines closes sound quiet. (closed, record { last = last; clean = λ whole. (c.run_lines-answered.ensures.does whole).0; lines = lines sound; ends = closes.0; closes = closes.1 quiet }))
+
+pub returns-clause-store : goal.returns-clause-store
+returns-clause-store g c =
+    let store = g.P.Store.Store in
+    let at = telling (g.P.Paths.tells c.args.paths.now) (g.P.Paths.stands c.args.paths.now) (g.P.Paths.lists c.args.paths.now) in
+    let k = conditions (version_of g.L.Layout.format) c.args.session.profile c.args.session.limits in
+    left_batch store (g.P.Paths.leaves c.args.paths.now) at g.L.Layout.format k c.args.batch.lines_before c.args.batch.text.now c.args.session.connection c.run_lines-answered.new.session.connection
+    _ _ _ c.run_lines-answered.result c.end_session.result c.end_session.ensures.ends c.run_lines-answered.ensures.does

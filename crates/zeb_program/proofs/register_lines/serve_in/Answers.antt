@@ -7,10 +7,10 @@ use Rattle.zeb_change.specs.Conditions.{conditions}
 use Rattle.zeb_paths.specs.Walks.{telling}
 use Rattle.zeb_register.specs.Formats.{version_of}
 use Rattle.zeb_program.specs.Closings.{TellsClosed}
-use Rattle.zeb_program.specs.Doing.{ServesText, StopsText}
+use Rattle.zeb_program.specs.Doing.{DoesShell, ServesText, StopsText}
 use Rattle.zeb_program.specs.declared.line_input.LineFault.TheVariants.{Memory}
 use Rattle.zeb_program.specs.PrivateWordRuns.{ClosesAloud, ServesIn, StopsServing}
-use Rattle.zeb_program.proofs.SessionLemmas.{both_err, ended_err, ended_ok, ended_failed, ended_whole}
+use Rattle.zeb_program.proofs.SessionLemmas.{both_err, ended_err, ended_ok, ended_failed, ended_whole, left_shell}
 use Rattle.zeb_program.proofs.register_lines.serve_in.Goals as goal
 
 pub returns-clause-failed_read : goal.returns-clause-failed_read
@@ -49,7 +49,7 @@ returns-clause-answer g c =
       refl,
       record {
         last = last;
-        clean = c.serve_lines-answered.ensures.clean;
+        clean = λ whole. (c.serve_lines-answered.ensures.does whole).0;
         lines = lines sound (c.end_session.ensures.sound quiet);
         ends = closes.0;
         closes = closes.1 quiet;
@@ -81,9 +81,17 @@ returns-clause-stopped g c =
       closed,
       record {
         last = last;
-        clean = c.serve_lines-answered.ensures.clean;
+        clean = λ whole. (c.serve_lines-answered.ensures.does whole).0;
         lines = facts.0 sound;
         closes = subst (λ sink. TellsClosed (g.V.Write.contents sink.writer) fault_new closed) facts.1 (closes.1 quiet);
         ends = closes.0;
       },
     ))
+
+pub returns-clause-store : goal.returns-clause-store
+returns-clause-store g c =
+    let store = g.P.Store.Store in
+    let at = telling (g.P.Paths.tells c.args.paths.now) (g.P.Paths.stands c.args.paths.now) (g.P.Paths.lists c.args.paths.now) in
+    let k = conditions (version_of g.L.Layout.format) c.args.session.profile c.args.session.limits in
+    left_shell store (g.P.Paths.leaves c.args.paths.now) c.args.session.connection c.serve_lines-answered.new.session.connection
+    _ _ _ (DoesShell store at g.L.Layout.format k (g.R.Source.remaining c.args.input.now)) c.serve_lines-answered.result c.end_session.result c.end_session.ensures.ends c.serve_lines-answered.ensures.does

@@ -1,7 +1,8 @@
 use Rattle.std.proofs.Common.{◌≡◌, false}
 use Rattle.std.specs.Prelude.{IfOk, OnErr}
 use Rattle.zeb_paths.specs.Walks.{telling}
-use Rattle.zeb_program.specs.PrivateWordRuns.{ServesIn, StopsServing}
+use Rattle.zeb_program.specs.Doing.{DoesShell}
+use Rattle.zeb_program.specs.PrivateWordRuns.{LeavesHeld, ServesIn, StopsServing}
 use Rattle.zeb_program.proofs.LayoutLemmas.{in_blocks, in_leaves}
 use Rattle.zeb_program.proofs.register_lines.serve_on.Goals as goal
 
@@ -38,3 +39,16 @@ returns-in-Leaves-clause-stopped g c =
     → StopsServing g.P.Store.Store (g.P.Paths.leaves c.args.paths.now) (telling (g.P.Paths.tells c.args.paths.now) (g.P.Paths.stands c.args.paths.now) (g.P.Paths.lists c.args.paths.now)) format k (g.R.Source.remaining c.args.input.now) (g.R.Source.remaining c.serve_in-in-Leaves.new.input) held
     (g.W.Write.contents c.args.output.now.writer) (g.W.Write.contents c.serve_in-in-Leaves.new.output.writer) (g.V.Write.contents c.args.fault_output.now.writer) (g.V.Write.contents c.serve_in-in-Leaves.new.fault_output.writer)))
     c.args.register.1 session.profile moved.profile session.limits moved.limits session.connection moved.connection c.in-Leaves.is c.to_layout-session.ensures.same c.serve_in-in-Leaves.ensures.stopped
+
+pub returns-in-Blocks-clause-store : goal.returns-in-Blocks-clause-store
+returns-in-Blocks-clause-store g c =
+    let session = c.args.register.0 in
+    in_blocks (λ format k held. LeavesHeld g.P.Store.Store (g.P.Paths.leaves c.args.paths.now) held (DoesShell g.P.Store.Store (telling (g.P.Paths.tells c.args.paths.now) (g.P.Paths.stands c.args.paths.now) (g.P.Paths.lists c.args.paths.now)) format k (g.R.Source.remaining c.args.input.now)))
+    c.args.register.1 session.profile session.limits session.connection c.in-Blocks.is c.serve_in.ensures.store
+
+pub returns-in-Leaves-clause-store : goal.returns-in-Leaves-clause-store
+returns-in-Leaves-clause-store g c =
+    let session = c.args.register.0 in
+    let moved = c.to_layout-session.result in
+    in_leaves (λ format k held. LeavesHeld g.P.Store.Store (g.P.Paths.leaves c.args.paths.now) held (DoesShell g.P.Store.Store (telling (g.P.Paths.tells c.args.paths.now) (g.P.Paths.stands c.args.paths.now) (g.P.Paths.lists c.args.paths.now)) format k (g.R.Source.remaining c.args.input.now)))
+    c.args.register.1 session.profile moved.profile session.limits moved.limits session.connection moved.connection c.in-Leaves.is c.to_layout-session.ensures.same c.serve_in-in-Leaves.ensures.store

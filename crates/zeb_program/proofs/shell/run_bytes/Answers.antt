@@ -1,6 +1,6 @@
 use Rattle.zeb_program.proofs.Cited.{◌∙◌, ap, state, HasCleanDisk, conditions, version_of, first_line, LineOver}
 use Rattle.zeb_paths.specs.Walks.{telling}
-use Rattle.zeb_program.proofs.LineStopLemmas.{stopped_text}
+use Rattle.zeb_program.proofs.DoneLemmas.{done_text, no_text_done}
 use Rattle.zeb_program.proofs.ShellLemmas.{no_text_answer, text_answer}
 use Rattle.zeb_program.proofs.ShellOverLemmas.{no_text_over, text_over}
 use Rattle.zeb_program.proofs.shell.run_bytes.Goals as goal
@@ -33,9 +33,12 @@ returns-clause-over g c =
     (g.W.Write.contents c.args.output.now.writer) (g.W.Write.contents c.run_line.new.output.writer) c.run_line.new.output.failed (HasCleanDisk (state g.S.Store new)) c.run_line.result
     (c.cut_line.ensures.line ∙ ap first_line (c.as_str.ensures.value ∙ ap (λ bytes. bytes.items) c.in-Ok.ensures.ok)) c.run_line.ensures.over
 
-pub returns-clause-stopped : goal.returns-clause-stopped
-returns-clause-stopped g c =
-    let new = c.run_line.new.session.connection in
-    stopped_text g.S.Store (telling (g.P.Paths.tells c.args.paths.now) (g.P.Paths.stands c.args.paths.now) (g.P.Paths.lists c.args.paths.now)) g.L.Layout.format (conditions (version_of g.L.Layout.format) c.args.session.now.profile c.args.session.now.limits) c.args.session.now.connection new
-    c.cut_line.result.0.now (first_line c.args.bytes.items) _ (HasCleanDisk (state g.S.Store new)) _ c.run_line.result
-    (c.cut_line.ensures.line ∙ ap first_line (c.as_str.ensures.value ∙ ap (λ bytes. bytes.items) c.in-Ok.ensures.ok)) c.run_line.ensures.stopped
+pub returns-in_default-clause-does : goal.returns-in_default-clause-does
+returns-in_default-clause-does g c = λ _ alone.
+    no_text_done g.S.Store (telling (g.P.Paths.tells c.args.paths.now) (g.P.Paths.stands c.args.paths.now) (g.P.Paths.lists c.args.paths.now)) g.L.Layout.format (conditions (version_of g.L.Layout.format) c.args.session.now.profile c.args.session.now.limits) c.args.number c.args.bytes.items c.args.session.now.connection (λ text. absurd (cc (c.in_default.ensures.succeeds text))) alone
+
+pub returns-clause-does : goal.returns-clause-does
+returns-clause-does g c =
+    done_text g.S.Store (telling (g.P.Paths.tells c.args.paths.now) (g.P.Paths.stands c.args.paths.now) (g.P.Paths.lists c.args.paths.now)) g.L.Layout.format (conditions (version_of g.L.Layout.format) c.args.session.now.profile c.args.session.now.limits) c.args.session.now.connection c.run_line.new.session.connection
+    c.args.number c.cut_line.result.0.now (first_line c.args.bytes.items) _ _ _ c.run_line.result
+    (c.cut_line.ensures.line ∙ ap first_line (c.as_str.ensures.value ∙ ap (λ bytes. bytes.items) c.in-Ok.ensures.ok)) c.run_line.ensures.does

@@ -1,5 +1,6 @@
 use Rattle.zeb_program.proofs.Cited.{◌≡◌, Err, refl, rules, state, conditions, version_of, LineOver, Memory}
 use Rattle.zeb_paths.specs.Walks.{telling}
+use Rattle.zeb_program.proofs.DoneLemmas.{done_next}
 use Rattle.zeb_program.proofs.LineStopLemmas.{stopped_next, stopped_still}
 use Rattle.zeb_program.proofs.LineInputLemmas.{ends_read}
 use Rattle.zeb_program.proofs.ShellLemmas.{next_answer, next_none, next_some, next_taken, none_read}
@@ -21,6 +22,8 @@ returns-clause-line g c =
       over = λ sound clean. next_over (LineOver g.S.Store (telling (g.P.Paths.tells c.args.paths.now) (g.P.Paths.stands c.args.paths.now) (g.P.Paths.lists c.args.paths.now)) g.L.Layout.format k) c.args.number c.in_ok-status.status c.in_ok-bytes.bytes.items left
           c.args.session.now.connection c.run_bytes.new.session.connection (g.W.Write.contents c.args.output.now.writer) (g.W.Write.contents c.run_bytes.new.output.writer) (g.W.Write.contents c.flush.new.self.writer)
           c.in_ok-bytes.ensures.read.0 (c.in_ok-status.ensures.over (c.flush.ensures.sound sound) clean) (c.flush.ensures.bytes sound);
+      does = λ clean. done_next g.S.Store (telling (g.P.Paths.tells c.args.paths.now) (g.P.Paths.stands c.args.paths.now) (g.P.Paths.lists c.args.paths.now)) g.L.Layout.format k c.args.session.now.connection c.run_bytes.new.session.connection c.args.number c.in_ok-bytes.bytes.items left
+          c.in_ok-bytes.ensures.read.0 (c.in_ok-status.ensures.does clean);
     }
 
 pub returns-then-is_empty-clause-line : goal.returns-then-is_empty-clause-line
@@ -43,6 +46,6 @@ returns-in_err-status-clause-line g c =
     let is : c.from_residual-in_err-status.result ≡ Err Memory = search rules in
     let k = conditions (version_of g.L.Layout.format) c.args.session.now.profile c.args.session.now.limits in
     stops_line _ _ _ c.from_residual-in_err-status.result Memory is (
-      (λ clean. stopped_next g.S.Store (telling (g.P.Paths.tells c.args.paths.now) (g.P.Paths.stands c.args.paths.now) (g.P.Paths.lists c.args.paths.now)) g.L.Layout.format k c.args.session.now.connection c.run_bytes.new.session.connection c.in_ok-bytes.bytes.items (g.R.Source.remaining c.args.input.now) c.in_ok-bytes.ensures.read.0 (c.in_err-status.ensures.stopped.1 clean), ends_read (g.R.Source.remaining c.args.input.now) (g.R.Source.remaining c.read_line.new.source) c.in_ok-bytes.bytes.items c.in_ok-bytes.ensures.read.0 c.in_ok-bytes.ensures.read.1 c.read_line.ensures.bounded),
-      c.in_err-status.ensures.stopped.0,
+      (λ clean. stopped_next g.S.Store (telling (g.P.Paths.tells c.args.paths.now) (g.P.Paths.stands c.args.paths.now) (g.P.Paths.lists c.args.paths.now)) g.L.Layout.format k c.args.session.now.connection c.run_bytes.new.session.connection c.in_ok-bytes.bytes.items (g.R.Source.remaining c.args.input.now) c.in_ok-bytes.ensures.read.0 (c.in_err-status.ensures.does.1 clean), ends_read (g.R.Source.remaining c.args.input.now) (g.R.Source.remaining c.read_line.new.source) c.in_ok-bytes.bytes.items c.in_ok-bytes.ensures.read.0 c.in_ok-bytes.ensures.read.1 c.read_line.ensures.bounded),
+      c.in_err-status.ensures.does.0,
     )

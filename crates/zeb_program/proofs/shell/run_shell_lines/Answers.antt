@@ -1,6 +1,7 @@
 use Rattle.zeb_program.proofs.Cited.{◌≡◌, ◌∙◌, ◌+◌, inr, refl, rules, subst₂, IfErr, IfSome, state, HasCleanDisk, conditions, version_of, Writes, first_line, LineOver, Memory}
 use Rattle.zeb_paths.specs.Walks.{telling}
-use Rattle.zeb_program.specs.Doing.{KeepsUnread}
+use Rattle.zeb_program.specs.Doing.{DoesLine, KeepsUnread}
+use Rattle.zeb_program.proofs.DoneLemmas.{done_unread, none_next, served_line, served_part, served_start}
 use Rattle.zeb_program.proofs.LineStopLemmas.{stopped_still}
 use Rattle.zeb_program.proofs.LineInputLemmas.{ends_before}
 use Rattle.zeb_program.proofs.ShellOverLemmas.{goes_line, goes_start}
@@ -18,6 +19,7 @@ loop-lines_before-init g c =
       sound = λ sound. sound;
       under = (refl, refl);
       clean = λ clean. clean;
+      done = λ _. served_start g.S.Store (telling (g.P.Paths.tells c.args.paths.now) (g.P.Paths.stands c.args.paths.now) (g.P.Paths.lists c.args.paths.now)) g.L.Layout.format k (g.R.Source.remaining c.args.input.now) c.args.session.now.connection;
       over = λ _ _. goes_start (LineOver g.S.Store (telling (g.P.Paths.tells c.args.paths.now) (g.P.Paths.stands c.args.paths.now) (g.P.Paths.lists c.args.paths.now)) g.L.Layout.format k) (g.W.Write.contents c.args.output.now.writer) (g.R.Source.remaining c.args.input.now) c.args.session.now.connection;
       answers = λ _ _. serves_start (g.P.Paths.tells c.args.paths.now) k old (g.W.Write.contents c.args.output.now.writer) (g.R.Source.remaining c.args.input.now);
     }
@@ -41,6 +43,11 @@ loop-lines_before-preserved g c =
       sound = λ sound. c.loop-lines_before.invariant.sound (c.run_next_line.ensures.sound sound);
       under = (c.run_next_line.ensures.stays.0 ∙ same.0, c.run_next_line.ensures.stays.1 ∙ same.1);
       clean = λ clean. c.loop-lines_before.invariant.clean (c.run_next_line.ensures.stays.2 clean);
+      done = λ clean.
+          let step = subst₂ (λ p l. IfSome left (λ text. DoesLine g.S.Store at g.L.Layout.format (conditions (version_of g.L.Layout.format) p l) (n + 1) (first_line text)
+          c.loop-lines_before.session.connection c.run_next_line.new.session.connection)) same.0 same.1 (line.does clean) in
+          served_line g.S.Store at g.L.Layout.format k (g.R.Source.remaining c.args.input.now) left (g.R.Source.remaining c.run_next_line.new.input) n c.args.session.now.connection
+          c.loop-lines_before.session.connection c.run_next_line.new.session.connection line.some line.taken step (c.loop-lines_before.invariant.done (c.run_next_line.ensures.stays.2 clean));
       over = λ sound clean.
           let step = subst₂ (λ p l. IfSome left (λ text. Writes mid writes (λ bytes. LineOver g.S.Store at g.L.Layout.format (conditions (version_of g.L.Layout.format) p l)
           (n + 1) (first_line text) c.loop-lines_before.session.connection bytes c.in-Some.status c.run_next_line.new.session.connection))) same.0 same.1 (line.over sound clean) in
@@ -92,3 +99,58 @@ returns-clause-stopped g c = λ sound clean.
     text_stopped g.S.Store (telling (g.P.Paths.tells c.args.paths.now) (g.P.Paths.stands c.args.paths.now) (g.P.Paths.lists c.args.paths.now)) g.L.Layout.format k Memory (g.W.Write.contents c.args.output.now.writer) (g.W.Write.contents c.loop-lines_before.output.writer)
     (g.R.Source.remaining c.args.input.now) left left c.loop-lines_before.lines_before c.loop-lines_before.greatest c.args.session.now.connection c.loop-lines_before.session.connection c.loop-lines_before.session.connection (stopped_still g.S.Store (telling (g.P.Paths.tells c.args.paths.now) (g.P.Paths.stands c.args.paths.now) (g.P.Paths.lists c.args.paths.now)) g.L.Layout.format k Memory left c.loop-lines_before.session.connection)
     (ends_before left) (c.loop-lines_before.invariant.over sound clean) (c.loop-lines_before.invariant.answers sound clean)
+
+-- A write failed: no further line is run.
+pub returns-then-has_failed-clause-does : goal.returns-then-has_failed-clause-does
+returns-then-has_failed-clause-does g c = λ clean.
+    let at = (telling (g.P.Paths.tells c.args.paths.now) (g.P.Paths.stands c.args.paths.now) (g.P.Paths.lists c.args.paths.now)) in
+    let k = conditions (version_of g.L.Layout.format) c.args.session.now.profile c.args.session.now.limits in
+    let given = g.R.Source.remaining c.args.input.now in
+    let left = g.R.Source.remaining c.loop-lines_before.input in
+    let held = c.loop-lines_before.session.connection in (
+      c.loop-lines_before.invariant.clean clean,
+      served_part g.S.Store at g.L.Layout.format k given left c.loop-lines_before.lines_before c.args.session.now.connection held held (none_next g.S.Store at g.L.Layout.format k left held) (c.loop-lines_before.invariant.done clean),
+    )
+
+pub returns-in-None-clause-does : goal.returns-in-None-clause-does
+returns-in-None-clause-does g c =
+    let idle = found_end _ _ c.in_ok-status.field-0 c.in-None.is c.in_ok-status.ensures.line in
+    let at = (telling (g.P.Paths.tells c.args.paths.now) (g.P.Paths.stands c.args.paths.now) (g.P.Paths.lists c.args.paths.now)) in
+    let k = conditions (version_of g.L.Layout.format) c.args.session.now.profile c.args.session.now.limits in
+    let given = g.R.Source.remaining c.args.input.now in
+    let left = g.R.Source.remaining c.loop-lines_before.input in
+    let held = c.loop-lines_before.session.connection in
+    rw idle.2
+    (λ clean. (
+      c.loop-lines_before.invariant.clean clean,
+      served_part g.S.Store at g.L.Layout.format k given left c.loop-lines_before.lines_before c.args.session.now.connection held held (none_next g.S.Store at g.L.Layout.format k left held) (c.loop-lines_before.invariant.done clean),
+    ))
+
+pub returns-in_err-status-clause-does : goal.returns-in_err-status-clause-does
+returns-in_err-status-clause-does g c = λ clean.
+    let at = (telling (g.P.Paths.tells c.args.paths.now) (g.P.Paths.stands c.args.paths.now) (g.P.Paths.lists c.args.paths.now)) in
+    let k = conditions (version_of g.L.Layout.format) c.args.session.now.profile c.args.session.now.limits in
+    let given = g.R.Source.remaining c.args.input.now in
+    let left = g.R.Source.remaining c.loop-lines_before.input in
+    let held = c.loop-lines_before.session.connection in
+    let new = c.run_next_line.new.session.connection in
+    let why = c.in_err-status.field-0.0 in
+    let same = c.loop-lines_before.invariant.under in
+    let before = c.run_next_line.ensures.stays.2 clean in (
+      c.loop-lines_before.invariant.clean before,
+      served_part g.S.Store at g.L.Layout.format k given left c.loop-lines_before.lines_before c.args.session.now.connection held new
+          (done_unread g.S.Store at g.L.Layout.format k held new why left
+          (subst₂ (λ p l. IfSome left (λ text. KeepsUnread g.S.Store at g.L.Layout.format (conditions (version_of g.L.Layout.format) p l) why text held new)) same.0 same.1 (c.in_err-status.ensures.line.0.0 clean)))
+          (c.loop-lines_before.invariant.done before),
+    )
+
+pub returns-clause-does : goal.returns-clause-does
+returns-clause-does g c = λ clean.
+    let at = (telling (g.P.Paths.tells c.args.paths.now) (g.P.Paths.stands c.args.paths.now) (g.P.Paths.lists c.args.paths.now)) in
+    let k = conditions (version_of g.L.Layout.format) c.args.session.now.profile c.args.session.now.limits in
+    let given = g.R.Source.remaining c.args.input.now in
+    let left = g.R.Source.remaining c.loop-lines_before.input in
+    let held = c.loop-lines_before.session.connection in (
+      c.loop-lines_before.invariant.clean clean,
+      served_part g.S.Store at g.L.Layout.format k given left c.loop-lines_before.lines_before c.args.session.now.connection held held (none_next g.S.Store at g.L.Layout.format k left held) (c.loop-lines_before.invariant.done clean),
+    )

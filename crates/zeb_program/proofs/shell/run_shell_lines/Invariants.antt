@@ -1,5 +1,6 @@
 use Rattle.zeb_program.proofs.Cited.{◌≡◌, false, state, HasCleanDisk, conditions, version_of, LineOver}
 use Rattle.zeb_paths.specs.Walks.{telling}
+use Rattle.zeb_program.proofs.DoneLemmas.{HasServed}
 use Rattle.zeb_program.proofs.ShellLemmas.{Serves}
 use Rattle.zeb_program.proofs.ShellOverLemmas.{Goes}
 use Rattle.zeb_program.proofs.shell.run_shell_lines.Given as goal
@@ -13,6 +14,9 @@ invariant-loop-lines_before g l =
       sound : l.output.failed ≡ false → l.initial.output.failed ≡ false;
       under : (l.session.profile ≡ before.profile) × (l.session.limits ≡ before.limits);
       clean : HasCleanDisk (state g.S.Store l.session.connection) → HasCleanDisk (state g.S.Store before.connection);
+      done : HasCleanDisk (state g.S.Store l.session.connection)
+          → HasServed g.S.Store (telling (g.P.Paths.tells l.paths) (g.P.Paths.stands l.paths) (g.P.Paths.lists l.paths)) g.L.Layout.format (conditions (version_of g.L.Layout.format) before.profile before.limits)
+          (g.R.Source.remaining l.initial.input) (g.R.Source.remaining l.input) l.lines_before before.connection l.session.connection;
       over : l.output.failed ≡ false → HasCleanDisk (state g.S.Store l.session.connection)
           → Goes (LineOver g.S.Store (telling (g.P.Paths.tells l.paths) (g.P.Paths.stands l.paths) (g.P.Paths.lists l.paths)) g.L.Layout.format (conditions (version_of g.L.Layout.format) before.profile before.limits))
           (g.W.Write.contents l.initial.output.writer) (g.W.Write.contents l.output.writer) (g.R.Source.remaining l.initial.input) (g.R.Source.remaining l.input) l.lines_before l.greatest

@@ -12,6 +12,11 @@ loop-term-preserved-in-Continue-1 c =
     subst (AreTaken c.args.index c.args.register c.args.wanted (c.loop-term.yielded ++ t ∷ [])) (sym c.in_ok-push.ensures.items)
     (one_taken c.args.index c.args.register c.args.wanted c.loop-term.yielded c.loop-term.keys.items t wanted c.loop-term.invariant)
 
+pub loop-term-preserved-else-takes : goal.loop-term-preserved-else-takes
+loop-term-preserved-else-takes c =
+    one_left c.args.index c.args.register c.args.wanted c.loop-term.yielded c.loop-term.keys.items c.in-Some.field-0
+    (λ wanted. let never = c.if-takes.ensures.1 (subst (IsWanted c.args.wanted) (sym c.as_str.ensures) wanted) in cc) c.loop-term.invariant
+
 pub loop-term-preserved : goal.loop-term-preserved
 loop-term-preserved c =
     one_left c.args.index c.args.register c.args.wanted c.loop-term.yielded c.loop-term.keys.items c.in-Some.field-0

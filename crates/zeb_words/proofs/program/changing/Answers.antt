@@ -3,6 +3,6 @@ use Rattle.zeb_words.proofs.program.changing.Goals as goal
 
 pub returns-clause-app : goal.returns-clause-app
 returns-clause-app c =
-    let is : rule_of c.required-paths.result ≡ path_rule = search rules in
-    let local : c.required-paths.result.global ≡ false = search rules in
+    let is : rule_of c.help-paths.result ≡ path_rule = search rules in
+    let local : c.help-paths.result.global ≡ false = search rules in
     IfOk-weaker c.arg.result _ _ (λ command h. h.shape local ∙ ap₂ with_rule c.plain.ensures.app is) c.arg.ensures

@@ -11,6 +11,15 @@ loop-key-preserved c =
           c.in_ok-push.ensures.items c.in-Some.ensures.taken (record { key = refl; many = c.in_ok-counts.ensures.many; told = c.in_ok-counts.ensures.told }) c.loop-key.invariant.so_far;
     }
 
+pub loop-key-preserved-else-changes-ge-RUN_CHANGES : goal.loop-key-preserved-else-changes-ge-RUN_CHANGES
+loop-key-preserved-else-changes-ge-RUN_CHANGES c =
+    let taken : TakenKey = record { key = c.in-Some.key; counts = c.in_ok-counts.counts; places = c.in_ok-counts.places } in
+    record {
+      few = omega (arith, c.if-changes-ge-RUN_CHANGES.false);
+      so_far = one_taken c.loop-key.run.items c.push.new.self.items taken c.in-Some.key c.in-Some.notes c.args.self.now c.loop-key.self c.take_first.new.self
+          c.in_ok-push.ensures.items c.in-Some.ensures.taken (record { key = refl; many = c.in_ok-counts.ensures.many; told = c.in_ok-counts.ensures.told }) c.loop-key.invariant.so_far;
+    }
+
 pub returns-then-changes-ge-RUN_CHANGES-clause-taken : goal.returns-then-changes-ge-RUN_CHANGES-clause-taken
 returns-then-changes-ge-RUN_CHANGES-clause-taken c =
     let taken : TakenKey = record { key = c.in-Some.key; counts = c.in_ok-counts.counts; places = c.in_ok-counts.places } in

@@ -6,4 +6,4 @@ use Rattle.zeb_packed.proofs.statements.many.block_values.Goals as goal
 pub loop-one-preserved : goal.loop-one-preserved
 loop-one-preserved c =
     c.in_ok-add_block_values.ensures.added ∙ ap (λ (l : Row). l ++ new_block_row c.args.db.0 c.one-item.result) c.loop-one.invariant
-    ∙ sym (one_more c.args.db.0 c.args.blocks.now c.loop-one.one-index c.one-item.result c.loop-one-test.true c.one-item.is)
+    ∙ sym (one_more (new_block_row c.args.db.0) c.args.blocks.now c.loop-one.one-index c.one-item.result c.loop-one-test.true c.one-item.is)

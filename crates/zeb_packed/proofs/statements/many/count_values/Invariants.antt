@@ -1,0 +1,8 @@
+-- The values of the rows so far.
+use Rattle.zeb_packed.proofs.Cited.{◌≡◌, map, take}
+use Rattle.sqlite.specs.Values.{bound}
+use Rattle.zeb_packed.specs.PrivateNewRows.{joined, new_count_row}
+use Rattle.zeb_packed.proofs.statements.many.count_values.Given as goal
+
+abbrev pub invariant-loop-one : goal.invariant-loop-one
+invariant-loop-one l = bound l.values.items ≡ joined (map (new_count_row l.db.0) (take l.one-index l.counts))
