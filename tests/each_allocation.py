@@ -55,7 +55,6 @@ ALL = {
         "texts::texts_are_read",
         "texts::texts_are_read_as_by_another_program",
         "profiles::profiles_are_read",
-        "extraction::records_are_extracted",
         "analyses::analyses_are_made",
     ],
     "tables": ["tests::memory::one_request_for_memory_may_be_refused"],

@@ -71,7 +71,7 @@ x -> zebraidx: bad line 10; 2";
 /// Words that read no input.
 static WORDS: &str = "\
 find|@attr 1=4 moby -> hits 1; 1 a1
-drop|X -> 1: diagnostic 235 at 0: X
+drop|X -> 1: diagnostic 235 at 0: X; 1: cause: database does not exist
 update|missing -> 3: cannot read missing
 create|a/b -> 2: bad usage; \
 2: cause: a database's name has 1 to 64 ASCII letters, digits, '-', '_' and '.', and no others";

@@ -70,17 +70,15 @@ impl<'a> Damages<'a> {
     fn add_refused_upgrades(&self, story: &mut String, kept: Kept) -> Result<(), AllocError> {
         let check = self.check;
         let own = if check == DAMAGED { SOUND } else { check };
-        match kept {
-            Kept::Plain => {
-                write!(story, "packed zebra.cfg\nupgrade -> {check}\nsame\n")?;
-                write!(story, "leaves zebra.cfg\nupgrade -> {check}\nsame\n")
-            }
-            Kept::Packed => {
-                write!(story, "packed zebra.cfg\nupgrade -> {own}\nsame\n")?;
-                write!(story, "leaves zebra.cfg\nupgrade -> {check}\nsame\n")
-            }
-            Kept::Leaves => write!(story, "leaves zebra.cfg\nupgrade -> {own}\nsame\n"),
+        let (packed, leaves) = match kept {
+            Kept::Plain => (check, check),
+            Kept::Packed => (own, check),
+            Kept::Leaves => (SOUND, own),
+        };
+        if !matches!(kept, Kept::Leaves) {
+            write!(story, "packed zebra.cfg\nupgrade -> {packed}\nsame\n")?;
         }
+        write!(story, "leaves zebra.cfg\nupgrade -> {leaves}\nsame\n")
     }
 }
 

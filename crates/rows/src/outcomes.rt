@@ -27,7 +27,8 @@ impl Outcome {
     }
 
     /// What an answer says: lines with `; ` between, or `nothing`. `S: TEXT` is the status S and a line `zebraidx: TEXT`, on the fault output
-    /// where words are run, and `status S` that status alone; `bytes of FILE` are those, and at `...` lines may follow.
+    /// where words are run, and `status S` that status alone; `below: TEXT` is a line `zebraidx: TEXT` there, whatever is run; `bytes of FILE`
+    /// are those, and at `...` lines may follow.
     pub fn read(folder: &Folder, answer: &str, is_words: bool) -> Result<Outcome, Fault> {
         let mut wanted = Outcome::new(folder.alloc, 0, Vec::new(folder.alloc));
         if answer == "nothing" {
@@ -50,6 +51,10 @@ impl Outcome {
         }
         if let Some(digit) = line.strip_prefix("status ") {
             return self.raise(digit);
+        }
+        if let Some(text) = line.strip_prefix("below: ") {
+            let line = ["zebraidx: ", text].concat(folder.alloc)?;
+            return add_ended(folder.alloc, &mut self.faults, &line);
         }
         let Some((digit, text)) = refusal(line) else {
             return add_ended(folder.alloc, &mut self.output, line);

@@ -1,12 +1,11 @@
 //! Worked blocks of postings both ways, bytes that are refused, and the longest numbers.
-ghost use Rattle.std.specs.Prelude.{◌≡◌, ◌<◌, ◌^◌, length};
+ghost use Rattle.std.specs.Prelude.{◌<◌, ◌^◌, length};
 ghost use Rattle.zeb_blocks.specs.Blocks.{BlockSpells};
-ghost use Rattle.zeb_blocks.specs.Worked.{at};
 
 use crate::rows::rows_hold;
 use std::alloc::{AllocError, Global};
 use std::test::Fail;
-use zeb_blocks::{BlockWriter, Damaged, Posting, Postings, push_block, spell};
+use zeb_blocks::{Damaged, Posting, Postings, push_block, spell};
 
 /// A block's number and its bytes, and the postings that they spell there: system number, unit and place.
 static ROWS: &str = "\
@@ -97,19 +96,4 @@ fn answer(alloc: Global, text: &str) -> Result<String, AllocError> {
 #[test]
 fn blocks_are_read_and_written(rt: HostRuntime) -> Result<(), Fail> {
     rows_hold(rt.alloc(), ROWS, answer)
-}
-
-/// The posting with these numbers.
-fn posting(sysno: u64, seq: u64, pos: u64) -> Posting
-    ensures { result ≡ at sysno seq pos }
-{
-    Posting { sysno, seq, pos }
-}
-
-#[test]
-fn a_block_is_written_posting_by_posting(rt: HostRuntime) -> Result<(), Fail> {
-    let mut writer = BlockWriter::new(rt.alloc(), 1);
-    writer.push(posting(256, 2, 2))?;
-    assert!(rt; writer.into_bytes().as_slice() == [0, 2, 2].as_slice());
-    Ok(())
 }

@@ -73,14 +73,6 @@ pub fn bytes_of(alloc: Global, parts: &str) -> Result<Vec<u8>, AllocError> {
     Ok(bytes)
 }
 
-/// A number, or `none`.
-pub fn or_none(alloc: Global, number: Option<u64>) -> Result<String, AllocError> {
-    match number {
-        Some(number) => number.to_string(alloc),
-        None => String::from_str(alloc, "none"),
-    }
-}
-
 /// Bytes of a record as a text.
 pub fn text_of(bytes: &[u8]) -> &str {
     str::from_utf8(bytes).unwrap_or("no text")

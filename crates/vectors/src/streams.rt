@@ -13,20 +13,12 @@ use zeb_marc::{FromRead, Marc, MarcFault, RecordBuf, Slice, Source, next_record}
 /// bytes at a time, by one that is `failing` behind the last byte or `interrupted` once before the first, or `bytewise`, by one of single bytes
 /// that fails behind the last, and then it is told how often it was asked.
 static ROWS: &str = "\
-slice  -> end
-slice moby+\r%0a+cafe+ %0a -> moby, cafe, end
 slice moby+\r%0a+cafe+ %0a+cut -> moby, cafe, Truncated, end
 slice moby+\r%0a+cafe+ %0a+\x1a -> moby, cafe, Truncated, end
 slice moby+\r%0a+cafe+ %0a+\x1a\x1a\x1a\x1a\x1a -> moby, cafe, LengthDigits, end
 slice moby+\r%0a+cafe+ %0a+xxxxx -> moby, cafe, LengthDigits, end
 slice moby+\r%0a+cafe+ %0a+00025 -> moby, cafe, LengthRange, end
-slice moby+\x1a -> moby, Truncated, end
-slice moby+xxxxx -> moby, LengthDigits, end
-slice moby+00025 -> moby, LengthRange, end
-slice moby+cut -> moby, Truncated, end
 # A run of separators has a limit.
-slice 65535 * \x20 -> end
-slice 65535 * \x20+moby -> moby, end
 slice 65536 * \x20 -> TooManySeparators, end
 slice 65536 * \x20+moby -> TooManySeparators, moby, end
 slice 65536 * %0a+moby -> TooManySeparators, moby, end

@@ -3,7 +3,7 @@
 mod samples;
 
 use self::samples::READINGS;
-use crate::rows::{or_none, repeated, rows_hold};
+use crate::rows::{repeated, rows_hold};
 use std::alloc::{AllocError, Global};
 use std::test::Fail;
 use zeb_text::{
@@ -148,7 +148,10 @@ fn answer(alloc: Global, text: &str) -> Result<String, AllocError> {
         "read" => reading(alloc, text),
         "join" => join(alloc, &words(alloc, text)?),
         "digits" => key_of_number(alloc, text.parse().unwrap_or(0) % 1_000_000_000_000_000_000),
-        "key" => or_none(alloc, number_of_key(text)),
+        "key" => match number_of_key(text) {
+            Some(number) => number.to_string(alloc),
+            None => String::from_str(alloc, "none"),
+        },
         _ => of_patterns(alloc, asked, text),
     }
 }

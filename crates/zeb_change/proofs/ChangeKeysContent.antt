@@ -1,26 +1,26 @@
 -- The content in which the changed keys of a record, one after the other, have the newer places.
-use Rattle.zeb_change.proofs.Cited.{◌≡◌, ◌≢◌, ◌↔◌, ◌⊎◌, ◌∙◌, ℕ, ℤ, List, [], ◌∷◌, ◌++◌, map, refl, sym, subst, inl, inr, Contains, nat_cmp_total, int_cmp_total, Has, has_contained, contains_had, all_has, has_mapped, mapped_has, Key, Occurrence, key_order, key_total, keys_apart, numbers_apart, Place, Content, HasRisingLists, posting_at, ArePlacesOf, Posting, Trees, KeepsLists, never_itself, told_by, changed_at, change_is, same_content, integers_apart, ChangedKey, ArePostingsOf, IsReposted, occurrence_at, AreChangedKeys, key_in}
+use Rattle.zeb_change.proofs.Cited.{◌≡◌, ◌≢◌, ◌↔◌, ◌⊎◌, ◌∙◌, ℕ, ℤ, List, [], ◌∷◌, ◌++◌, map, refl, sym, subst, inl, inr, Contains, nat_cmp_total, int_cmp_total, Has, has_contained, contains_had, all_has, has_mapped, mapped_has, Key, Occurrence, key_order, key_total, keys_apart, numbers_apart, Place, Content, HasRisingLists, posting_at, ArePlacesOf, Posting, Trees, KeepsLists, never_itself, told_by, changed_at, change_is, same_content, integers_apart, ChangedKey, ArePostingsOf, IsReposted, occurrence_at, AreChangedKeys, key_in, new_in, old_in}
 use Rattle.std.proofs.Common.{Less}
 use Rattle.std.specs.List.Sorted.{IsStrictlySortedBy}
 
 pub moved : ℤ → ℕ → List ChangedKey → Content → Content
 moved db sysno [] content = content
-moved db sysno (c ∷ changed) content = moved db sysno changed (changed_at db (key_in c) sysno c.new.items content)
+moved db sysno (c ∷ changed) content = moved db sysno changed (changed_at db (key_in c) sysno (new_in c) content)
 
 pub moved_none : (db : ℤ) (sysno : ℕ) (content : Content) → moved db sysno [] content ≡ content
 unfolding moved
 moved_none db sysno content = refl
 
 pub moved_more : (db : ℤ) (sysno : ℕ) (changed : List ChangedKey) (c : ChangedKey) (content : Content)
-    → moved db sysno (changed ++ c ∷ []) content ≡ changed_at db (key_in c) sysno c.new.items (moved db sysno changed content)
+    → moved db sysno (changed ++ c ∷ []) content ≡ changed_at db (key_in c) sysno (new_in c) (moved db sysno changed content)
 unfolding moved
 moved_more db sysno [] c content = refl
-moved_more db sysno (first ∷ changed) c content = moved_more db sysno changed c (changed_at db (key_in first) sysno first.new.items content)
+moved_more db sysno (first ∷ changed) c content = moved_more db sysno changed c (changed_at db (key_in first) sysno (new_in first) content)
 
 pub moved_rises : (db : ℤ) (sysno : ℕ) (changed : List ChangedKey) (content : Content) → HasRisingLists content → HasRisingLists (moved db sysno changed content)
 unfolding moved
 moved_rises db sysno [] content up = up
-moved_rises db sysno (c ∷ changed) content up = moved_rises db sysno changed _ (change_is db (key_in c) sysno c.new.items content up).rising
+moved_rises db sysno (c ∷ changed) content up = moved_rises db sysno changed _ (change_is db (key_in c) sysno (new_in c) content up).rising
 
 -- what is no posting of the record in the database is as it was
 pub moved_others : (db : ℤ) (sysno : ℕ) (changed : List ChangedKey) (content : Content) → HasRisingLists content → (d : ℤ) (key : Key) (p : Posting) → ¬ ((d ≡ db) × (p.sysno ≡ sysno))
@@ -28,9 +28,9 @@ pub moved_others : (db : ℤ) (sysno : ℕ) (changed : List ChangedKey) (content
 unfolding moved
 moved_others db sysno [] content up d key p other = (λ h. h, λ h. h)
 moved_others db sysno (c ∷ changed) content up d key p other =
-    let change = change_is db (key_in c) sysno c.new.items content up in
+    let change = change_is db (key_in c) sysno (new_in c) content up in
     let here = change.others d key p (λ h. other (h.0, h.2)) in
-    let later = moved_others db sysno changed (changed_at db (key_in c) sysno c.new.items content) change.rising d key p other in
+    let later = moved_others db sysno changed (changed_at db (key_in c) sysno (new_in c) content) change.rising d key p other in
     (λ h. here.0 (later.0 h), λ h. later.1 (here.1 h))
 
 -- a key that isn't changed has the postings that it had
@@ -39,9 +39,9 @@ pub moved_beside : (db : ℤ) (sysno : ℕ) (changed : List ChangedKey) (content
 unfolding moved
 moved_beside db sysno [] content up key none p = (λ h. h, λ h. h)
 moved_beside db sysno (c ∷ changed) content up key none p =
-    let change = change_is db (key_in c) sysno c.new.items content up in
+    let change = change_is db (key_in c) sysno (new_in c) content up in
     let here = change.others db key p (λ h. none (inl h.1)) in
-    let later = moved_beside db sysno changed (changed_at db (key_in c) sysno c.new.items content) change.rising key (λ h. none (inr h)) p in
+    let later = moved_beside db sysno changed (changed_at db (key_in c) sysno (new_in c) content) change.rising key (λ h. none (inr h)) p in
     (λ h. here.0 (later.0 h), λ h. later.1 (here.1 h))
 
 -- the first of rising keys is no later one
@@ -55,22 +55,22 @@ later_rise first keys up = up.1
 
 -- a changed key has its newer places
 pub moved_part : (db : ℤ) (sysno : ℕ) (changed : List ChangedKey) (content : Content) → HasRisingLists content → IsStrictlySortedBy key_order (map key_in changed)
-    → (c : ChangedKey) → Has changed c → ArePlacesOf sysno c.new.items (moved db sysno changed content db (key_in c))
+    → (c : ChangedKey) → Has changed c → ArePlacesOf sysno (new_in c) (moved db sysno changed content db (key_in c))
 unfolding moved
 moved_part db sysno [] content up once c there = absurd there
-moved_part db sysno (first ∷ changed) content up once c (inl same) = subst (λ (z : ChangedKey). ArePlacesOf sysno z.new.items (moved db sysno changed now db (key_in z))) (sym same) here
+moved_part db sysno (first ∷ changed) content up once c (inl same) = subst (λ (z : ChangedKey). ArePlacesOf sysno (new_in z) (moved db sysno changed now db (key_in z))) (sym same) here
   where
     now : Content
-    now = changed_at db (key_in first) sysno first.new.items content
+    now = changed_at db (key_in first) sysno (new_in first) content
 
-    here : ArePlacesOf sysno first.new.items (moved db sysno changed now db (key_in first))
+    here : ArePlacesOf sysno (new_in first) (moved db sysno changed now db (key_in first))
     here place =
-        let change = change_is db (key_in first) sysno first.new.items content up in
+        let change = change_is db (key_in first) sysno (new_in first) content up in
         let still = moved_beside db sysno changed now change.rising (key_in first) (first_alone (key_in first) (map key_in changed) once) (posting_at sysno place) in
         let part = change.part place in
         (λ h. still.1 (part.0 h), λ h. part.1 (still.0 h))
 moved_part db sysno (first ∷ changed) content up once c (inr later) =
-    moved_part db sysno changed (changed_at db (key_in first) sysno first.new.items content) (change_is db (key_in first) sysno first.new.items content up).rising
+    moved_part db sysno changed (changed_at db (key_in first) sysno (new_in first) content) (change_is db (key_in first) sysno (new_in first) content up).rising
     (later_rise (key_in first) (map key_in changed) once) c later
 
 -- whether a key is one of these
@@ -135,7 +135,7 @@ one_reposted db sysno newer before a b left right = same_content a b left.rising
 
 -- a key that is still to be changed has its elder places
 pub still_old : (db : ℤ) (sysno : ℕ) (elder newer : List Occurrence) (done rest : List ChangedKey) (c : ChangedKey) (content : Content) → HasRisingLists content
-    → AreChangedKeys elder newer (done ++ c ∷ rest) → ArePostingsOf sysno elder (content db) → ArePlacesOf sysno c.old.items (moved db sysno done content db (key_in c))
+    → AreChangedKeys elder newer (done ++ c ∷ rest) → ArePostingsOf sysno elder (content db) → ArePlacesOf sysno (old_in c) (moved db sysno done content db (key_in c))
 still_old db sysno elder newer done rest c content up are was place =
     let still = moved_beside db sysno done content up (key_in c) (not_yet done are.once) (posting_at sysno place) in
     let told = (are.old c (contains_had (done ++ c ∷ rest) c (in_middle done))).each place in

@@ -1,5 +1,5 @@
 -- What is counted for the keys of records, one record after the other.
-use Rattle.zeb_change.proofs.Cited.{◌≡◌, ◌↔◌, ◌∙◌, ◌+◌, ℕ, List, [], Option, Some, None, Result, Ok, Err, OnOk, map, length, inl, inr, refl, sym, ap, subst, subst₂, arith, length-map, Contains, has_contained, contains_had, has_mapped, Row, Trees, Occurrence, Place, Work, Format, plain_rows, packed_blocks, packed_leaves, blocks_tree, works_both, works_for, works_none, same_list, ChangedKey, Directive, Elder, place_total, Base, kept_as, IsElderAs, elder_bytes, AreOccurrencesOf, IsRecordCost, bytes_of, newer_of, occurs_by, IsCostIn, Kind, ident_in, Pending, IsDueFor, IsNothingNoted, noted_count, AreInRange, occurrence_at, AreChangedKeys, key_in}
+use Rattle.zeb_change.proofs.Cited.{◌≡◌, ◌↔◌, ◌∙◌, ◌+◌, ℕ, List, [], Option, Some, None, Result, Ok, Err, OnOk, map, length, inl, inr, refl, sym, ap, subst, subst₂, arith, length-map, Contains, has_contained, contains_had, has_mapped, Row, Trees, Occurrence, Place, Work, Format, plain_rows, packed_blocks, packed_leaves, blocks_tree, works_both, works_for, works_none, same_list, ChangedKey, Directive, Elder, place_total, Base, kept_as, IsElderAs, elder_bytes, AreOccurrencesOf, IsRecordCost, bytes_of, newer_of, occurs_by, IsCostIn, Kind, ident_in, Pending, IsDueFor, IsNothingNoted, noted_count, AreInRange, occurrence_at, AreChangedKeys, key_in, new_in, old_in}
 use Rattle.std.specs.List.Sorted.{IsStrictlySortedBy}
 use Rattle.zeb_change.proofs.NotedChanges.{nothing_count}
 use Rattle.zeb_change.proofs.ChangeKeysContent.{told_key}
@@ -75,7 +75,7 @@ keys_cost elder newer changed are = record {
         let new = are.new c in_it in
         let both : (place : Place) → Contains elder (occurrence_at (key_in c) place) ↔ Contains newer (occurrence_at (key_in c) place) =
         λ place. subst (λ k. Contains elder (occurrence_at k place) ↔ Contains newer (occurrence_at k place)) from.2 (same place.seq place.pos) in
-        are.differ c in_it (same_list place_total c.old.items c.new.items old.rising new.rising
+        are.differ c in_it (same_list place_total (old_in c) (new_in c) old.rising new.rising
         (λ place h. (new.each place).1 ((both place).0 ((old.each place).0 h)))
         (λ place h. (old.each place).1 ((both place).1 ((new.each place).0 h)))),
     λ differ. elim (told_key (map key_in changed) key) [

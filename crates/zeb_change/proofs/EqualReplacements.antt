@@ -1,5 +1,5 @@
 -- A record that is replaced by the same bytes: it has the occurrences that it had, so no key is changed.
-use Rattle.zeb_change.proofs.Cited.{◌≡◌, ◌∙◌, ℕ, List, [], ◌∷◌, Option, Some, None, Ok, map, if◌then◌else◌, inl, inr, refl, sym, ap, subst, Contains, Has, has_contained, contains_had, Directive, Occurrence, Elder, same_list, place_total, ChangedKey, AreTheSame, occurrence_at, AreChangedKeys, key_in, Updated, Conditions, ident_in, updated, Base, Kept, kept_as, has_ident, IsBase, IsElderAs, elder_bytes}
+use Rattle.zeb_change.proofs.Cited.{◌≡◌, ◌∙◌, ℕ, List, [], ◌∷◌, Option, Some, None, Ok, map, if◌then◌else◌, inl, inr, refl, sym, ap, subst, Contains, Has, has_contained, contains_had, Directive, Occurrence, Elder, same_list, place_total, ChangedKey, AreTheSame, occurrence_at, AreChangedKeys, key_in, new_in, old_in, Updated, Conditions, ident_in, updated, Base, Kept, kept_as, has_ident, IsBase, IsElderAs, elder_bytes}
 use Rattle.zeb_change.proofs.BaseLemmas.{one_ident}
 use Rattle.zeb_change.proofs.KeptLemmas.{has_same, kept_found, one_found, tests}
 
@@ -10,7 +10,7 @@ none_changed elder newer (c ∷ changed) are same =
     let there = contains_had (c ∷ changed) c (inl refl) in
     let old = are.old c there in
     let new = are.new c there in
-    absurd (are.differ c there (same_list place_total c.old.items c.new.items old.rising new.rising
+    absurd (are.differ c there (same_list place_total (old_in c) (new_in c) old.rising new.rising
     (λ place h. (new.each place).1 ((same (occurrence_at (key_in c) place)).0 ((old.each place).0 h)))
     (λ place h. (old.each place).1 ((same (occurrence_at (key_in c) place)).1 ((new.each place).0 h)))))
 

@@ -1,5 +1,5 @@
 -- Two rising lists of occurrences, cut key by key: what is known of the keys that were cut off so far.
-use Rattle.zeb_change.proofs.Cited.{◌≡◌, ◌≢◌, ◌↔◌, ◌⊎◌, ◌∙◌, List, [], ◌∷◌, ◌++◌, map, refl, sym, ap, subst, subst₂, inl, inr, Equal, Greater, Ordering, slice_get, Some, ordering_then, nat_cmp, tied_itself, map-append, append-nil, append_assoc, Has, has_left, has_right, has_either, contains_had, has_contained, all_has, all_from, Key, Occurrence, key_order, occurrence_order, key_total, keys_apart, Place, place_cmp, never_itself, ChangedKey, occurrence_at, AreChangedKeys, IsAddedIfChanged, key_in, place_in, AreOfKey, BeginsWithKey, Stops, IsNotAbove}
+use Rattle.zeb_change.proofs.Cited.{◌≡◌, ◌≢◌, ◌↔◌, ◌⊎◌, ◌∙◌, List, [], ◌∷◌, ◌++◌, map, refl, sym, ap, subst, subst₂, inl, inr, Equal, Greater, Ordering, slice_get, Some, ordering_then, nat_cmp, tied_itself, map-append, append-nil, append_assoc, Has, has_left, has_right, has_either, contains_had, has_contained, all_has, all_from, Key, Occurrence, key_order, occurrence_order, key_total, keys_apart, Place, place_cmp, never_itself, ChangedKey, occurrence_at, AreChangedKeys, IsAddedIfChanged, key_in, new_in, old_in, place_in, AreOfKey, BeginsWithKey, Stops, IsNotAbove}
 use Rattle.std.proofs.Common.{Less}
 use Rattle.std.specs.List.Sorted.{IsStrictlySortedBy}
 
@@ -69,9 +69,9 @@ run_places key run of place = (
 -- as `AreChangedKeys`, and each is a key of one of the lists
 pub record AreDone (elder newer : List Occurrence) (changed : List ChangedKey) : Type 0 where
   pub once : IsStrictlySortedBy key_order (map key_in changed)
-  pub old : (c : ChangedKey) → Has changed c → IsStrictlySortedBy place_cmp c.old.items × ((place : Place) → Has c.old.items place ↔ Has elder (occurrence_at (key_in c) place))
-  pub new : (c : ChangedKey) → Has changed c → IsStrictlySortedBy place_cmp c.new.items × ((place : Place) → Has c.new.items place ↔ Has newer (occurrence_at (key_in c) place))
-  pub differ : (c : ChangedKey) → Has changed c → c.old.items ≢ c.new.items
+  pub old : (c : ChangedKey) → Has changed c → IsStrictlySortedBy place_cmp (old_in c) × ((place : Place) → Has (old_in c) place ↔ Has elder (occurrence_at (key_in c) place))
+  pub new : (c : ChangedKey) → Has changed c → IsStrictlySortedBy place_cmp (new_in c) × ((place : Place) → Has (new_in c) place ↔ Has newer (occurrence_at (key_in c) place))
+  pub differ : (c : ChangedKey) → Has changed c → old_in c ≢ new_in c
   pub others : (key : Key) → ¬ Has (map key_in changed) key → (place : Place) → Has elder (occurrence_at key place) ↔ Has newer (occurrence_at key place)
   pub known : (c : ChangedKey) → Has changed c → (o : Occurrence) × (Has elder o ⊎ Has newer o) × (o.key ≡ key_in c)
 
@@ -153,7 +153,7 @@ module _ (key : Key) (elder newer run_elder run_newer : List Occurrence) (change
       (from.0, elim from.1 [ inl e ↦ inl (has_left elder run_elder _ e) | inr n ↦ inr (has_left newer run_newer _ n) ], from.2)
 
   old_still : (c : ChangedKey) → Has changed c
-      → IsStrictlySortedBy place_cmp c.old.items × ((place : Place) → Has c.old.items place ↔ Has (elder ++ run_elder) (occurrence_at (key_in c) place))
+      → IsStrictlySortedBy place_cmp (old_in c) × ((place : Place) → Has (old_in c) place ↔ Has (elder ++ run_elder) (occurrence_at (key_in c) place))
   old_still c h = let is = done.old c h in (
     is.0,
     λ place. let same = beside key (key_in c) elder run_elder place of_elder (changed_differs c h) in
@@ -161,7 +161,7 @@ module _ (key : Key) (elder newer run_elder run_newer : List Occurrence) (change
   )
 
   new_still : (c : ChangedKey) → Has changed c
-      → IsStrictlySortedBy place_cmp c.new.items × ((place : Place) → Has c.new.items place ↔ Has (newer ++ run_newer) (occurrence_at (key_in c) place))
+      → IsStrictlySortedBy place_cmp (new_in c) × ((place : Place) → Has (new_in c) place ↔ Has (newer ++ run_newer) (occurrence_at (key_in c) place))
   new_still c h = let is = done.new c h in (
     is.0,
     λ place. let same = beside key (key_in c) newer run_newer place of_newer (changed_differs c h) in
@@ -194,14 +194,14 @@ module _ (key : Key) (elder newer run_elder run_newer : List Occurrence) (change
           subst (λ z. Has to (occurrence_at z place)) (sym is) ((run_places key to of_to place).0 (subst (λ ps. Has ps place) same (has_mapped place_in from (occurrence_at k place) here)))
 
   -- the runs differ, and the key is noted with both
-  module _ (c : ChangedKey) (key_is : key_in c ≡ key) (old_is : c.old.items ≡ map place_in run_elder) (new_is : c.new.items ≡ map place_in run_newer)
-      (differ : c.old.items ≢ c.new.items) (up_elder : IsStrictlySortedBy occurrence_order run_elder) (up_newer : IsStrictlySortedBy occurrence_order run_newer)
+  module _ (c : ChangedKey) (key_is : key_in c ≡ key) (old_is : old_in c ≡ map place_in run_elder) (new_is : new_in c ≡ map place_in run_newer)
+      (differ : old_in c ≢ new_in c) (up_elder : IsStrictlySortedBy occurrence_order run_elder) (up_newer : IsStrictlySortedBy occurrence_order run_newer)
       (some : (o : Occurrence) × (Has run_elder o ⊎ Has run_newer o)) where
-    old_here : IsStrictlySortedBy place_cmp c.old.items × ((place : Place) → Has c.old.items place ↔ Has (elder ++ run_elder) (occurrence_at (key_in c) place))
-    old_here = placed_at elder run_elder c.old.items (key_in c) key old_is key_is of_elder up_elder lacks_elder
+    old_here : IsStrictlySortedBy place_cmp (old_in c) × ((place : Place) → Has (old_in c) place ↔ Has (elder ++ run_elder) (occurrence_at (key_in c) place))
+    old_here = placed_at elder run_elder (old_in c) (key_in c) key old_is key_is of_elder up_elder lacks_elder
 
-    new_here : IsStrictlySortedBy place_cmp c.new.items × ((place : Place) → Has c.new.items place ↔ Has (newer ++ run_newer) (occurrence_at (key_in c) place))
-    new_here = placed_at newer run_newer c.new.items (key_in c) key new_is key_is of_newer up_newer lacks_newer
+    new_here : IsStrictlySortedBy place_cmp (new_in c) × ((place : Place) → Has (new_in c) place ↔ Has (newer ++ run_newer) (occurrence_at (key_in c) place))
+    new_here = placed_at newer run_newer (new_in c) (key_in c) key new_is key_is of_newer up_newer lacks_newer
 
     known_here : (o : Occurrence) × (Has (elder ++ run_elder) o ⊎ Has (newer ++ run_newer) o) × (o.key ≡ key_in c)
     known_here = (
@@ -231,9 +231,9 @@ module _ (key : Key) (elder newer run_elder run_newer : List Occurrence) (change
       once = rw (map-append key_in changed (c ∷ [])) (pushed_rises (map key_in changed) (key_in c) done.once (λ z h.
           let from = has_source key_in changed z h in
           subst (λ k. key_order k (key_in c) ≡ Less) (sym from.2) (rw key_is (changed_below from.0 from.1))));
-      old = either (λ d. IsStrictlySortedBy place_cmp d.old.items × ((place : Place) → Has d.old.items place ↔ Has (elder ++ run_elder) (occurrence_at (key_in d) place))) old_still old_here;
-      new = either (λ d. IsStrictlySortedBy place_cmp d.new.items × ((place : Place) → Has d.new.items place ↔ Has (newer ++ run_newer) (occurrence_at (key_in d) place))) new_still new_here;
-      differ = either (λ d. d.old.items ≢ d.new.items) done.differ differ;
+      old = either (λ d. IsStrictlySortedBy place_cmp (old_in d) × ((place : Place) → Has (old_in d) place ↔ Has (elder ++ run_elder) (occurrence_at (key_in d) place))) old_still old_here;
+      new = either (λ d. IsStrictlySortedBy place_cmp (new_in d) × ((place : Place) → Has (new_in d) place ↔ Has (newer ++ run_newer) (occurrence_at (key_in d) place))) new_still new_here;
+      differ = either (λ d. old_in d ≢ new_in d) done.differ differ;
       others = others_still;
       known = either (λ d. (o : Occurrence) × (Has (elder ++ run_elder) o ⊎ Has (newer ++ run_newer) o) × (o.key ≡ key_in d)) known_still known_here;
     }
@@ -314,17 +314,17 @@ module _ (elder newer left_elder left_newer run_elder run_newer rest_elder rest_
   pub same_run : map place_in run_elder ≡ map place_in run_newer → SoFar elder newer rest_elder rest_newer changed
   same_run same = cut_on changed (same_places key so.cut_elder so.cut_newer run_elder run_newer changed cut_elder.of_key cut_newer.of_key before_below so.done same)
 
-  pub other_run : (c : ChangedKey) → key_in c ≡ key → c.old.items ≡ map place_in run_elder → c.new.items ≡ map place_in run_newer → c.old.items ≢ c.new.items
+  pub other_run : (c : ChangedKey) → key_in c ≡ key → old_in c ≡ map place_in run_elder → new_in c ≡ map place_in run_newer → old_in c ≢ new_in c
       → IsStrictlySortedBy occurrence_order run_elder → IsStrictlySortedBy occurrence_order run_newer → SoFar elder newer rest_elder rest_newer (changed ++ c ∷ [])
   other_run c key_is old_is new_is differ up_elder up_newer =
       cut_on (changed ++ c ∷ []) (noted key so.cut_elder so.cut_newer run_elder run_newer changed cut_elder.of_key cut_newer.of_key before_below so.done c key_is old_is new_is differ up_elder up_newer some)
 
-  pub noted_run : (after : List ChangedKey) → IsAddedIfChanged key (map place_in run_elder) (map place_in run_newer) changed after
+  pub noted_run : (after : List ChangedKey) → IsAddedIfChanged key run_elder run_newer changed after
       → IsStrictlySortedBy occurrence_order run_elder → IsStrictlySortedBy occurrence_order run_newer → SoFar elder newer rest_elder rest_newer after
   noted_run after noted up_elder up_newer = elim noted [
     | inl same ↦ subst (SoFar elder newer rest_elder rest_newer) (sym same.1) (same_run same.0)
     | inr other ↦ let c = other.1.0 in
-        let differ : c.old.items ≢ c.new.items = λ same. other.0 (sym other.1.3 ∙ same ∙ other.1.4) in
+        let differ : old_in c ≢ new_in c = λ same. other.0 (sym other.1.3 ∙ same ∙ other.1.4) in
         subst (SoFar elder newer rest_elder rest_newer) (sym other.1.1) (other_run c other.1.2 other.1.3 other.1.4 differ up_elder up_newer)
   ]
 

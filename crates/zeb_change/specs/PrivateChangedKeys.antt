@@ -23,16 +23,23 @@ pub record ArePlacesIn (occurrences : List Occurrence) (key : Key) (places : Lis
 abbrev pub key_in : ChangedKey → Key
 key_in changed = changed.key.now
 
--- a key is noted with its places in either record, where they differ
-abbrev pub IsAddedIfChanged : Key → List Place → List Place → List ChangedKey → List ChangedKey → Type 0
-IsAddedIfChanged key old new before after = ((old ≡ new) × (after ≡ before))
-    ⊎ ((old ≢ new) × ((c : ChangedKey) × (after ≡ before ++ c ∷ []) × (key_in c ≡ key) × (c.old.items ≡ old) × (c.new.items ≡ new)))
+-- the places that a changed key has in the elder record, and in the newer one
+abbrev pub old_in : ChangedKey → List Place
+old_in changed = map place_in changed.old.now
+
+abbrev pub new_in : ChangedKey → List Place
+new_in changed = map place_in changed.new.now
+
+-- a key is noted with its occurrences in either record, where they differ
+abbrev pub IsAddedIfChanged : Key → List Occurrence → List Occurrence → List ChangedKey → List ChangedKey → Type 0
+IsAddedIfChanged key old new before after = ((map place_in old ≡ map place_in new) × (after ≡ before))
+    ⊎ ((map place_in old ≢ map place_in new) × ((c : ChangedKey) × (after ≡ before ++ c ∷ []) × (key_in c ≡ key) × (old_in c ≡ map place_in old) × (new_in c ≡ map place_in new)))
 
 -- just the keys whose places differ, each once, with their places in either record
 pub record AreChangedKeys (elder newer : List Occurrence) (changed : List ChangedKey) : Type 0 where
   pub once : IsStrictlySortedBy key_order (map key_in changed)
-  pub old : (c : ChangedKey) → Contains changed c → ArePlacesIn elder (key_in c) c.old.items
-  pub new : (c : ChangedKey) → Contains changed c → ArePlacesIn newer (key_in c) c.new.items
-  pub differ : (c : ChangedKey) → Contains changed c → c.old.items ≢ c.new.items
+  pub old : (c : ChangedKey) → Contains changed c → ArePlacesIn elder (key_in c) (old_in c)
+  pub new : (c : ChangedKey) → Contains changed c → ArePlacesIn newer (key_in c) (new_in c)
+  pub differ : (c : ChangedKey) → Contains changed c → old_in c ≢ new_in c
   pub others : (key : Key) → ¬ Contains (map key_in changed) key → (place : Place)
       → Contains elder (occurrence_at key place) ↔ Contains newer (occurrence_at key place)

@@ -1,21 +1,20 @@
 //! The keys whose places differ between two lists of occurrences.
 
-ghost use Rattle.std.specs.Prelude.{◌≡◌, ◌≤◌, ◌⊎◌, length, map, take, drop, IfOk, OnOk, IfSome, IfNone, []};
+ghost use Rattle.std.specs.Prelude.{◌≡◌, ◌≤◌, ◌⊎◌, length, take, drop, IfOk, OnOk, IfSome, IfNone, []};
 ghost use Rattle.zeb_keys.specs.Order.{IsRising};
-ghost use Rattle.zeb_change.specs.PrivateChangedKeys.{AreChangedKeys, IsAddedIfChanged, place_in};
+ghost use Rattle.zeb_change.specs.PrivateChangedKeys.{AreChangedKeys, IsAddedIfChanged};
 ghost use Rattle.zeb_change.specs.PrivateKeyRuns.{BeginsWithKey, AreOfKey, Stops, IsNotAbove};
 
 use std::alloc::{AllocError, Global};
 use std::cmp::Ordering;
 use zeb_keys::{Key, Occurrence, order_is_by_parts};
-use zeb_register::Place;
 
-/// A key with its places in the elder record and in the newer one. Either list rises.
-#[derive(Drop)]
+/// A key with its occurrences in the elder record and in the newer one. Either list rises.
+#[derive(Clone, Copy, Debug)]
 pub(crate) struct ChangedKey<'a> {
     pub key: &'a Key,
-    pub old: Vec<Place>,
-    pub new: Vec<Place>,
+    pub old: &'a [Occurrence],
+    pub new: &'a [Occurrence],
 }
 
 /// How many of the first occurrences are of this key.
@@ -31,19 +30,6 @@ fn run_length(occurrences: &[Occurrence], key: &Key) -> usize
         }
     }
     occurrences.len()
-}
-
-/// The places of some occurrences, in their order.
-fn places_of(alloc: Global, occurrences: &[Occurrence]) -> Result<Vec<Place>, AllocError>
-    ensures { IfOk result (λ places. places.items ≡ map place_in occurrences.now) }
-{
-    occurrences
-        .iter()
-        .map(|occurrence| Place {
-            seq: occurrence.seq,
-            pos: occurrence.pos,
-        })
-        .collect(alloc)
 }
 
 /// The lesser of the keys that two lists begin with.
@@ -66,14 +52,15 @@ fn lesser_key<'a>(old: &'a [Occurrence], new: &'a [Occurrence]) -> Option<&'a Ke
     }
 }
 
-/// Notes a key with its places in either record, where they differ.
+/// Notes a key with its occurrences in either record, where they differ.
 fn note<'a>(
     changed: &mut Vec<ChangedKey<'a>>,
     key: &'a Key,
-    old: Vec<Place>,
-    new: Vec<Place>,
+    old: &'a [Occurrence],
+    new: &'a [Occurrence],
 ) -> Result<(), AllocError>
-    ensures { OnOk result (IsAddedIfChanged key.now old.items new.items changed.old.items
+    ensures { AreOfKey key.now old.now → AreOfKey key.now new.now
+        → OnOk result (IsAddedIfChanged key.now old.now new.now changed.old.items
         changed.new.items) }
 {
     if old != new {
@@ -82,9 +69,9 @@ fn note<'a>(
     Ok(())
 }
 
-/// The keys, in their order, whose places differ between two rising lists of occurrences, each once, with its places in either.
+/// The keys, in their order, whose places differ between two rising lists of occurrences, each once, with its occurrences in either.
 ///
-/// Where there is no elder record, these are the newer one's keys with all their places. An error is want of memory.
+/// Where there is no elder record, these are the newer one's keys with all their occurrences. An error is want of memory.
 pub(crate) fn changed_keys<'a>(
     alloc: Global,
     elder: &'a [Occurrence],
@@ -99,9 +86,7 @@ pub(crate) fn changed_keys<'a>(
     while let Some(key) = lesser_key(elder, newer) {
         let (in_elder, elder_rest) = elder.split_at(run_length(elder, key));
         let (in_newer, newer_rest) = newer.split_at(run_length(newer, key));
-        let old = places_of(alloc, in_elder)?;
-        let new = places_of(alloc, in_newer)?;
-        note(&mut changed, key, old, new)?;
+        note(&mut changed, key, in_elder, in_newer)?;
         elder = elder_rest;
         newer = newer_rest;
     }

@@ -1,10 +1,11 @@
 //! Laws of the definitions that the engine's contracts cite: what follows from these alone, whatever the code does. Each law is a function
-//! with no code, whose contract is the law.
+//! with no code, whose contract is the law. Two functions with code say the headline of each layout.
 #![tactic(auto)]
 
 mod definition_laws;
 mod holding_laws;
 mod laws;
+mod layouts;
 mod renewal_laws;
 
 pub use definition_laws::{
@@ -14,6 +15,7 @@ pub use definition_laws::{
 };
 pub use holding_laws::{a_database_is_in_its_place, the_last_record_stays};
 pub use laws::worked_examples;
+pub use layouts::{lists_of_commands_over_leaves, lists_of_commands_over_packed_blocks};
 pub use renewal_laws::{
     a_check_accepts_what_commands_leave, a_text_tells_the_rule, the_databases_stay,
 };

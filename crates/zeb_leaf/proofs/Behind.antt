@@ -1,5 +1,5 @@
 -- What comes behind an entry that isn't below a key isn't below it either; and what shares much with one that is, is below it.
-use Rattle.zeb_leaf.proofs.Cited.{◌≡◌, ◌≢◌, ◌∙◌, ◌+◌, ◌<◌, ◌∷◌, ℕ, suc, List, [], refl, sym, ap, subst, inl, inr, arith, common_steps, cases_eq, Less, slice_cmp, nat_cmp, ordering_then, shared_of, Entry, Place, Follows, behind_entry, entry_cmp}
+use Rattle.zeb_leaf.proofs.Cited.{◌≡◌, ◌≢◌, ◌∙◌, ◌+◌, ◌<◌, ◌∷◌, ℕ, suc, List, [], refl, sym, ap, subst, inl, inr, arith, common_steps, cases_eq, Less, slice_cmp, nat_cmp, ordering_then, shared_of, Entry, Place, Follows, behind_entry}
 use Rattle.std.proofs.lemmas.Cmp.{nat_list_cmp_total}
 use Rattle.zeb_leaf.proofs.Order.{cmp_from_above, entries_total}
 use Rattle.std.specs.declared.cmp.Ordering.{Ordering}

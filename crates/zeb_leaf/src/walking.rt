@@ -92,6 +92,37 @@ fn set_behind(bytes: &mut Vec<u8>, place: usize, back: &[u8]) -> Result<(), Allo
     bytes.extend_from_slice(back)
 }
 
+/// Makes a text another one, which shares so many bytes at its front: it is put together in other bytes first. `Malformed` just where
+/// that is no text. At a refusal the text stays. Few terms need it, so it isn't part of a walk's loop.
+#[inline(never)]
+fn set_tried(
+    text: &mut Vec<u8>,
+    tried: &mut Vec<u8>,
+    shared: usize,
+    suffix: &[u8],
+) -> Result<(), LeafFault>
+    requires { shared ≤ length text.old.items }
+    ensures told { Answers (¬ IsUtf8 (take shared text.old.items ++ suffix.now))
+        (λ _. (text.new.items ≡ take shared text.old.items ++ suffix.now)
+        × IsUtf8 text.new.items) result }
+    ensures stays { OnErr result (text.new.items ≡ text.old.items) }
+{
+    let (front, _) = text.as_slice().split_at(shared);
+    set_joined(tried, front, suffix)?;
+    if !is_text(tried.as_slice()) {
+        return Err(LeafFault::Malformed);
+    }
+    mem::swap(text, tried);
+    Ok(())
+}
+
+/// Whether a text that shares so many bytes with this one, and has these behind them, is this one.
+fn is_same(text: &[u8], shared: usize, suffix: &[u8]) -> bool
+    ensures { IsTrue result → take shared text.now ++ suffix.now ≡ text.now }
+{
+    suffix.is_empty() && shared == text.len()
+}
+
 /// Makes a text another one, which shares so many bytes at its front. `Malformed` just where that is no text. At a refusal the text stays;
 /// what is tried stands in other bytes.
 fn set_text(
@@ -106,18 +137,16 @@ fn set_text(
         × IsUtf8 text.new.items) result }
     ensures stays { OnErr result (text.new.items ≡ text.old.items) }
 {
+    // The term of the entry before, in its next block.
+    if is_same(text.as_slice(), shared, suffix) {
+        return Ok(());
+    }
     // A text that is cut between characters, and a text behind it.
     if is_between_characters(text.as_slice(), shared) && is_text(suffix) {
         set_behind(text, shared, suffix)?;
         return Ok(());
     }
-    let (front, _) = text.as_slice().split_at(shared);
-    set_joined(tried, front, suffix)?;
-    if !is_text(tried.as_slice()) {
-        return Err(LeafFault::Malformed);
-    }
-    mem::swap(text, tried);
-    Ok(())
+    set_tried(text, tried, shared, suffix)
 }
 
 impl<'a> LeafReader<'a> {
@@ -140,7 +169,9 @@ impl<'a> LeafReader<'a> {
         self.term.as_slice()
     }
 
-    /// The next entry, as of [`LeafReader::next`], and how many bytes its term shares with the one before it.
+    /// The next entry, as of [`LeafReader::next`], and how many bytes its term shares with the one before it. A leaf has a hundred
+    /// entries: the hint saves a call for each.
+    #[inline(always)]
     pub(crate) fn step(&mut self) -> Result<Option<Step<'a>>, LeafFault>
         ensures answers { Answers (IsStuck self.old) (λ found. MatchOption found
             ((self.old.left ≡ []) × (self.new ≡ self.old))
@@ -176,6 +207,7 @@ impl<'a> LeafReader<'a> {
     /// in the shortest form of ULEB128 or doesn't fit 64 bits; bytes are cut; a term isn't told by the longest start that it shares
     /// with the one before it, or isn't UTF-8; term and block don't rise; the block is 2^56 or more; or there are no records, or more
     /// than 256. Then, and where memory ran out, the walk stays where it was.
+    #[inline(always)]
     pub fn next(&mut self) -> Result<Option<Held<'a>>, LeafFault>
         ensures answers { Answers (IsStuck self.old) (λ found. MatchOption found
             ((self.old.left ≡ []) × (self.new ≡ self.old))

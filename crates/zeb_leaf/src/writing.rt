@@ -2,12 +2,13 @@
 ghost use Rattle.std.specs.Prelude.{◌≡◌, ◌≤◌, ◌++◌, ◌∷◌, [], ℕ, List, IfOk, OnOk, OnErr, length};
 ghost use Rattle.std.specs.List.{AllByRecursion};
 ghost use Rattle.std.specs.List.Sorted.{IsStrictlySortedBy};
+ghost use Rattle.zeb_blocks.specs.Numbers.{uleb};
 ghost use Rattle.zeb_leaf.specs.declared.entries.Entry.{Entry};
 ghost use Rattle.zeb_leaf.specs.Order.{IsEntry, entry_cmp};
 ghost use Rattle.zeb_leaf.specs.Leaves.{counted, entry_bytes, leaf_bytes, shared_of};
 ghost use Rattle.zeb_leaf.specs.Walks.{Follows, draft_of};
 
-use crate::entries::Entry;
+use crate::entries::{Entry, FULL_BYTES};
 use std::alloc::{AllocError, Global};
 use std::marker::Model;
 use zeb_blocks::write_number;
@@ -24,12 +25,24 @@ pub(crate) fn shared_len(before: &[u8], term: &[u8]) -> usize
     len
 }
 
+/// Puts a number at the end, as of [`write_number`]. Most numbers of a leaf take one byte: then no call is made, and an entry has five.
+fn put_number(out: &mut Vec<u8>, number: u64) -> Result<(), AllocError>
+    ensures ok { OnOk result (out.new.items ≡ out.old.items ++ uleb number) }
+    ensures err { OnErr result ((part : List ℕ) × (out.new.items ≡ out.old.items ++ part)) }
+{
+    if number < 128 {
+        out.push(number as u8)?;
+        return Ok(());
+    }
+    write_number(out, number)
+}
+
 /// Puts bytes behind how many they are. Where memory ran out, a part of them may have been put there.
 fn write_counted(out: &mut Vec<u8>, bytes: &[u8]) -> Result<(), AllocError>
     ensures ok { OnOk result (out.new.items ≡ out.old.items ++ counted bytes.now) }
     ensures err { OnErr result ((part : List ℕ) × (out.new.items ≡ out.old.items ++ part)) }
 {
-    write_number(out, bytes.len() as u64)?;
+    put_number(out, bytes.len() as u64)?;
     out.extend_from_slice(bytes)
 }
 
@@ -41,10 +54,10 @@ fn write_entry(out: &mut Vec<u8>, before: &[u8], entry: &Entry) -> Result<(), Al
     let term = entry.term.as_slice();
     let shared = shared_len(before, term);
     let (_, rest) = term.split_at(shared);
-    write_number(out, shared as u64)?;
+    put_number(out, shared as u64)?;
     write_counted(out, rest)?;
-    write_number(out, entry.block)?;
-    write_number(out, entry.records)?;
+    put_number(out, entry.block)?;
+    put_number(out, entry.records)?;
     write_counted(out, entry.bytes.as_slice())
 }
 
@@ -103,6 +116,17 @@ impl LeafWriter {
         }
     }
 
+    /// A leaf without entries, with room for those of a full one. The only refusal is want of memory.
+    fn with_room(alloc: Global) -> Result<LeafWriter, AllocError>
+        ensures { IfOk result (λ writer. writer ≡ draft_of []) }
+    {
+        Ok(LeafWriter {
+            term: Vec::new(alloc),
+            least: 0,
+            bytes: Vec::with_capacity(alloc, FULL_BYTES)?,
+        })
+    }
+
     /// How many bytes the leaf takes so far.
     pub fn len(&self) -> usize
         ensures { result ≡ length self.now.bytes }
@@ -140,7 +164,7 @@ pub fn spell_leaf(alloc: Global, entries: &[Entry]) -> Result<Vec<u8>, AllocErro
     requires each { AllByRecursion IsEntry entries.now }
     ensures { IfOk result (λ bytes. bytes.items ≡ leaf_bytes entries.now) }
 {
-    let mut writer = LeafWriter::new(alloc);
+    let mut writer = LeafWriter::with_room(alloc)?;
     for entry in entries {
         writer.push(entry)?;
     }

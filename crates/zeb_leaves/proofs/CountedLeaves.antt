@@ -1,8 +1,10 @@
 -- Leaves that are counted as read and as written, and how many pieces a run has.
-use Rattle.zeb_leaves.proofs.Cited.{all_from, all_has, has_left, has_right, ◌≢◌, ◌+◌, ◌≤◌, ◌++◌, ◌∷◌, ℕ, List, [], length, length-append, ap, refl, subst, inl, inr, arith, AllByRecursion, Trees}
+use Rattle.zeb_leaves.proofs.Cited.{all_from, all_has, has_left, has_right, ◌≢◌, ◌+◌, ◌≤◌, ◌++◌, ◌∷◌, ℕ, List, Result, Ok, Err, [], length, length-append, ap, refl, subst, inl, inr, arith, AllByRecursion, Trees}
 use Rattle.std.proofs.Common.{Bool}
+use Rattle.std.specs.Prelude.{OnOk}
 use Rattle.zeb_register.specs.RunChanges.{changes_in}
-use Rattle.zeb_register.specs.Tallies.{WorksOnLeaves}
+use Rattle.zeb_register.specs.Tallies.{Rises, WorksOnLeaves}
+use Rattle.zeb_register.specs.declared.faults.RegFault.{RegFault}
 use Rattle.zeb_register.specs.declared.registers.KeyChanges.{KeyChanges}
 use Rattle.zeb_register.specs.declared.registers.RecordChange.{RecordChange}
 use Rattle.zeb_register.specs.declared.registers.Work.{Work}
@@ -21,6 +23,11 @@ front_counted is_there read written old new was is few writes counts = record {
   writes_leaves = (written, omega (arith, writes.1), counts.writes_leaves);
   unwritten = λ none. elim counts.writes_leaves [ inl same ↦ absurd (omega (arith, same, none, writes.1)) | inr most ↦ inl (omega (arith, most.1, none)) ];
 }
+
+-- what is counted as read is few, whatever it is
+pub turn_counted : (read : ℕ) (result : Result ℕ RegFault) (old new : Trees) (was is : Work) → OnOk result (Rises read was.block_read is.block_read × WorksOnLeaves 1 old new was is) → OnOk result (WorksOnLeaves 1 old new was is)
+turn_counted read (Ok count) old new was is both = both.1
+turn_counted read (Err fault) old new was is both = tt
 
 -- ---- each piece has a change
 

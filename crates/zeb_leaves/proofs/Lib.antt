@@ -9,6 +9,7 @@ pub mod BehindStatements
 pub mod OneCover
 pub mod OneLeaf
 pub mod TermEntries
+pub mod SmallLeaves
 pub mod SaidMore
 pub mod SaidLists
 pub mod KeyCalls
@@ -17,6 +18,7 @@ pub mod LeavesBehind
 pub mod NextLeaves
 pub mod SpanEntries
 pub mod SpanLists
+pub mod EachCount
 pub mod SpanCalls
 pub mod PartedLeaves
 pub mod ReplacedLeaves
@@ -44,6 +46,7 @@ pub mod SpotsSaid
 pub mod TermCalls
 pub mod CutPieces
 pub mod TurnedEntries
+pub mod LastPlaces
 pub mod SearchedEntries
 pub mod PiecesInTurn
 pub mod BlockTurns

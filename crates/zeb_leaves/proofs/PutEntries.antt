@@ -1,13 +1,13 @@
--- Leaves that were cut have the entries, one behind the other, from any key on that the first one is given.
+-- Leaves that were cut have the entries, one behind the other, from any key on that the first one is given; and none of them is empty.
 use Rattle.zeb_leaves.proofs.Cited.{Row, Trees, State, Has, has_mapped, mapped_has, ◌≡◌, ◌⊎◌, ◌∙◌, ◌≤◌, ◌++◌, ◌∷◌, ℕ, pos, List, [], length, map, refl, sym, ap, subst, inl, inr, arith, AllByRecursion, Entry, IsLeaf, blocks_tree, leaf_key}
 use Rattle.std.proofs.Common.{Bool, IsUtf8}
 use Rattle.std.proofs.lemmas.List.{append-nil}
-use Rattle.zeb_leaf.specs.Cuts.{AreCut, BeginsAt}
+use Rattle.zeb_leaf.specs.Cuts.{AreCut, BeginsAt, IsCutOff}
 use Rattle.zeb_leaf.specs.declared.entries.TheConstants.{FULL_BYTES}
 use Rattle.zeb_leaf.specs.declared.parting.NewLeaf.{NewLeaf}
 use Rattle.zeb_leaves.proofs.LeafShapes.{leaf_row}
 use Rattle.zeb_leaves.specs.LeafChanges.{ArePartedFrom, IsPart}
-use Rattle.zeb_leaves.specs.PrivateLeafWrites.{IfToldPuts, IfToldPutsEntries, IsNewRow, IsRowOfOne, PutsEntries, PutsLeaves}
+use Rattle.zeb_leaves.specs.PrivateLeafWrites.{AreFilled, IfToldPuts, IfToldPutsEntries, IsFilled, IsNewRow, IsRowOfOne, PutsEntries, PutsLeaves}
 use Rattle.zeb_register.proofs.Calls.{changes_so}
 use Rattle.zeb_register.specs.PrivateKeyColumns.{register_columns}
 use Rattle.zeb_register.specs.Store.{Changes}
@@ -57,6 +57,21 @@ parts above term block leaf (next ∷ leaves) entries text cut =
           (subst (λ (l : List Entry). ArePartedFrom (leaf_key e.term e.block) (leaf_row e.term e.block next.bytes) (map shown_leaf leaves) l) rest_is more),
     )
 
+-- each of them has entries, whatever key it is given
+filled_leaf : (above : ℕ) (term : List ℕ) (block : ℕ) (leaf : NewLeaf) (own rest : List Entry) → IsCutOff above leaf own rest → IsFilled (leaf_row term block leaf.bytes)
+filled_leaf above term block leaf own rest cut = record { own = own; bytes = leaf.bytes; is = refl; spelled = cut.spelled; small = cut.small }
+
+behind_filled : (above : ℕ) (leaves : List NewLeaf) (entries : List Entry) → AreCut above leaves entries → (row : Row) → Has (map shown_leaf leaves) row → IsFilled row
+behind_filled above [] entries cut row here = absurd here
+behind_filled above (leaf ∷ leaves) entries cut row (inl same) = subst IsFilled (sym same) (filled_leaf above leaf.term leaf.block leaf cut.0 cut.1 cut.3)
+behind_filled above (leaf ∷ leaves) entries cut row (inr later) = behind_filled above leaves cut.1 cut.4 row later
+
+all_filled : (above : ℕ) (term : List ℕ) (block : ℕ) (leaf : NewLeaf) (leaves : List NewLeaf) (entries : List Entry) → AreCut above (leaf ∷ leaves) entries → AreFilled (leaf_row term block leaf.bytes ∷ map shown_leaf leaves) entries
+all_filled above term block leaf leaves entries cut = λ some row here. elim here [
+  | inl same ↦ subst IsFilled (sym same) (filled_leaf above term block leaf cut.0 cut.1 cut.3)
+  | inr later ↦ behind_filled above leaves cut.1 cut.4 row later
+]
+
 -- ---- their rows
 
 module _ (at : RegisterOf) (term : List ℕ) (block : ℕ) (bytes : List ℕ) (leaves : List NewLeaf) where
@@ -77,8 +92,8 @@ module _ (at : RegisterOf) (term : List ℕ) (block : ℕ) (bytes : List ℕ) (l
   of_one row leaf (inl same) is = inl (is ∙ ap (λ (l : Row). register_columns at ++ l) same)
   of_one row leaf (inr here) is = let new = has_mapped shown_leaf leaves leaf here in inr (new.0, new.1, is ∙ ap (λ (l : Row). register_columns at ++ l) new.2)
 
-  rows_put : (entries : List Entry) (tree : ℕ) (old new : Trees) → ArePartedFrom (leaf_key term block) first behind entries → PutsLeaves at term (pos block) bytes leaves tree old new → PutsEntries at term block entries tree old new
-  rows_put entries tree old new are puts = (
+  rows_put : (entries : List Entry) (tree : ℕ) (old new : Trees) → ArePartedFrom (leaf_key term block) first behind entries → AreFilled (first ∷ behind) entries → PutsLeaves at term (pos block) bytes leaves tree old new → PutsEntries at term block entries tree old new
+  rows_put entries tree old new are filled puts = (
     first,
     behind,
     are,
@@ -86,21 +101,22 @@ module _ (at : RegisterOf) (term : List ℕ) (block : ℕ) (bytes : List ℕ) (l
       λ h. elim ((puts row).0 h) [ inl was ↦ inl was | inr one ↦ inr (one_of row one) ],
       λ h. (puts row).1 (elim h [ inl was ↦ inl was | inr one ↦ inr (of_one row one.0 one.1 one.2) ]),
     ),
+    filled,
   )
 
-  pub all_rows : (is_there : Bool) (entries : List Entry) (a b : State) → ArePartedFrom (leaf_key term block) first behind entries → Changes blocks_tree (IfToldPuts is_there at term (pos block) bytes leaves) a b → Changes blocks_tree (IfToldPutsEntries is_there at term block entries) a b
-  all_rows is_there entries a b are = changes_so blocks_tree (IfToldPuts is_there at term (pos block) bytes leaves) (IfToldPutsEntries is_there at term block entries) a b
-      (λ puts told. rows_put entries blocks_tree a.now.trees b.now.trees are (puts told))
+  pub all_rows : (is_there : Bool) (entries : List Entry) (a b : State) → ArePartedFrom (leaf_key term block) first behind entries → AreFilled (first ∷ behind) entries → Changes blocks_tree (IfToldPuts is_there at term (pos block) bytes leaves) a b → Changes blocks_tree (IfToldPutsEntries is_there at term block entries) a b
+  all_rows is_there entries a b are filled = changes_so blocks_tree (IfToldPuts is_there at term (pos block) bytes leaves) (IfToldPutsEntries is_there at term block entries) a b
+      (λ puts told. rows_put entries blocks_tree a.now.trees b.now.trees are filled (puts told))
 
 -- where the entries make no leaf, and where they make some
 pub none_put : (above : ℕ) (at : RegisterOf) (term : List ℕ) (block : ℕ) (is_there : Bool) (entries : List Entry) (a b : State) → IsUtf8 term → AreCut above [] entries → Changes blocks_tree (IfToldPuts is_there at term (pos block) [] []) a b
     → Changes blocks_tree (IfToldPutsEntries is_there at term block entries) a b
 none_put above at term block is_there entries a b text none =
-    all_rows at term block [] [] is_there entries a b (subst (λ (l : List Entry). ArePartedFrom (leaf_key term block) (leaf_row term block []) [] l) (sym none) (no_part term block text))
+    all_rows at term block [] [] is_there entries a b (subst (λ (l : List Entry). ArePartedFrom (leaf_key term block) (leaf_row term block []) [] l) (sym none) (no_part term block text)) (λ some. absurd (some none))
 
 pub some_put : (above : ℕ) (at : RegisterOf) (term : List ℕ) (block : ℕ) (leaf : NewLeaf) (leaves : List NewLeaf) (is_there : Bool) (entries : List Entry) (a b : State) → IsUtf8 term → AreCut above (leaf ∷ leaves) entries
     → Changes blocks_tree (IfToldPuts is_there at term (pos block) leaf.bytes leaves) a b → Changes blocks_tree (IfToldPutsEntries is_there at term block entries) a b
-some_put above at term block leaf leaves is_there entries a b text cut = all_rows at term block leaf.bytes leaves is_there entries a b (parts above term block leaf leaves entries text cut)
+some_put above at term block leaf leaves is_there entries a b text cut = all_rows at term block leaf.bytes leaves is_there entries a b (parts above term block leaf leaves entries text cut) (all_filled above term block leaf leaves entries cut)
 
 -- the terms of the leaves' keys are terms of entries
 pub keys_are_texts : (above : ℕ) (leaves : List NewLeaf) (entries : List Entry) → AreCut above leaves entries → AllByRecursion (λ (leaf : NewLeaf). IsUtf8 leaf.term) leaves

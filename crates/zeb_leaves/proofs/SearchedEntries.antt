@@ -1,5 +1,5 @@
 -- What a binary search by a key finds among rising entries.
-use Rattle.zeb_leaves.proofs.Cited.{Has, ◌≡◌, ◌∙◌, ◌+◌, ◌<◌, ◌≤◌, ◌∷◌, ℕ, zero, suc, List, [], length, refl, sym, ap, ap₂, subst, inl, inr, arith, Ordering, Less, Equal, Greater, nat_cmp, nat_cmp_total, nat_list_cmp_total, slice_cmp, ordering_reverse, ordering_then, tied_itself, numbers_apart, all_has, Entry, IsAt, entry_cmp}
+use Rattle.zeb_leaves.proofs.Cited.{Has, ◌≡◌, ◌∙◌, ◌<◌, ◌≤◌, ◌∷◌, ℕ, zero, suc, List, [], length, refl, sym, ap, ap₂, subst, inl, inr, arith, Ordering, Less, Equal, Greater, nat_cmp, nat_cmp_total, nat_list_cmp_total, slice_cmp, ordering_reverse, ordering_then, tied_itself, numbers_apart, all_has, Entry, IsAt, entry_cmp}
 use Rattle.std.proofs.Common.{get_or}
 use Rattle.std.proofs.lemmas.Bool.{cases_lt}
 use Rattle.std.specs.List.Sorted.{IsNonDecreasingBy, IsPartitionPoint, IsStrictlySortedBy}

@@ -1,7 +1,8 @@
 -- What calls that read neighbouring terms answer, by the leaves that they found.
-use Rattle.zeb_leaves.proofs.Cited.{Row, column, Has, Int, Text, ◌≡◌, ◌≢◌, ◌↔◌, ◌∙◌, ◌<◌, ◌+◌, ◌++◌, ◌∷◌, ℕ, pos, false, true, List, [], Ok, Err, Result, Some, drop, length, refl, sym, ap, subst, inl, inr, arith, Ordering, Less, Equal, Greater, nat_cmp, nat_list_cmp_total, slice_cmp, ordering_reverse, value_cmp-Text, Posting, State, Covers, IsLeafAt, IsLeafIn, IsStore, IsUncovered, leaf_key, own_key}
+use Rattle.zeb_leaves.proofs.Cited.{Row, column, Has, Int, Text, ◌≡◌, ◌≢◌, ◌↔◌, ◌∙◌, ◌<◌, ◌+◌, ◌++◌, ◌∷◌, ℕ, pos, false, true, List, [], Ok, Err, Result, Some, drop, length, refl, sym, ap, subst, inl, inr, arith, Ordering, Less, Equal, Greater, nat_cmp, nat_list_cmp_total, slice_cmp, ordering_reverse, value_cmp-Text, Posting, Entry, State, Covers, IsLeafAt, IsLeafIn, IsStore, IsUncovered, leaf_key, own_key}
 use Rattle.std.proofs.Common.{get_or}
 use Rattle.std.proofs.lemmas.List.{drop_more}
+use Rattle.std.specs.List.Sorted.{IsStrictlySortedBy}
 use Rattle.std.specs.Ordering.{is_lt}
 use Rattle.std.specs.Prelude.{IfOk, Vec}
 use Rattle.std.specs.declared.alloc.Global.{Global}
@@ -10,12 +11,13 @@ use Rattle.sqlite.specs.Order.{value_cmp}
 use Rattle.zeb_leaf.specs.declared.entries.Held.{Held}
 use Rattle.zeb_leaves.proofs.CoveringLeaves.{Leaves, from_leaf, leaf_from, leaf_shape, shape_from}
 use Rattle.zeb_leaves.proofs.SpanEntries.{HeldIn, all_spans}
-use Rattle.zeb_leaves.proofs.SpanLists.{span_listed, span_unsaid}
+use Rattle.zeb_leaves.proofs.SpanLists.{said_of_held, span_listed, span_unsaid}
 use Rattle.zeb_leaves.proofs.SpanRuns.{last_up}
 use Rattle.zeb_leaves.proofs.OneLeaf.{one_leaf}
 use Rattle.zeb_leaves.proofs.OneCover.{covers_itself}
 use Rattle.zeb_register.specs.Units.{HasMalformedBetween, ListsBetween}
 use Rattle.zeb_register.specs.Formats.{packed_leaves}
+use Rattle.zeb_leaves.specs.KeyReads.{AreEntriesBetween, SayParts}
 use Rattle.zeb_leaves.specs.PrivateSaid.{SayAll, SomeSaysNone}
 use Rattle.zeb_leaves.specs.PrivateSpans.{AreSpanLeaves, IsRowBetween, IsSpanLeaf, ShowAllSpans, ShowSpans, ShowsKey, ShowsSpan, SomeShowsNoKey}
 use Rattle.zeb_register.proofs.BetweenLemmas.{up_to}
@@ -123,6 +125,11 @@ module _ (s : State) (store : IsStore s) (at : RegisterOf) where
       answers_between new (Ok list) say = span_listed s.now.trees at first last held has list.items say
       answers_between new (Err fault) told = (λ damaged. span_unsaid s.now.trees at first last held has (told.1 damaged), λ failed. absurd (told.0 failed))
 
+      pub said_in_turn : (result : Result (Vec Posting Global) RegFault) → Answers (λ fault. (fault ≢ Store) × IfDamaged (SomeSaysNone held) fault) (λ list. SayAll held list.items) result
+          → IfOk result (λ (list : Vec Posting Global). (own : List Entry) × AreEntriesBetween s.now.trees at first last own × SayParts own list.items)
+      said_in_turn (Ok list) say = (has.own, record { rising = has.has.rising; each = has.has.each }, said_of_held has.own held list.items has.are say)
+      said_in_turn (Err fault) told = tt
+
   -- where the last text is below the first one, no term stands between
   pub answers_none : (first last : List ℕ) → is_lt (slice_cmp nat_cmp last first) ≡ true → (new : State) (result : Result (Vec Posting Global) RegFault) → IfOk result (λ list. list.items ≡ []) → result ≢ Err Damaged → (result ≡ Err Store → MayRefuse s new)
       → Answers (IfRefused s new (HasMalformedBetween packed_leaves s.now.trees at first last)) (λ list. ListsBetween packed_leaves s.now.trees at first last list.items) result
@@ -132,3 +139,9 @@ module _ (s : State) (store : IsStore s) (at : RegisterOf) where
     each = λ p. (λ h. absurd (subst (λ (l : List Posting). Has l p) none h), λ h. absurd h.2);
   }
   answers_none first last falls new (Err fault) none honest reasoned = (λ damaged. absurd (honest (ap Err damaged)), λ failed. reasoned (ap Err failed))
+
+  pub none_in_turn : (first last : List ℕ) → is_lt (slice_cmp nat_cmp last first) ≡ true → (result : Result (Vec Posting Global) RegFault) → IfOk result (λ list. list.items ≡ [])
+      → IfOk result (λ (list : Vec Posting Global). (own : List Entry) × AreEntriesBetween s.now.trees at first last own × SayParts own list.items)
+  unfolding IsStrictlySortedBy
+  none_in_turn first last falls (Ok list) none = ([], record { rising = tt; each = λ e. (λ h. absurd h, λ h. absurd (never_between first last e.term falls h.0)) }, none)
+  none_in_turn first last falls (Err fault) none = tt

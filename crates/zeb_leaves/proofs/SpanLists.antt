@@ -6,11 +6,12 @@ use Rattle.std.specs.Ordering.{is_eq}
 use Rattle.zeb_leaf.specs.Answers.{entry_of}
 use Rattle.zeb_leaf.specs.declared.entries.Held.{Held}
 use Rattle.zeb_register.proofs.LeafReadings.{entries_total}
-use Rattle.zeb_leaves.proofs.SaidLists.{SayParts, list_of_parts, part_of, posting_in, posting_of}
+use Rattle.zeb_leaves.proofs.SaidLists.{list_of_parts, part_of, posting_in, posting_of}
 use Rattle.zeb_leaves.proofs.SpanEntries.{AreHeld, HasOwnIn, HeldIn}
 use Rattle.zeb_leaves.proofs.TermEntries.{HasOwn}
 use Rattle.zeb_register.specs.Units.{HasMalformedBetween, ListsBetween}
 use Rattle.zeb_register.specs.Formats.{packed_leaves}
+use Rattle.zeb_leaves.specs.KeyReads.{SayParts}
 use Rattle.zeb_leaves.specs.PrivateSaid.{SayAll, SomeSaysNone}
 use Rattle.zeb_register.proofs.RowLemmas.{same_bytes}
 use Rattle.zeb_register.specs.Between.{IsBetween}

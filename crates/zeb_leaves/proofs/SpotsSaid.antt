@@ -6,13 +6,14 @@ use Rattle.std.specs.List.Sorted.{IsStrictlySortedBy}
 use Rattle.zeb_leaves.proofs.CountedTerms.{Counted, all_counted}
 use Rattle.zeb_register.proofs.LeafContents.{one_unit}
 use Rattle.zeb_register.proofs.LeafReadings.{entries_total, one_said}
-use Rattle.zeb_leaves.proofs.SaidLists.{SayParts, list_of_parts, lower_block, near, posting_in, posting_of}
+use Rattle.zeb_leaves.proofs.SaidLists.{list_of_parts, lower_block, near, posting_in, posting_of}
 use Rattle.zeb_leaves.proofs.SpanEntries.{HasOwnIn}
 use Rattle.zeb_leaves.proofs.SpanLists.{all_parts, its, its_has, own_term}
 use Rattle.zeb_leaves.proofs.TermsTold.{Own, all_listed, all_own, entry_counts, from_least, hidden_term, lacks_hides, some_hidden}
 use Rattle.zeb_leaves.proofs.OwnLeaves.{FromText, IsHidden}
 use Rattle.zeb_register.specs.Units.{ListsUnits}
 use Rattle.zeb_register.specs.Formats.{packed_leaves}
+use Rattle.zeb_leaves.specs.KeyReads.{SayParts}
 use Rattle.zeb_leaves.specs.PrivateTermReads.{AreLeavesFrom, CountAll, HideAllOwns, IsNoText, SayMany, SaysNone, ShowAllOwns}
 use Rattle.zeb_register.specs.Terms.{HidesSums, ListsAll, SumsUp}
 use Rattle.zeb_register.proofs.KeyPlaces.{placed_at}

@@ -1,10 +1,13 @@
 -- Walks over the bytes of a row: which entries it has, and how they are counted one by one.
-use Rattle.zeb_leaves.proofs.Cited.{Row, column, Blob, ◌≡◌, ◌≢◌, ◌∙◌, ◌++◌, ◌∷◌, ℕ, true, false, List, [], Ok, Err, Result, filter, refl, sym, subst, inl, inr, arith, Entry, ShowsEntries, TermCount, first_place}
-use Rattle.std.proofs.Common.{Bool, Global, Vec}
+use Rattle.zeb_leaves.proofs.Cited.{Row, column, Blob, ◌≡◌, ◌≢◌, ◌∙◌, ◌++◌, ◌∷◌, ℕ, true, false, List, [], Ok, Err, Result, filter, refl, sym, ap, subst, inl, inr, arith, Ordering, Less, Equal, Greater, Entry, ShowsEntries, TermCount, first_place}
+use Rattle.std.proofs.Common.{Bool, Global, Vec, cond, not}
+use Rattle.std.specs.Ordering.{is_lt}
 use Rattle.std.proofs.lemmas.List.Elements.{filter-append}
+use Rattle.zeb_leaf.proofs.Behind.{past_behind, still_past}
 use Rattle.zeb_leaf.proofs.Walked.{Reaches, Spells, reaches_end, reaches_stuck}
 use Rattle.zeb_leaf.specs.Leaves.{entries_bytes}
-use Rattle.zeb_leaf.specs.Walks.{IsStuck, Place, Walk}
+use Rattle.zeb_leaf.specs.Spans.{key_cmp}
+use Rattle.zeb_leaf.specs.Walks.{Follows, IsStuck, Place, Steps, Walk}
 use Rattle.zeb_leaves.specs.PrivateSpans.{ShowsNone}
 use Rattle.zeb_leaves.specs.PrivateNearTerms.{AreEnough, CountUntil, CountsRow, HidesRow}
 use Rattle.zeb_leaves.specs.PrivateTermReads.{AreEntries, CountsIn, End, ShowsOwn, is_own}
@@ -84,6 +87,36 @@ module _ (n : ℕ) where
 
     pub counted_one : (old mid : List TermCount) → test e ≡ true → (¬ AreEnough n old e.term) → CountsIn e old mid → CountUntil n (filter test (e ∷ [])) old mid false
     counted_one old mid own less counts = subst (λ (l : List Entry). CountUntil n l old mid false) (sym (takes own)) (inr (less, mid, counts, (refl, refl)))
+
+-- ---- entries that are chosen
+
+pub told_own : (test : Entry → Bool) (e : Entry) (told : Bool) → told ≡ test e → filter (λ _. told) (e ∷ []) ≡ filter test (e ∷ [])
+told_own test e told is = ap (λ b. cond b (e ∷ []) []) is
+
+-- ---- where no key of an entry that may come is below the first one
+
+not_less : (o : Ordering) → o ≢ Less → is_lt o ≡ false
+not_less Less other = absurd (other refl)
+not_less Equal other = refl
+not_less Greater other = refl
+
+less_not : (o : Ordering) → is_lt o ≡ false → o ≢ Less
+less_not o is less = let e : true ≡ false = sym (ap is_lt less) ∙ is in cc
+
+module _ (first : List ℕ) (from : ℕ) where
+  abbrev pub AreFrom : Place → Type 0
+  AreFrom place = (e : Entry) → Follows place e → is_lt (key_cmp e.term e.block first from) ≡ false
+
+  -- nor is any behind an entry
+  pub still_from : (old new : Walk) (e : Entry) → Steps old e new → AreFrom old.place → AreFrom new.place
+  still_from old new e step all = subst AreFrom (sym step.place)
+      (λ f follows. not_less (key_cmp f.term f.block first from) (still_past first from old.place e (λ g may. less_not (key_cmp g.term g.block first from) (all g may)) step.follows f follows))
+
+  -- it is so behind an entry of which it is noted
+  pub noted_from : (old new : Walk) (e : Entry) (noted : Bool) → Steps old e new → noted ≡ not (is_lt (key_cmp e.term e.block first from)) → noted ≡ true → AreFrom new.place
+  noted_from old new e noted step is begun =
+      let least : key_cmp e.term e.block first from ≢ Less = λ less. let f : false ≡ true = sym (ap (λ o. not (is_lt o)) less) ∙ sym is ∙ begun in cc in
+      subst AreFrom (sym step.place) (λ f follows. not_less (key_cmp f.term f.block first from) (past_behind first from e least f follows))
 
 -- ---- what a row shows, by its bytes
 

@@ -1,4 +1,5 @@
 pub mod KeyReads
+pub mod LeafSizes
 pub mod LeafChanges
 pub mod PrivateLeafReads
 pub mod PrivateSpans

@@ -13,7 +13,7 @@ use Rattle.zeb_keys.specs.Registers.{register_code}
 use Rattle.zeb_keys.specs.declared.keys.Key.{Key}
 use Rattle.zeb_leaf.specs.Leaves.{leaf_bytes}
 use Rattle.zeb_leaf.specs.declared.entries.Entry.{Entry}
-use Rattle.zeb_leaf.specs.declared.entries.TheConstants.{LEAF_BYTES}
+use Rattle.zeb_leaves.specs.LeafSizes.{most_leaf_bytes}
 use Rattle.zeb_leaves.specs.declared.agreeing_rows.ShownLeaf.{ShownLeaf}
 use Rattle.zeb_register.specs.Agreeing.{IsListedId, IsThere, LacksPostingsAndDict}
 use Rattle.zeb_register.specs.Covering.{ShowsEntries, leaf_key}
@@ -56,10 +56,10 @@ own_of leaf = leaf_key leaf.key.term leaf.block
 abbrev pub entry_key : Entry → Row
 entry_key e = leaf_key e.term e.block
 
--- no entry is below the leaf's own key, and several take at most LEAF_BYTES bytes
+-- no entry is below the leaf's own key, and several take at most 3,000 bytes
 pub record IsWhole (leaf : Leaf) : Type 0 where
   pub from : (e : Entry) → Has leaf.entries e → row_cmp (own_of leaf) (entry_key e) ≢ Greater
-  pub small : 2 ≤ length leaf.entries → length (leaf_bytes leaf.entries) ≤ LEAF_BYTES
+  pub small : 2 ≤ length leaf.entries → length (leaf_bytes leaf.entries) ≤ most_leaf_bytes
 
 -- ---- one leaf behind the other
 

@@ -1,11 +1,12 @@
 -- What only the contracts of private functions speak of; no public clause reaches it: leaves that are written.
-use Rattle.std.specs.Prelude.{◌≡◌, ◌⊎◌, ◌↔◌, ◌+◌, ◌++◌, ◌∷◌, ℕ, ℤ, pos, Bool, true, false, List, [], Option, Some, None, Result, IfOk, OnOk}
+use Rattle.std.specs.Prelude.{◌≡◌, ◌≢◌, ◌⊎◌, ◌↔◌, ◌≤◌, ◌+◌, ◌++◌, ◌∷◌, ℕ, ℤ, pos, Bool, true, false, List, [], Option, Some, None, Result, IfOk, OnOk, length}
 use Rattle.sqlite.specs.declared.types.Value.TheVariants.{Blob, Int, Text}
-use Rattle.sqlite.specs.Order.{Row}
+use Rattle.sqlite.specs.Order.{Row, column}
 use Rattle.sqlite.specs.State.{State}
 use Rattle.sqlite.specs.Tree.{Trees}
 use Rattle.sqlite_rules.specs.Lists.{Has}
 use Rattle.zeb_keys.specs.Registers.{register_code}
+use Rattle.zeb_leaf.specs.Leaves.{IsLeaf}
 use Rattle.zeb_leaf.specs.declared.entries.Entry.{Entry}
 use Rattle.zeb_leaf.specs.declared.parting.NewLeaf.{NewLeaf}
 use Rattle.zeb_register.specs.Covering.{leaf_key}
@@ -53,11 +54,28 @@ IfToldPuts is_there at term number bytes leaves tree old new =
 abbrev pub IsRowOfOne : RegisterOf → List Row → Row → Type 0
 IsRowOfOne at leaves row = (leaf : Row) × Has leaves leaf × (row ≡ register_columns at ++ leaf)
 
--- the table has, in the place of the leaf with this key, leaves that have the entries from the key on
+-- so many bytes a leaf with more than one entry takes at most where it is written
+abbrev pub filled_leaf_bytes : ℕ
+filled_leaf_bytes = 1300
+
+-- the leaf has some entry, and several in at most so many bytes
+pub record IsFilled (leaf : Row) : Type 0 where
+  pub own : List Entry
+  pub bytes : List ℕ
+  pub is : column leaf 2 ≡ Blob bytes
+  pub spelled : IsLeaf bytes own
+  pub small : 2 ≤ length own → length bytes ≤ filled_leaf_bytes
+
+-- of leaves that have entries together, each has some
+abbrev pub AreFilled : List Row → List Entry → Type 0
+AreFilled leaves entries = entries ≢ [] → (leaf : Row) → Has leaves leaf → IsFilled leaf
+
+-- the table has, in the place of the leaf with this key, leaves that have the entries from the key on, none of them empty where there are some
 abbrev pub PutsEntries : RegisterOf → List ℕ → ℕ → List Entry → ℕ → Trees → Trees → Type 0
 PutsEntries at term block entries tree old new =
     (first : Row) × (more : List Row) × ArePartedFrom (leaf_key term block) first more entries
     × ((row : Row) → HasRow new tree row ↔ ((HasRow old tree row × ¬ IsLeafWith at term (pos block) row) ⊎ IsRowOfOne at (first ∷ more) row))
+    × AreFilled (first ∷ more) entries
 
 abbrev pub IfToldPutsEntries : Bool → RegisterOf → List ℕ → ℕ → List Entry → ℕ → Trees → Trees → Type 0
 IfToldPutsEntries is_there at term block entries tree old new =

@@ -69,3 +69,8 @@ pub record CountsLeaves (read written : ℕ) (was is : Work) : Type 0 where
 -- accepted inside a transaction on a store, a call counts what so many changes do
 abbrev pub CountsChanges : {A : Type 0} → ℕ → (old new : State) → Result A RegFault → Work → Work → Type 0
 CountsChanges changes old new result was is = InStore old new (λ trees. OnOk result (WorksOnLeaves changes trees new.now.trees was is))
+
+-- such a call puts the pieces of one leaf, and counts just so many leaves as read
+abbrev pub CountsTurn : {A : Type 0} → ℕ → (old new : State) → Result A RegFault → Work → Work → Type 0
+CountsTurn read old new result was is =
+    InStore old new (λ trees. OnOk result (Rises read was.block_read is.block_read × WorksOnLeaves 1 trees new.now.trees was is))

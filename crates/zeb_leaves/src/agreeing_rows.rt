@@ -8,7 +8,7 @@ ghost use Rattle.sqlite.specs.declared.types.Value.TheVariants.{Blob, Int, Text}
 ghost use Rattle.sqlite_rules.specs.Lists.{Has};
 ghost use Rattle.zeb_keys.specs.Registers.{register_code};
 ghost use Rattle.zeb_leaf.specs.Order.{entry_cmp};
-ghost use Rattle.zeb_leaf.specs.declared.entries.TheConstants.{LEAF_BYTES as MOST_BYTES};
+ghost use Rattle.zeb_leaves.specs.LeafSizes.{most_leaf_bytes};
 ghost use Rattle.zeb_leaves.specs.PrivateAgreeing.{Follows, IsBeside, IsFirst, IsWhole, Leaf, ShowsLeaf, before_of, entry_key, leaf_of, leaf_shown, rest_shown};
 ghost use Rattle.zeb_register.specs.Covering.{ShowsEntries, leaf_key};
 ghost use Rattle.zeb_register.specs.Occurring.{key_in};
@@ -133,9 +133,9 @@ fn entries_of(alloc: Global, columns: Columns<'_>) -> Result<Option<Vec<Entry>>,
     }
 }
 
-/// Whether entries, of which several are to take at most `LEAF_BYTES` bytes, don't take too many.
+/// Whether entries, of which several are to take at most 3,000 bytes, don't take too many.
 fn are_few(entries: &[Entry], bytes: &[u8]) -> bool
-    ensures { IsTrue result ↔ (2 ≤ length entries.now → length bytes.now ≤ MOST_BYTES) }
+    ensures { IsTrue result ↔ (2 ≤ length entries.now → length bytes.now ≤ most_leaf_bytes) }
 {
     entries.len() < 2 || bytes.len() <= LEAF_BYTES
 }

@@ -5,6 +5,7 @@ ghost use Rattle.std.specs.Cmp.Lexicographic.{slice_cmp};
 ghost use Rattle.std.specs.Ordering.{is_lt, nat_cmp};
 ghost use Rattle.sqlite.specs.Held.{state};
 ghost use Rattle.sqlite.specs.State.{IsUnchanged};
+ghost use Rattle.zeb_leaves.specs.KeyReads.{TellsInTurn};
 ghost use Rattle.zeb_register.specs.Calls.{Reading};
 ghost use Rattle.zeb_register.specs.Clauses.{IsReasoned};
 ghost use Rattle.zeb_register.specs.Formats.{packed_leaves};
@@ -31,6 +32,8 @@ fn ordered_between<S: Alter>(
     ensures call { Reading (state S.Store conn.old) (state S.Store conn.new) result
         (λ _. IsUnchanged) }
     ensures units { ListsTerms packed_leaves at first.now last.now (state S.Store conn.old)
+        (state S.Store conn.new) result }
+    ensures turn { TellsInTurn at first.now last.now (state S.Store conn.old)
         (state S.Store conn.new) result }
 {
     let end = text_above(alloc, last)?;
@@ -62,8 +65,8 @@ fn none_between<S: Alter>(
     Ok(Vec::new(alloc))
 }
 
-/// The postings of the terms of a register that are not below `first` and not above `last`; in which order isn't said. The leaves of all
-/// these terms are held at once. `Damaged` only where a block of one of these terms is malformed.
+/// The postings of the terms of a register that are not below `first` and not above `last`: those of each block once, as terms and their
+/// blocks rise. The leaves of all these terms are held at once. `Damaged` only where a block of one of these terms is malformed.
 pub fn postings_between<S: Alter>(
     alloc: Global,
     conn: &mut Connection<S>,
@@ -74,6 +77,8 @@ pub fn postings_between<S: Alter>(
     ensures call { Reading (state S.Store conn.old) (state S.Store conn.new) result
         (λ _. IsUnchanged) }
     ensures units { ListsTerms packed_leaves at first.now last.now (state S.Store conn.old)
+        (state S.Store conn.new) result }
+    ensures turn { TellsInTurn at first.now last.now (state S.Store conn.old)
         (state S.Store conn.new) result }
 {
     if comes_before(last, first) {

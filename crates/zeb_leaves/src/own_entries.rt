@@ -1,6 +1,6 @@
 //! The entries that a leaf has of the keys from one on and below another.
 
-ghost use Rattle.std.specs.Prelude.{◌≡◌, ◌≢◌, ◌++◌, ◌∷◌, [], List, MatchOption, OnOk, filter};
+ghost use Rattle.std.specs.Prelude.{◌≡◌, ◌≢◌, ◌++◌, ◌∷◌, [], List, IsTrue, MatchOption, OnOk, false, filter, not};
 ghost use Rattle.std.specs.Option.{option_map};
 ghost use Rattle.std.specs.Ordering.{is_lt};
 ghost use Rattle.zeb_leaf.specs.Answers.{entry_of};
@@ -29,23 +29,49 @@ pub(crate) fn is_below(key: BlockKey, other: BlockKey) -> bool
         .is_lt()
 }
 
-/// Whether the key of an entry of this term isn't below `from`, and is below the end, where there is one.
-pub(crate) fn is_own_entry(term: &[u8], held: Held, from: BlockKey, end: Option<BlockKey>) -> bool
-    ensures { result ≡ is_own from.entry.term.now from.entry.block
+/// Notes whether a key isn't below `from`. It isn't compared where that is known, as behind a key that isn't.
+fn note_from(begun: &mut bool, key: BlockKey, from: BlockKey)
+    requires { IsTrue begun.old
+        → is_lt (key_cmp key.term.now key.block from.term.now from.block) ≡ false }
+    ensures { begun.new ≡ not (is_lt (key_cmp key.entry.term.now key.entry.block
+        from.entry.term.now from.entry.block)) }
+{
+    if *begun {
+        return;
+    }
+    *begun = !is_below(key, from);
+}
+
+/// Whether the key of an entry of this term isn't below `from`, and is below the end, where there is one. It is noted whether it isn't below
+/// `from`, and is compared only where no entry before it was so.
+pub(crate) fn is_own_entry(
+    term: &[u8],
+    held: Held,
+    from: BlockKey,
+    end: Option<BlockKey>,
+    begun: &mut bool,
+) -> bool
+    requires { IsTrue begun.old
+        → is_lt (key_cmp term.now held.block from.term.now from.block) ≡ false }
+    ensures own { result ≡ is_own from.entry.term.now from.entry.block
         (option_map (λ (k : KeyOfBlock). (k.term.now, k.block)) end.entry)
         (entry_of term.now held.entry) }
+    ensures begun { begun.new ≡ not (is_lt (key_cmp term.now held.entry.block
+        from.entry.term.now from.entry.block)) }
 {
     let key = BlockKey {
         term,
         block: held.block,
     };
+    note_from(begun, key, from);
     match end {
-        Some(end) => !is_below(key, from) && is_below(key, end),
-        None => !is_below(key, from),
+        Some(end) => *begun && is_below(key, end),
+        None => *begun,
     }
 }
 
 /// The next entry of a walk over a leaf: its term is the walk's then.
+#[inline(always)]
 pub(crate) fn next_entry<'a>(reader: &mut LeafReader<'a>) -> Result<Option<Held<'a>>, RegFault>
     ensures { Answers (λ fault. (fault ≢ RegFault.Store) × IfDamaged (IsStuck reader.old) fault)
         (λ found. MatchOption found ((reader.old.left ≡ []) × (reader.new ≡ reader.old))
@@ -54,20 +80,18 @@ pub(crate) fn next_entry<'a>(reader: &mut LeafReader<'a>) -> Result<Option<Held<
     reader.next().map_err(told_of_leaf)
 }
 
-/// Puts an entry of this term behind the others, if its key isn't below `from` and is below the end, where there is one.
+/// Puts an entry of this term behind the others, if it is chosen.
 fn push_if_own(
     alloc: Global,
     own: &mut Vec<Entry>,
     term: &[u8],
     held: Held,
-    from: BlockKey,
-    end: Option<BlockKey>,
+    chosen: bool,
 ) -> Result<(), AllocError>
-    ensures { OnOk result (own.new.items ≡ own.old.items ++ filter (is_own from.entry.term.now
-        from.entry.block (option_map (λ (k : KeyOfBlock). (k.term.now, k.block)) end.entry))
-        (entry_of term.now held.entry ∷ [])) }
+    ensures { OnOk result (own.new.items
+        ≡ own.old.items ++ filter (λ _. chosen) (entry_of term.now held.entry ∷ [])) }
 {
-    if is_own_entry(term, held, from, end) {
+    if chosen {
         own.push(copy_entry(alloc, term, held)?)?;
     }
     Ok(())
@@ -88,8 +112,10 @@ fn entries_in(
 {
     let mut reader = LeafReader::new(alloc, bytes);
     let mut own = Vec::new(alloc);
+    let mut begun = false;
     while let Some(held) = next_entry(&mut reader)? {
-        push_if_own(alloc, &mut own, reader.term(), held, from, end)?;
+        let chosen = is_own_entry(reader.term(), held, from, end, &mut begun);
+        push_if_own(alloc, &mut own, reader.term(), held, chosen)?;
     }
     Ok(own)
 }

@@ -6,8 +6,8 @@ ghost use Rattle.std.specs.Option.{option_map};
 ghost use Rattle.sqlite.specs.Held.{state};
 ghost use Rattle.zeb_leaf.specs.declared.spans.BlockKey.{BlockKey as KeyOfBlock};
 ghost use Rattle.zeb_leaves.specs.PrivatePieces.{ArePieces, AreStorable};
-ghost use Rattle.zeb_leaves.specs.PrivateTurning.{BeginsFront, CountsChanges, CountsLeaves, IsBelow};
-ghost use Rattle.zeb_leaves.specs.PrivateTurning.{IsOfRegister, IsTextOf, ReplacesFront, TurnsFront};
+ghost use Rattle.zeb_leaves.specs.PrivateTurning.{BeginsFront, CountsChanges, CountsLeaves, CountsTurn};
+ghost use Rattle.zeb_leaves.specs.PrivateTurning.{IsBelow, IsOfRegister, IsTextOf, ReplacesFront, TurnsFront};
 ghost use Rattle.zeb_register.specs.Calls.{GoesOn, Inside};
 ghost use Rattle.zeb_register.specs.Clauses.{InStore};
 ghost use Rattle.zeb_register.specs.Formats.{packed_leaves};
@@ -79,8 +79,8 @@ fn count_leaves(work: &mut Work, read: usize, written: usize)
     work.block_written = counted(work.block_written, written);
 }
 
-/// Puts the pieces at the front that are of the register, which has no leaf, into its first leaves, and counts these; returns how many
-/// pieces it puts.
+/// Puts the pieces at the front that are of the register, which has no leaf, into its first leaves; returns how many pieces it puts. It counts
+/// these leaves as written, and none as read.
 fn register_begun<S: Alter>(
     alloc: Global,
     tx: &mut Transaction<'_, S>,
@@ -96,7 +96,7 @@ fn register_begun<S: Alter>(
         (λ _. GoesOn) }
     ensures turned { BeginsFront at pieces.now (state S.Store tx.old.conn.now)
         (state S.Store tx.new.conn.now) result }
-    ensures work { CountsChanges 1 (state S.Store tx.old.conn.now)
+    ensures work { CountsTurn 0 (state S.Store tx.old.conn.now)
         (state S.Store tx.new.conn.now) result work.old work.new }
     ensures further { IfOk result (λ count. (1 ≤ count) × (count ≤ length pieces.now)) }
 {
@@ -129,7 +129,7 @@ fn leaf_turned<S: Alter>(
     ensures turned { ReplacesFront at leaf.now
         (option_map (λ (k : KeyOfBlock). (k.term.now, k.block)) end.entry) pieces.now
         (state S.Store tx.old.conn.now) (state S.Store tx.new.conn.now) result }
-    ensures work { CountsChanges 1 (state S.Store tx.old.conn.now)
+    ensures work { CountsTurn 1 (state S.Store tx.old.conn.now)
         (state S.Store tx.new.conn.now) result work.old work.new }
     ensures further { IfOk result (λ count. (1 ≤ count) × (count ≤ length pieces.now)) }
 {

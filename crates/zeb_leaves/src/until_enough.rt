@@ -47,23 +47,20 @@ pub(crate) fn entries_until(
     Ok(false)
 }
 
-/// Counts an entry of this term, if its key isn't below `from` and is below the end, where there is one, and if there aren't enough terms before
-/// it. Tells whether there are.
+/// Counts an entry of this term, if it is chosen, and if there aren't enough terms before it. Tells whether there are.
 fn own_until(
     alloc: Global,
     counts: &mut Vec<TermCount>,
     term: &[u8],
     held: Held,
-    from: BlockKey,
-    end: Option<BlockKey>,
+    chosen: bool,
     n: u64,
 ) -> Result<bool, RegFault>
     ensures { Answers (λ fault. (fault ≢ RegFault.Store) × IfDamaged (¬ IsUtf8 term.now) fault)
-        (λ enough. CountUntil n (filter (is_own from.entry.term.now from.entry.block
-        (option_map (λ (k : KeyOfBlock). (k.term.now, k.block)) end.entry))
-        (entry_of term.now held.entry ∷ [])) counts.old.items counts.new.items enough) result }
+        (λ enough. CountUntil n (filter (λ _. chosen) (entry_of term.now held.entry ∷ []))
+        counts.old.items counts.new.items enough) result }
 {
-    if !is_own_entry(term, held, from, end) {
+    if !chosen {
         return Ok(false);
     }
     if are_enough(counts, n, term) {
@@ -92,9 +89,11 @@ fn bytes_until(
 {
     let mut reader = LeafReader::new(alloc, bytes);
     let mut enough = false;
+    let mut begun = false;
     while let Some(held) = next_entry(&mut reader)? {
         if !enough {
-            enough = own_until(alloc, counts, reader.term(), held, from, end, n)?;
+            let chosen = is_own_entry(reader.term(), held, from, end, &mut begun);
+            enough = own_until(alloc, counts, reader.term(), held, chosen, n)?;
         }
     }
     Ok(enough)

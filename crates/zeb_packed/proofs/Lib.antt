@@ -26,5 +26,6 @@ pub mod BegunKeys
 pub mod BegunBlocks
 pub mod HeldKeys
 pub mod HeldRuns
+pub mod NewKeys
 pub mod HeldPuts
 pub mod Cited

@@ -6,14 +6,14 @@ use Rattle.sqlite_tied.specs.Compute.{everything}
 use Rattle.zeb_packed.proofs.ManyRows.{GainsNumbered, fresh_apart, has_shown, inserts_many, new_rows, rows_shown, rows_terms}
 use Rattle.zeb_packed.specs.PrivateNewRows.{AreLacking, AreValuesOf, new_block_row}
 use Rattle.zeb_packed.specs.declared.new_rows.NewBlock.{NewBlock}
-use Rattle.zeb_packed.specs.declared.statements.many.TheConstants.{ADD_BLOCKS}
+use Rattle.zeb_packed.specs.declared.statements.many.TheConstants.{ADD_BLOCKS, MANY}
 use Rattle.zeb_register.proofs.ValueKinds.{keeps_all}
 
 abbrev pub add_text : List ℕ
 add_text = ADD_BLOCKS.now
 
 abbrev add_terms : List Term
-add_terms = rows_terms 6 16 0
+add_terms = rows_terms 6 MANY 0
 
 add_is : command_of (understood store_schema add_text) ≡ Insert 4 (Values add_terms 7)
 unfolding understood everything

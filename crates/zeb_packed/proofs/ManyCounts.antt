@@ -5,14 +5,14 @@ use Rattle.sqlite_tied.specs.Compute.{everything}
 use Rattle.zeb_packed.proofs.ManyRows.{GainsNumbered, inserts_many, rows_shown, rows_terms}
 use Rattle.zeb_packed.specs.PrivateNewRows.{AreValuesOf, new_count_row}
 use Rattle.zeb_packed.specs.declared.new_rows.NewCount.{NewCount}
-use Rattle.zeb_packed.specs.declared.statements.many.TheConstants.{ADD_COUNTS}
+use Rattle.zeb_packed.specs.declared.statements.many.TheConstants.{ADD_COUNTS, MANY}
 use Rattle.zeb_register.proofs.ValueKinds.{keeps_all}
 
 abbrev pub add_text : List ℕ
 add_text = ADD_COUNTS.now
 
 abbrev add_terms : List Term
-add_terms = rows_terms 5 16 0
+add_terms = rows_terms 5 MANY 0
 
 add_is : command_of (understood store_schema add_text) ≡ Insert 5 (Values add_terms 6)
 unfolding understood everything

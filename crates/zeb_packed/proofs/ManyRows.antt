@@ -20,6 +20,7 @@ use Rattle.std.proofs.Math.Seq.{drop-append_seam, take-append_seam}
 use Rattle.std.proofs.lemmas.Bool.{and_parts, not-true}
 use Rattle.std.proofs.lemmas.List.{append_assoc}
 use Rattle.zeb_packed.specs.PrivateNewRows.{AreValuesOf, GainsAll, joined}
+use Rattle.zeb_packed.specs.declared.statements.many.TheConstants.{MANY}
 use Rattle.zeb_register.proofs.EditedRows.{edited_has, edited_keyed, keyed_after}
 use Rattle.zeb_register.proofs.ValueKinds.{keeps_all}
 use Rattle.zeb_register.proofs.WrittenRows.{cast_row_same, not_above, not_counted, not_stamped, same_value, went}
@@ -172,10 +173,10 @@ values_shown width (row ∷ rows) long front at is =
 
 -- the values of as many rows as a statement puts are what its terms show
 pub rows_shown : {X : Type 0} (row_of : X → Row) (width : ℕ) (news : List X) (params : Row) → AreValuesOf row_of news params → AllByRecursion (λ (r : Row). length r ≡ width) (map row_of news)
-    → value_rows params (suc width) 16 (rows_terms width 16 0) ≡ map (λ (r : Row). Null ∷ r) (map row_of news)
+    → value_rows params (suc width) MANY (rows_terms width MANY 0) ≡ map (λ (r : Row). Null ∷ r) (map row_of news)
 rows_shown {X} row_of width news params are long =
     let rows = map row_of news in
-    ap (λ ps. value_rows ps (suc width) 16 (rows_terms width 16 0)) are.1
+    ap (λ ps. value_rows ps (suc width) MANY (rows_terms width MANY 0)) are.1
     ∙ subst (λ n. value_rows (joined rows) (suc width) n (rows_terms width n 0) ≡ map (λ (r : Row). Null ∷ r) rows) (length-map news row_of ∙ are.0) (values_shown width rows long [] 0 refl)
 
 -- ---- what a statement inside a transaction did

@@ -5,6 +5,7 @@ use Rattle.sqlite.specs.Query.{limited, as_count}
 use Rattle.sqlite.specs.Listing.{understood}
 use Rattle.sqlite_tied.specs.Compute.{everything}
 use Rattle.zeb_packed.proofs.Falling.{falling, falls_after}
+use Rattle.zeb_packed.specs.declared.statements.packed.TheConstants.{TERMS_FROM}
 
 then_less : (o p : Ordering) → o ≡ Less → ordering_then o p ≡ Less
 then_less o p is = ap (λ q. ordering_then q p) is
@@ -100,7 +101,7 @@ lists_terms db idx reg old new rows store shown =
 -- ---- those next to a text
 
 abbrev pub from_text : List ℕ
-from_text = codes "SELECT term, records FROM dict WHERE db = ?1 AND idx = ?2 AND reg = ?3 AND term >= ?4 ORDER BY term LIMIT ?5"
+from_text = TERMS_FROM.now
 
 abbrev from_more : List Condition
 from_more = at_least 4 3 ∷ []

@@ -1,6 +1,6 @@
 -- What only the contracts of private functions speak of; no public clause reaches it.
 -- Rows of keys that have none yet, which are held and put together with those of other keys.
-use Rattle.std.specs.Prelude.{◌≡◌, ◌≢◌, ◌↔◌, ◌⊎◌, ◌++◌, ◌≤◌, ℕ, ℤ, List, [], ◌∷◌, length, map, take, IsTrue, Result}
+use Rattle.std.specs.Prelude.{◌≡◌, ◌≢◌, ◌↔◌, ◌⊎◌, ◌++◌, ◌≤◌, ℕ, ℤ, Bool, List, [], ◌∷◌, length, map, take, IsTrue, Result}
 use Rattle.std.specs.List.{AllByRecursion}
 use Rattle.sqlite.specs.Order.{Row}
 use Rattle.sqlite.specs.State.{State}
@@ -8,12 +8,14 @@ use Rattle.sqlite.specs.Tree.{Trees}
 use Rattle.sqlite_rules.specs.Lists.{Has}
 use Rattle.zeb_blocks.specs.Blocks.{BlockSpells}
 use Rattle.zeb_blocks.specs.declared.postings.Posting.{Posting}
+use Rattle.zeb_keys.specs.Registers.{register_code}
 use Rattle.zeb_keys.specs.declared.keys.Key.{Key}
 use Rattle.zeb_packed.specs.PrivateUnitCalls.{TurnsBlocks}
 use Rattle.zeb_packed.specs.declared.new_rows.NewBlock.{NewBlock}
 use Rattle.zeb_packed.specs.declared.new_rows.NewCount.{NewCount}
 use Rattle.zeb_packed.specs.declared.new_rows.NewRows.{NewRows}
 use Rattle.zeb_packed.specs.declared.packed_changes.Known.{Known}
+use Rattle.zeb_packed.specs.declared.statements.many.TheConstants.{MANY}
 use Rattle.zeb_register.specs.Answers.{Answers, IfDamaged}
 use Rattle.zeb_register.specs.Calls.{GoesOn, Inside}
 use Rattle.zeb_register.specs.Clauses.{InStore}
@@ -65,6 +67,20 @@ AreLacking db blocks trees = (one : NewBlock) → Has blocks one → LacksBlock 
 
 abbrev pub SomeStands : ℤ → List NewBlock → Trees → Type 0
 SomeStands db blocks trees = (one : NewBlock) × Has blocks one × ¬ LacksBlock db one.key.now one.block trees
+
+-- ---- whether keys have rows of `dict`
+
+-- where it is told that the key is new, it has none
+abbrev pub IsToldNew : Bool → ℤ → Key → Trees → Type 0
+IsToldNew is_new db key trees = IsTrue is_new → CountsAs trees db key 0
+
+-- the same of each key of a run
+abbrev pub AreToldNew : Bool → ℤ → List KeyChanges → Trees → Type 0
+AreToldNew are_new db run trees = (one : KeyChanges) → Has run one → IsToldNew are_new db one.key.now trees
+
+-- the key is of the first one's register
+abbrev pub IsOfRegister : Key → KeyChanges → Type 0
+IsOfRegister first one = (one.key.now.index ≡ first.index) × (register_code one.key.now.register ≡ register_code first.register)
 
 -- ---- the rows of one key
 
@@ -122,7 +138,7 @@ GoesOnOpen old new result = IsTrue old.is_open → Inside old new result (λ _. 
 
 -- the values are those of so many rows as one statement puts, a row for each of the list
 abbrev pub AreValuesOf : {X : Type 0} → (X → Row) → List X → Row → Type 0
-AreValuesOf row_of news values = (length news ≡ 16) × (values ≡ joined (map row_of news))
+AreValuesOf row_of news values = (length news ≡ MANY) × (values ≡ joined (map row_of news))
 
 -- The rows stand beside those that there were, and no block of theirs had one. Damaged is told only where one has.
 abbrev pub PutsBlocks : ℤ → List NewBlock → State → State → Result (Unit {0}) RegFault → Type 0
@@ -145,12 +161,12 @@ abbrev pub TurnsKnown : ℤ → Key → List RecordChange → (records : ℕ) �
 TurnsKnown db key changes records old new before after result = IsTrue old.is_open → InStore old new (λ trees. CountsAs trees db key records
     → Answers (IsRefusedAs packed_blocks db key changes trees) (λ done. IsStore new × TurnsKey db key changes trees new.now.trees before after) result)
 
--- the same, whatever is known of it
-abbrev pub TurnsOne : ℤ → Key → List RecordChange → (old new : State) → (before after : NewRows) → Result (Unit {0}) RegFault → Type 0
-TurnsOne db key changes old new before after result = InStore old new (λ trees.
-    Answers (IsRefusedAs packed_blocks db key changes trees) (λ done. IsStore new × TurnsKey db key changes trees new.now.trees before after) result)
+-- the same, whatever is known of it but that it may be told to be new
+abbrev pub TurnsOne : ℤ → Key → List RecordChange → (is_new : Bool) → (old new : State) → (before after : NewRows) → Result (Unit {0}) RegFault → Type 0
+TurnsOne db key changes is_new old new before after result = IsTrue old.is_open → InStore old new (λ trees. IsToldNew is_new db key trees
+    → Answers (IsRefusedAs packed_blocks db key changes trees) (λ done. IsStore new × TurnsKey db key changes trees new.now.trees before after) result)
 
 -- the keys of a run are changed, or their rows held
-abbrev pub HoldsKeys : ℤ → List KeyChanges → State → State → Result NewRows RegFault → Type 0
-HoldsKeys db run old new result = IsTrue old.is_open → InStore old new (λ trees.
-    Answers (IsRunRefusedAs packed_blocks db run trees) (λ held. IsStore new × HoldsRun db run trees new.now.trees held) result)
+abbrev pub HoldsKeys : ℤ → List KeyChanges → (are_new : Bool) → State → State → Result NewRows RegFault → Type 0
+HoldsKeys db run are_new old new result = IsTrue old.is_open → InStore old new (λ trees. AreToldNew are_new db run trees
+    → Answers (IsRunRefusedAs packed_blocks db run trees) (λ held. IsStore new × HoldsRun db run trees new.now.trees held) result)

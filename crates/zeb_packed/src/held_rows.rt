@@ -63,7 +63,7 @@ fn many_put<S: Alter>(
     db: DatabaseId,
     blocks: &[NewBlock<'_>],
 ) -> Result<(), RegFault>
-    requires { length blocks.now ≡ 16 }
+    requires { length blocks.now ≡ MANY }
     ensures same { tx.new.conn.ghost_name ≡ tx.old.conn.ghost_name }
     ensures call { Inside (state S.Store tx.old.conn.now) (state S.Store tx.new.conn.now) result
         (λ _. GoesOn) }
@@ -181,7 +181,7 @@ fn many_counts_put<S: Alter>(
     db: DatabaseId,
     counts: &[NewCount<'_>],
 ) -> Result<(), RegFault>
-    requires { length counts.now ≡ 16 }
+    requires { length counts.now ≡ MANY }
     ensures same { tx.new.conn.ghost_name ≡ tx.old.conn.ghost_name }
     ensures call { Inside (state S.Store tx.old.conn.now) (state S.Store tx.new.conn.now) result
         (λ _. GoesOn) }

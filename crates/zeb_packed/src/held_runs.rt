@@ -13,13 +13,14 @@ ghost use Rattle.zeb_register.specs.Tallies.{Works};
 ghost use Rattle.zeb_register.specs.UnitChanges.{IsStorableChange, NumbersRise};
 
 use crate::held_rows::held_put;
+use crate::new_keys::{RunKnown, run_known, term_is_text};
 use crate::new_rows::{NewRows, hold, leave_places, rows_begun};
 use crate::packed_changes::{Known, key_known};
 use crate::packed_runs::{count_rows, known_put};
 use sqlite::{Alter, Transaction};
 use std::alloc::Global;
 use zeb_keys::Key;
-use zeb_register::for_layouts::{check_changes, counts_are_numbers, nothing_inside};
+use zeb_register::for_layouts::{check_changes, counts_are_numbers};
 use zeb_register::{DatabaseId, KeyChanges, RecordChange, RegFault, Work};
 
 /// Puts changes of a key, of which so much is known, into its rows, or holds the rows that they make where it has none. A change that leaves
@@ -52,8 +53,38 @@ fn known_turned<'a, S: Alter>(
     hold(held, made)
 }
 
-/// Puts changes of a key into its rows, or holds those that they make where it has none.
+/// Does the same for a key of which it is known that it has no row of `dict`.
+fn new_turned<'a, S: Alter>(
+    alloc: Global,
+    tx: &mut Transaction<'_, S>,
+    db: DatabaseId,
+    key: &'a Key,
+    changes: &[RecordChange<'_>],
+    held: &mut NewRows<'a>,
+) -> Result<(), RegFault>
+    requires stored { AllByRecursion IsStorableChange changes.now }
+    requires rising { NumbersRise changes.now }
+    requires some { changes.now ≢ [] }
+    ensures same { tx.new.conn.ghost_name ≡ tx.old.conn.ghost_name }
+    ensures call { GoesOnOpen (state S.Store tx.old.conn.now) (state S.Store tx.new.conn.now)
+        result }
+    ensures crash { Survives (state S.Store tx.old.conn.now) (state S.Store tx.new.conn.now)
+        (λ _. ⊥) }
+    ensures turned { TurnsKnown db.0 key.now changes.now 0
+        (state S.Store tx.old.conn.now) (state S.Store tx.new.conn.now) held.old held.new result }
+{
+    term_is_text(key);
+    let known = Known {
+        alloc,
+        records: 0,
+        clear_from: 0,
+    };
+    known_turned(tx, db, key, known, changes, held)
+}
+
+/// Puts changes of a key into its rows, or holds those that they make where it has none. It is looked for where it isn't known to be new.
 fn key_turned<'a, S: Alter>(
+    of_run: RunKnown,
     tx: &mut Transaction<'_, S>,
     db: DatabaseId,
     key: &'a Key,
@@ -66,12 +97,16 @@ fn key_turned<'a, S: Alter>(
         result }
     ensures crash { Survives (state S.Store tx.old.conn.now) (state S.Store tx.new.conn.now)
         (λ _. ⊥) }
-    ensures turned { TurnsOne db.0 key.now changes.now
+    ensures turned { TurnsOne db.0 key.now changes.now of_run.are_new
         (state S.Store tx.old.conn.now) (state S.Store tx.new.conn.now) held.old held.new result }
 {
     check_changes(changes)?;
     if changes.is_empty() {
         return Ok(());
+    }
+    let RunKnown { alloc, are_new } = of_run;
+    if are_new {
+        return new_turned(alloc, tx, db, key, changes, held);
     }
     let known = key_known(tx, db, key)?;
     known_turned(tx, db, key, known, changes, held)
@@ -79,7 +114,7 @@ fn key_turned<'a, S: Alter>(
 
 /// Changes the keys of a run one after the other, and returns the rows that are held.
 fn keys_turned<'a, S: Alter>(
-    alloc: Global,
+    of_run: RunKnown,
     tx: &mut Transaction<'_, S>,
     work: &mut Work,
     db: DatabaseId,
@@ -91,14 +126,14 @@ fn keys_turned<'a, S: Alter>(
         result }
     ensures crash { Survives (state S.Store tx.old.conn.now) (state S.Store tx.new.conn.now)
         (λ _. ⊥) }
-    ensures holds { HoldsKeys db.0 run.now (state S.Store tx.old.conn.now)
+    ensures holds { HoldsKeys db.0 run.now of_run.are_new (state S.Store tx.old.conn.now)
         (state S.Store tx.new.conn.now) result }
     ensures work { OnOk result (Works (1 * changes_in run.now) (1 * changes_in run.now)
         (1 * changes_in run.now) (1 * changes_in run.now) work.old work.new) }
 {
-    let mut held = NewRows::new(alloc);
+    let mut held = NewRows::new(of_run.alloc);
     for one in run {
-        key_turned(tx, db, one.key, one.changes, &mut held)?;
+        key_turned(of_run, tx, db, one.key, one.changes, &mut held)?;
         count_rows(work, one.changes.len());
         counts_are_numbers(work);
     }
@@ -121,8 +156,7 @@ pub(crate) fn run_made<S: Alter>(
     ensures work { OnOk result (Works (1 * changes_in run.now) (1 * changes_in run.now)
         (1 * changes_in run.now) (1 * changes_in run.now) work.old work.new) }
 {
-    // A closed connection is refused also where there is no key.
-    let alloc = nothing_inside(tx)?;
-    let held = keys_turned(alloc, tx, work, db, run)?;
-    held_put(alloc, tx, db, &held)
+    let known = run_known(tx, db, run)?;
+    let held = keys_turned(known, tx, work, db, run)?;
+    held_put(known.alloc, tx, db, &held)
 }

@@ -7,6 +7,7 @@
 mod blocks;
 mod held_rows;
 mod held_runs;
+mod new_keys;
 mod new_rows;
 mod packed;
 mod packed_between;

@@ -1,9 +1,9 @@
 -- What only the contracts of private functions speak of; no public clause reaches it.
 -- Why a file isn't opened of which SQLite's kit says no more than that it can't be, and whether a store may stand at a path (this program's own).
 use Rattle.std.specs.Prelude.{◌≡◌, ◌≢◌, Bool, false, true, Result, Ok, Err}
-use Rattle.std.specs.Fs.{IsDir, IsFile, file_type}
+use Rattle.std.specs.Fs.{IsDir, IsFile, file_type, metadata_len}
 use Rattle.std.specs.IoError.{error_kind}
-use Rattle.std.specs.Result.{IsErrAnd, IsOkAnd}
+use Rattle.std.specs.Result.{IsOkAnd}
 use Rattle.std.specs.declared.fs.attrs.Metadata.{Metadata}
 use Rattle.std.specs.declared.io.Error.{Error}
 use Rattle.std.specs.declared.io.ErrorKind.{ErrorKind}
@@ -58,6 +58,7 @@ log_cause_of system.NotFound = store.Forbidden
 log_cause_of other = store_cause_of other
 
 -- No store stands at a path where this is found, but one could be made: the system says that nothing stands there, and a folder is found where its
--- folder is looked at.
-abbrev pub IsFree : Result Metadata Error → Result Metadata Error → Type 0
-IsFree found folder = IsErrAnd found (λ error. error_kind error ≡ system.NotFound) × IsOkAnd folder (λ metadata. IsDir (file_type metadata))
+-- folder is looked at; or a file of no bytes stands there, and nothing beside it.
+abbrev pub IsFree : Result Metadata Error → Result Metadata Error → (alone : Bool) → Type 0
+IsFree (Ok found) folder alone = IsFile (file_type found) × (metadata_len found ≡ 0) × (alone ≡ true)
+IsFree (Err error) folder alone = (error_kind error ≡ system.NotFound) × IsOkAnd folder (λ metadata. IsDir (file_type metadata))

@@ -6,7 +6,7 @@ ghost use Rattle.std.specs.IoError.{error_kind};
 ghost use Rattle.std.specs.Io.{ReadsAtMost};
 ghost use Rattle.sqlite.specs.Files.{file_state};
 ghost use Rattle.sqlite.specs.State.{HasCleanDisk};
-ghost use Rattle.sqlite_store.specs.FileStore.{faults, is_shielded, recovers, view};
+ghost use Rattle.sqlite_store.specs.FileStore.{faults, is_shielded, recovers, tally, view};
 ghost use Rattle.sqlite_trees.specs.View.{IsQuiet};
 ghost use Rattle.zeb_paths.specs.Causes.{path_cause_of};
 ghost use Rattle.zeb_paths.specs.Closing.{HasReason, IsCauseMet, IsLeft};
@@ -141,7 +141,7 @@ impl<'a> Paths for Disk<'a> {
 
     ghost has = { λ _ _. ⊤ };
 
-    ghost lets_go = { λ _ _. ⊤ };
+    ghost lets_go = { λ _ met store. IsCauseMet (tally store) met };
 
     ghost leaves = { λ _ closed left. IsLeft closed left };
 
@@ -189,7 +189,9 @@ impl<'a> Paths for Disk<'a> {
         close_store(store)
     }
 
-    fn let_go(&self, _store: FileStore<File>) {}
+    fn let_go(&self, store: FileStore<File>) -> Option<StoreCause> {
+        cause_of(store.tally())
+    }
 }
 
 /// How far a file has been read.

@@ -105,22 +105,40 @@ fn is_folder(found: io::Result<Metadata>) -> bool
     }
 }
 
-/// Whether a store may stand at a path where this is found, and that where its folder is looked at.
-fn may_stand(found: io::Result<Metadata>, folder: io::Result<Metadata>) -> bool
-    ensures { (result ≡ false) ↔ IsFree found folder }
+/// Whether a store may stand at a path where this is found, and that where its folder is looked at, and whether nothing stands beside it.
+fn may_stand(found: io::Result<Metadata>, folder: io::Result<Metadata>, is_alone: bool) -> bool
+    ensures { (result ≡ false) ↔ IsFree found folder is_alone }
 {
     match found {
-        Ok(_) => true,
+        Ok(found) => !(found.is_file() && found.len() == 0 && is_alone),
         Err(error) => !is_missing(error) || !is_folder(folder),
     }
 }
 
-/// Whether a store may stand at a path: not where nothing does, in a folder that is there.
+/// Whether a store may stand at a path: not where nothing does, in a folder that is there, nor where a file of no bytes stands alone. Beside
+/// such a file a log may hold all of a register that was begun, and not closed.
 pub fn may_have_store(rt: &HostRuntime, path: &str) -> bool
-    ensures { (found : _) × (folder : _) × ((result ≡ false) ↔ IsFree found folder) }
+    ensures { (found : _) × (folder : _) × (alone : _)
+        × ((result ≡ false) ↔ IsFree found folder alone) }
 {
     let found = fs::metadata(rt, path);
-    may_stand(found, fs::metadata(rt, folder_of(path)))
+    let is_alone = matches!(stands_alone(rt, path), Ok(true));
+    may_stand(found, fs::metadata(rt, folder_of(path)), is_alone)
+}
+
+/// Whether neither a journal nor a log stands beside the file that a path leads to.
+fn stands_alone(rt: &HostRuntime, path: &str) -> Result<bool, StoreCause> {
+    // A link is followed to the file itself: its journal and its log stand beside that.
+    let real = fs::canonicalize(rt, path)?;
+    Ok(!is_beside(rt, real.as_str(), "-journal")? && !is_beside(rt, real.as_str(), "-wal")?)
+}
+
+/// Whether something stands beside a file, at its path with this behind it.
+fn is_beside(rt: &HostRuntime, path: &str, behind: &str) -> Result<bool, StoreCause>
+    ensures looked { IfErr result (λ cause. is_looked_up cause ≡ true) }
+{
+    let beside = format!(in rt.alloc(); "{path}{behind}").map_err(|_| StoreCause::Memory)?;
+    Ok(is_there(rt, beside.as_str())?)
 }
 
 /// Why the store at a path isn't opened, where this is what SQLite's kit says of it.
@@ -200,8 +218,7 @@ fn use_file(rt: &HostRuntime, path: &str, found: Metadata) -> Result<(), StoreCa
 fn use_beside(rt: &HostRuntime, path: &str) -> Result<(), StoreCause>
     ensures looked { IfErr result (λ cause. is_looked_up cause ≡ true) }
 {
-    let journal = format!(in rt.alloc(); "{path}-journal").map_err(|_| StoreCause::Memory)?;
-    if is_there(rt, journal.as_str())? {
+    if is_beside(rt, path, "-journal")? {
         return Err(StoreCause::Journal);
     }
     let log = format!(in rt.alloc(); "{path}-wal").map_err(|_| StoreCause::Memory)?;

@@ -76,8 +76,8 @@ pub trait Paths {
     /// At which paths a store may stand, as far as is told.
     ghost has: { Self → List ℕ → Type 0 };
 
-    /// Which stores were let go, as far as is told.
-    ghost lets_go: { Self → Self.Store → Type 0 };
+    /// Which stores may be let go of which this is told: what they have met since they were opened.
+    ghost lets_go: { Self → Option StoreCause → Self.Store → Type 0 };
 
     /// How a store may be left at its path that was closed so.
     ghost leaves: { Self → Closed → Self.Store → Type 0 };
@@ -129,7 +129,7 @@ pub trait Paths {
             Self.Store.Store.is_shielded store left
             × HasReason Self.Store.Store.view Self.Store.Store.faults store left result };
 
-    /// Ends a store that isn't used: nothing more is done to it.
-    fn let_go(&self, store: Self::Store)
-        ensures { lets_go self.now store };
+    /// Ends a store that isn't used: nothing more is done to it. Answers what it has met since it was opened, where that is told.
+    fn let_go(&self, store: Self::Store) -> Option<StoreCause>
+        ensures { lets_go self.now result store };
 }

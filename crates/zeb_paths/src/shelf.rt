@@ -8,7 +8,7 @@ ghost use Rattle.zeb_paths.specs.PrivateNames.{Adds, AddsAny};
 ghost use Rattle.zeb_paths.specs.Told.{below, first_at, is_slash, name_below, names_in, stands_at, told_at};
 ghost use Rattle.zeb_paths.specs.declared.causes.PathCause.TheVariants.{Memory as Starved};
 
-use crate::causes::{Closed, PathCause};
+use crate::causes::{Closed, PathCause, StoreCause};
 use crate::paths::{Asked, OpenFailed, PathKind, Paths};
 use sqlite::{Alter, Connection};
 use std::alloc::{AllocError, Global};
@@ -147,7 +147,7 @@ impl<'a, S: Alter + Drop> Paths for Shelf<'a, S> {
 
     ghost has = { λ _ _. ⊤ };
 
-    ghost lets_go = { λ _ _. ⊤ };
+    ghost lets_go = { λ _ met _. met ≡ None };
 
     ghost leaves = { λ _ closed _. closed.is_whole ≡ true };
 
@@ -203,7 +203,9 @@ impl<'a, S: Alter + Drop> Paths for Shelf<'a, S> {
         Closed::WHOLE
     }
 
-    fn let_go(&self, _store: S) {}
+    fn let_go(&self, _store: S) -> Option<StoreCause> {
+        None
+    }
 }
 
 /// The bytes of a file in memory; each read fails where there is no such file.

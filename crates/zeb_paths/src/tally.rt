@@ -34,15 +34,18 @@ impl<'a> Tally<'a> {
         if !self.shows {
             return;
         }
-        let before = self.count.get();
-        let mut count = before;
         for byte in bytes {
             if *byte == RECORD_END {
-                count = count.saturating_add(1);
+                self.count_record();
             }
         }
+    }
+
+    /// Counts a record, and shows a whole thousand, however many bytes pass at a time: a change passes a record's, an analysis thousands.
+    fn count_record(&self) {
+        let count = self.count.get().saturating_add(1);
         self.count.set(count);
-        if count / STEP > before / STEP {
+        if count % STEP == 0 {
             self.show('\r');
         }
     }

@@ -46,7 +46,7 @@ unopened_so (Some cause.Failed) = inl refl
 
 pub fails_so : {S : Type 0} (at : Places S) (profile : List Directive) (why : Refusal) (closed : Closed) → FailsOpening at profile why closed → IsOpeningFailure why
 fails_so at profile why closed (shut {met = met} path named refuses) = unopened_so met
-fails_so at profile why closed (given_back opened back opens foreign given gone) = given.0
+fails_so at profile why closed (given_back opened back met opens foreign given gone) = given.0
 fails_so at profile why closed (untold same opened taken last opens failure takes ends) = failure
 
 pub file_explained : (at : Tells) (explains : List ℕ → Asked → Option PathCause → Type 0) (named : List (List ℕ)) (met : Option StoreCause) (why : Refusal) (number : ℕ) (cause : Option Cause) → file_in why ≡ Some number → TellsFile at explains named why number cause → ExplainsRefusal at explains named met why cause

@@ -1,8 +1,9 @@
 -- The lines of a failure, one below the other.
-use Rattle.std.proofs.Common.{◌≡◌, ◌∙◌, ℕ, Bool, true, false, List, ◌++◌, refl, subst, sym}
-use Rattle.std.specs.Prelude.{Option, Some, None, String}
+use Rattle.std.proofs.Common.{◌≡◌, ◌∙◌, ℕ, Bool, true, false, List, [], ◌∷◌, ◌++◌, ap, append_assoc, refl, subst, sym}
+use Rattle.std.specs.Prelude.{Option, Some, None, String, codes, if◌then◌else◌}
+use Rattle.std.specs.Fmt.{decimal}
 use Rattle.std.specs.declared.alloc.Global.{Global}
-use Rattle.std.specs.Option.{option_map}
+use Rattle.std.specs.Option.{option_map, option_map_or}
 use Rattle.std.specs.Io.KnownBytes.{Appends, Keeps}
 use Rattle.std.proofs.KnownBytes.{Appends-nil, Appends-trans}
 use Rattle.zeb_paths.specs.declared.causes.StoreCause.{StoreCause}
@@ -10,6 +11,7 @@ use Rattle.zeb_program.specs.declared.failures.Cause.{Cause}
 use Rattle.zeb_program.specs.declared.failures.Cause.TheVariants.{Store}
 use Rattle.zeb_program.specs.declared.faults.Fault.{Fault}
 use Rattle.zeb_program.specs.Answers.{Writes}
+use Rattle.zeb_program.specs.Diagnostics.{is_placed, meaning_lines, meaning_of}
 use Rattle.zeb_program.specs.FaultLines.{IsCauseOf, TellsCaused, TellsFault, TellsPlaced, register_lines, cause_lines}
 use Rattle.zeb_program.specs.declared.statuses.Status.{Status}
 
@@ -42,3 +44,25 @@ log_told whole old new lines is wrote = (λ other. absurd (false_is_not_true (sy
   where
     false_is_not_true : false ≡ true → ⊥
     false_is_not_true same = cc same
+
+-- ---- the meaning of a diagnostic
+
+abbrev lines_of : Option (List ℕ) → Bool → ℕ → List ℕ
+lines_of found placed place = option_map_or (λ meaning. codes "zebraidx: cause: " ++ meaning ++ (if placed then codes ", at byte " ++ decimal place ++ codes " of the query" else []) ++ 10 ∷ []) found []
+
+lines_so : (number place : ℕ) (meaning : List ℕ) (placed : Bool) → meaning_of number ≡ Some meaning → is_placed number ≡ placed → lines_of (Some meaning) placed place ≡ meaning_lines number place
+lines_so number place meaning placed is at = ap (λ found. lines_of found placed place) (sym is) ∙ ap (λ p. lines_of (meaning_of number) p place) (sym at)
+
+-- the parts of a line, as they are written and as they are said
+five : (a b c d e : List ℕ) → (a ++ (b ++ (c ++ (d ++ e)))) ++ 10 ∷ [] ≡ a ++ b ++ (c ++ d ++ e) ++ 10 ∷ []
+five a b c d e = simp append_assoc
+
+two : (a b : List ℕ) → (a ++ b) ++ 10 ∷ [] ≡ a ++ b ++ [] ++ 10 ∷ []
+two a b = simp append_assoc
+
+pub placed_meaning : (number place : ℕ) (meaning : List ℕ) → meaning_of number ≡ Some meaning → is_placed number ≡ true
+    → (codes "zebraidx: cause: " ++ (meaning ++ (codes ", at byte " ++ (decimal place ++ codes " of the query")))) ++ 10 ∷ [] ≡ meaning_lines number place
+placed_meaning number place meaning is at = five (codes "zebraidx: cause: ") meaning (codes ", at byte ") (decimal place) (codes " of the query") ∙ lines_so number place meaning true is at
+
+pub bare_meaning : (number place : ℕ) (meaning : List ℕ) → meaning_of number ≡ Some meaning → is_placed number ≡ false → (codes "zebraidx: cause: " ++ meaning) ++ 10 ∷ [] ≡ meaning_lines number place
+bare_meaning number place meaning is at = two (codes "zebraidx: cause: ") meaning ∙ lines_so number place meaning false is at

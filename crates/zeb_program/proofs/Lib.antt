@@ -6,6 +6,7 @@ pub mod DoneLemmas
 pub mod ExplanationLemmas
 pub mod FailureLemmas
 pub mod FileLemmas
+pub mod FormLemmas
 pub mod LeftLemmas
 pub mod LineInputLemmas
 pub mod LineLemmas
@@ -13,6 +14,7 @@ pub mod LineStopLemmas
 pub mod MemoryLemmas
 pub mod NumberLemmas
 pub mod OpenedStores
+pub mod OpeningLemmas
 pub mod LayoutLemmas
 pub mod OverLemmas
 pub mod PathLemmas

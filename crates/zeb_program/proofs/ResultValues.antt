@@ -36,17 +36,23 @@ pub given_err : {T A B : Type 0} (from : Result T (A × B)) (to : Result T (Opti
 given_err (Ok value) to back why said is = absurd said
 given_err (Err fault) to back why said is = is ∙ ap (λ one. Err (Some one, fault.1)) said.0 ∙ ap (λ other. Err (Some back, other)) said.1
 
+abbrev pair : (A B : Type 0) → A → B → A × B
+pair A B one other = (one, other)
+
 abbrev pub failing : (T A B : Type 0) → A → B → Result T (A × B)
 failing T A B one other = Err (one, other)
 
 err_same : {T E : Type 0} (r : Result T E) (one other : E) → r ≡ Err one → r ≡ Err other → one ≡ other
 err_same r one other is e = cc
 
+both_same : (T A B : Type 0) (a c : A) (b d : B) → failing T A B a b ≡ failing T A B c d → pair A B a b ≡ pair A B c d
+both_same T A B a c b d e = err_same (failing T A B a b) (pair A B a b) (pair A B c d) refl e
+
+pub first_same : (T A B : Type 0) (a c : A) (b d : B) → failing T A B a b ≡ failing T A B c d → a ≡ c
+first_same T A B a c b d e = ap (λ (both : A × B). both.0) (both_same T A B a c b d e)
+
 pub second_same : (T A B : Type 0) (a c : A) (b d : B) → failing T A B a b ≡ failing T A B c d → b ≡ d
-second_same T A B a c b d e =
-    let here : A × B = (a, b) in
-    let there : A × B = (c, d) in
-    ap (λ (both : A × B). both.1) (err_same (failing T A B a b) here there refl e)
+second_same T A B a c b d e = ap (λ (both : A × B). both.1) (both_same T A B a c b d e)
 
 pub holds_of : {T E : Type 0} (r : Result T E) (value : T) (P : T → Type 0) → r ≡ Ok value → P value → IfOk r P
 holds_of r value P is said = subst (λ it. IfOk it P) (sym is) said

@@ -1,21 +1,24 @@
 -- The answers of a script, at each of its ends.
-use Rattle.zeb_program.proofs.Cited.{◌≡◌, ◌≤◌, ◌+◌, ◌<◌, length, ℕ, Bool, false, List, [], ◌∷◌, ◌++◌, inl, inr, refl, sym, ap, subst, ◌∙◌, arith, Option, Some, None, Result, Ok, Err, IfOk, IfNone, IfSome, IsOk, OnErr, string_bytes, string_len, IsUtf8-string_bytes, AllocError, Appends, Keeps, Held, Ghosts, State, Line, Remark, Order, Path, Mark, Bad, Conditions, Holdings, nothing_yet, Refusal, refusal_text, Directive, IsInput, DividesAt, HasNoDivider, Writes, AnswersBatch, AnswersPart, EachLine, no_lines, more, after_first_line, Format, LineOver, LinesOver, LeadsOn, Status, EndsWith, fault_status, refusal_status, status_code, Answered, Failed}
+use Rattle.zeb_program.proofs.Cited.{◌≡◌, ◌≤◌, ◌+◌, ◌<◌, length, ℕ, Bool, false, true, List, [], ◌∷◌, ◌++◌, inl, inr, refl, sym, ap, subst, ◌∙◌, arith, Option, Some, None, Result, Ok, Err, IfOk, IfNone, IfSome, IsOk, OnErr, string_bytes, string_len, IsUtf8-string_bytes, AllocError, Appends, Keeps, Held, Ghosts, State, Line, Remark, Order, Path, Mark, Bad, Conditions, Holdings, nothing_yet, Refusal, refusal_text, Directive, IsInput, DividesAt, HasNoDivider, Writes, AnswersBatch, AnswersPart, EachLine, no_lines, more, after_first_line, Format, LineOver, LinesOver, LeadsOn, Status, EndsWith, fault_status, refusal_status, status_code, Answered, Failed}
+use Rattle.std.specs.Prelude.{◌⊎◌, ◌==◌}
 use Rattle.std.specs.declared.string.String.{String}
 use Rattle.zeb_program.specs.declared.input.TheConstants.{GREATEST_INPUT}
 use Rattle.zeb_profile.specs.declared.faults.ProfileFault.{ProfileFault}
 use Rattle.zeb_profile.specs.Outcomes.{FailsPlaced}
 use Rattle.zeb_profile.specs.Profiles.{profile_of}
 use Rattle.zeb_program.specs.declared.script.Batch.{Batch}
+use Rattle.zeb_program.specs.declared.program.ScriptEnd.{ScriptEnd}
+use Rattle.zeb_program.specs.PrivateEnding.{AnswersAs}
 use Rattle.zeb_program.specs.FaultAnswers.{IsOpeningFailure}
 use Rattle.zeb_paths.specs.Walks.{Tells}
 use Rattle.sqlite.specs.Held.{state}
 use Rattle.zeb_program.specs.Doing.{RunsText, StopsPart}
-use Rattle.zeb_program.specs.ScriptAnswers.{AnswersScript, EndsEarly, EndsScript, unreadable, faulty, alone, ran, stopped, silent, AreScriptConditions, AnswersOpened, AnswersStopped, PartFromNothing, RunsFromNothing, IsUnopened, IsProfileOf, MayStarve, fault_line}
+use Rattle.zeb_program.specs.ScriptAnswers.{AnswersScript, EndsEarly, EndsScript, unreadable, faulty, alone, ran, stopped, silent, AreScriptConditions, AnswersOpened, AnswersStopped, PartFromNothing, RunsFromNothing, IsUnopened, IsProfileOf, TellsAtMost, fault_line, hint_of}
 use Rattle.zeb_program.specs.OverTables.{LinesWritten, SaysOver, SaysWritten}
 use Rattle.zeb_program.specs.PrivateServing.{HoldsNothing}
-use Rattle.zeb_program.specs.FixedLines.{starved_line, unreadable_line, refusal_line}
+use Rattle.zeb_program.specs.FixedLines.{expected_line, starved_line, unreadable_line, refusal_line}
 use Rattle.zeb_program.proofs.AnswerLemmas.{Appends-nil}
-use Rattle.std.proofs.KnownBytes.{Keeps-refl, Keeps-trans}
+use Rattle.std.proofs.lemmas.Str.{IsUtf8-nil}
 
 unopened : (refusal : Refusal) (bytes : List ℕ) (status : Status) → IsOpeningFailure refusal → (bytes ≡ refusal_line refusal) × (status ≡ refusal_status refusal) → IsUnopened bytes status
 unopened refusal bytes status (inl is) said = (inl (said.0 ∙ ap refusal_line is), said.1 ∙ ap refusal_status is)
@@ -91,19 +94,13 @@ pub silent_refusal : {A : Type 0} (at : Tells) (shows : A → Option (List ℕ))
 silent_refusal at shows failed old new directives n batch (Ok status) same = tt
 silent_refusal at shows failed old new directives n batch (Err e) same = λ _. subst (λ it. AnswersStopped at directives n batch (shows old) (shows it)) (sym same) (silent_batch at directives n batch (shows old))
 
-pub unreadable_script : (at : Tells) (told old new : Option (List ℕ)) → IfSome told (λ text. ¬ IsInput text) → Appends old new unreadable_line → IfSome told (λ text. AnswersScript at text old new Failed)
-unreadable_script at None old new h grew = h
-unreadable_script at (Some text) old new h grew = unreadable h (unreadable_line, refl, grew)
-
 -- a string that isn't too long is an input
 pub text_input : {Z : Type 0} (text : String Z) → string_len text ≤ GREATEST_INPUT → IsInput (string_bytes text)
 text_input text short = (omega (arith, short, text.bytes.ok.0), IsUtf8-string_bytes text)
 
-pub faulty_script : (at : Tells) (told old new : Option (List ℕ)) (read profile : List ℕ) (fault : ProfileFault) (status : Status) → IfSome told (λ text. read ≡ text) → IsInput read → IsProfileOf read profile
-    → FailsPlaced fault (profile_of profile) → status ≡ fault_status fault.kind → Appends old new (fault_line fault) → IfSome told (λ text. AnswersScript at text old new status)
-faulty_script at None old new read profile fault status h input is fails e grew = tt
-faulty_script at (Some text) old new read profile fault status h input is fails e grew =
-    subst (AnswersScript at text old new) (sym e) (faulty fault (subst IsInput h input) (subst (λ t. IsProfileOf t profile) h is) fails (fault_line fault, refl, grew))
+pub faulty_script : (at : Tells) (old new : Option (List ℕ)) (text profile : List ℕ) (fault : ProfileFault) (status : Status) → IsInput text → IsProfileOf text profile
+    → FailsPlaced fault (profile_of profile) → status ≡ fault_status fault.kind → Appends old new (fault_line fault) → AnswersScript at text old new status
+faulty_script at old new text profile fault status input is fails e grew = subst (AnswersScript at text old new) (sym e) (faulty fault input is fails (fault_line fault, refl, grew))
 
 -- what is given is there
 pub is_given : {A E : Type 0} (said : Result A E) (x : A) → said ≡ Ok x → IsOk said
@@ -114,25 +111,37 @@ pub cut_profile : (cut : Option Batch) (text profile : List ℕ) → IfNone cut 
 cut_profile None text profile uncut divides = inl uncut
 cut_profile (Some batch) text profile uncut divides = inr (batch.lines_before, batch.text.now, divides)
 
-pub alone_script : (at : Tells) (told old : Option (List ℕ)) (read : List ℕ) → IfSome told (λ text. read ≡ text) → IsInput read → HasNoDivider read → IsOk (profile_of read) → IfSome told (λ text. AnswersScript at text old old Answered)
-alone_script at None old read h input none sound = tt
-alone_script at (Some text) old read h input none sound = alone (subst IsInput h input) (subst HasNoDivider h none) (subst (λ t. IsOk (profile_of t)) h sound) ([], refl, Appends-nil old)
+pub alone_script : (at : Tells) (old : Option (List ℕ)) (text : List ℕ) → IsInput text → HasNoDivider text → IsOk (profile_of text) → AnswersScript at text old old Answered
+alone_script at old text input none sound = alone input none sound ([], refl, Appends-nil old)
 
-pub ran_script : (at : Tells) (told old new : Option (List ℕ)) (read profile batch : List ℕ) (directives : List Directive) (n : ℕ) (unread failed : Bool) (r : Result Status AllocError)
-    → IfSome told (λ text. read ≡ text) → IsInput read → DividesAt n read profile batch → profile_of profile ≡ Ok directives
+pub ran_script : (at : Tells) (old new : Option (List ℕ)) (text profile batch : List ℕ) (directives : List Directive) (n : ℕ) (failed : Bool) (r : Result Status AllocError)
+    → IsInput text → DividesAt n text profile batch → profile_of profile ≡ Ok directives
     → IfOk r (λ status. failed ≡ false → AnswersOpened at directives n batch old new status)
-    → IfOk r (λ status. unread ≡ false → failed ≡ false → IfSome told (λ text. AnswersScript at text old new status))
-ran_script at told old new read profile batch directives n unread failed (Err e) h input divides given answer = answer
-ran_script at None old new read profile batch directives n unread failed (Ok status) h input divides given answer = λ _ _. tt
-ran_script at (Some text) old new read profile batch directives n unread failed (Ok status) h input divides given answer = λ _ sound. ran (subst IsInput h input) (subst (λ t. DividesAt n t profile batch) h divides) given (answer sound)
+    → IfOk r (λ status. failed ≡ false → AnswersScript at text old new status)
+ran_script at old new text profile batch directives n failed (Err e) input divides given answer = answer
+ran_script at old new text profile batch directives n failed (Ok status) input divides given answer = λ sound. ran input divides given (answer sound)
 
-pub stopped_script : (at : Tells) (told old new : Option (List ℕ)) (read profile batch : List ℕ) (directives : List Directive) (n : ℕ) (unread failed : Bool) (r : Result Status AllocError)
-    → IfSome told (λ text. read ≡ text) → IsInput read → DividesAt n read profile batch → profile_of profile ≡ Ok directives
+pub stopped_script : (at : Tells) (old new : Option (List ℕ)) (text profile batch : List ℕ) (directives : List Directive) (n : ℕ) (failed : Bool) (r : Result Status AllocError)
+    → IsInput text → DividesAt n text profile batch → profile_of profile ≡ Ok directives
     → OnErr r (failed ≡ false → AnswersStopped at directives n batch old new)
-    → OnErr r (unread ≡ false → failed ≡ false → IfSome told (λ text. EndsEarly at text old new))
-stopped_script at told old new read profile batch directives n unread failed (Ok status) h input divides given answer = answer
-stopped_script at None old new read profile batch directives n unread failed (Err e) h input divides given answer = λ _ _. tt
-stopped_script at (Some text) old new read profile batch directives n unread failed (Err e) h input divides given answer = λ _ sound. stopped (subst IsInput h input) (subst (λ t. DividesAt n t profile batch) h divides) given (answer sound)
+    → OnErr r (failed ≡ false → EndsEarly at text old new)
+stopped_script at old new text profile batch directives n failed (Ok status) input divides given answer = answer
+stopped_script at old new text profile batch directives n failed (Err e) input divides given answer = λ sound. stopped input divides given (answer sound)
+
+-- what is so of the text that was read is so of the one that is told
+pub told_text : (told : Option (List ℕ)) (read : List ℕ) (P : List ℕ → Type 0) → IfSome told (λ text. read ≡ text) → P read → IfSome told P
+told_text None read P is so = tt
+told_text (Some text) read P is so = subst P is so
+
+-- an input that is too long or no text has a byte
+unread_is_long : (text : List ℕ) → ¬ IsInput text → false ≡ (length text == 0)
+unread_is_long [] long = absurd (long (omega arith, IsUtf8-nil))
+unread_is_long (byte ∷ text) long = grind arith
+
+pub unread_script : (at : Tells) (told old new : Option (List ℕ)) (end : ScriptEnd) → end ≡ record { status = Failed; is_empty = false } → IfSome told (λ text. ¬ IsInput text) → Appends old new unreadable_line
+    → IfSome told (λ text. AnswersAs at text old new end)
+unread_script at None old new end is h grew = tt
+unread_script at (Some text) old new end is h grew = subst (AnswersAs at text old new) (sym is) (unreadable h (unreadable_line, refl, grew), unread_is_long text h)
 
 -- memory ran out before anything was written
 pub silent_script : (at : Tells) (told old : Option (List ℕ)) → IfSome told (λ text. EndsEarly at text old old)
@@ -194,30 +203,36 @@ EndsEarly-kept at text old mid new kept (silent w) = silent (Writes-kept old mid
 
 EndsScript-kept : (at : Tells) (text : List ℕ) (old mid new fault_old fault_mid fault_new : Option (List ℕ)) (status : Status) → Keeps mid new → Keeps fault_mid fault_new
     → EndsScript at text old mid fault_old fault_mid status → EndsScript at text old new fault_old fault_new status
-EndsScript-kept at text old mid new fault_old fault_mid fault_new status kept fault_kept (inl (answers, same)) =
-    inl (AnswersScript-kept at text old mid new status kept answers, Keeps-trans fault_old fault_mid fault_new same fault_kept)
+EndsScript-kept at text old mid new fault_old fault_mid fault_new status kept fault_kept (inl (answers, told)) =
+    inl (AnswersScript-kept at text old mid new status kept answers, Appends-kept fault_old fault_mid fault_new (hint_of (length text == 0)) told fault_kept)
 EndsScript-kept at text old mid new fault_old fault_mid fault_new status kept fault_kept (inr (ends, starved, is)) =
     inr (EndsEarly-kept at text old mid new kept ends, Appends-kept fault_old fault_mid fault_new starved_line starved fault_kept, is)
 
 -- a script is answered where the program has an answer, and ends early where it has none
-pub ended_script : {V : Type 0} (at : Tells) (told old new : Option (List ℕ)) (contents : V → Option (List ℕ)) (fault_old last : V) (unread failed last_failed : Bool) (status : Status) (r : Result Status AllocError)
-    → IfOk r (λ met. unread ≡ false → failed ≡ false → IfSome told (λ text. AnswersScript at text old new met))
-    → OnErr r (unread ≡ false → failed ≡ false → IfSome told (λ text. EndsEarly at text old new))
-    → IfOk r (λ met. (status ≡ met) × (last ≡ fault_old)) → OnErr r ((status ≡ Failed) × (last_failed ≡ false → Appends (contents fault_old) (contents last) starved_line))
-    → last_failed ≡ false → unread ≡ false → failed ≡ false → IfSome told (λ text. EndsScript at text old new (contents fault_old) (contents last) status)
-ended_script at None old new contents fault_old last unread failed last_failed status r answers ends same starved quiet read sound = tt
-ended_script at (Some text) old new contents fault_old last unread failed last_failed status (Ok met) answers ends same starved quiet read sound =
-    subst (λ v. EndsScript at text old new (contents fault_old) (contents v) status) (sym same.1)
-    (subst (λ s. EndsScript at text old new (contents fault_old) (contents fault_old) s) (sym same.0) (inl (answers read sound, Keeps-refl (contents fault_old))))
-ended_script at (Some text) old new contents fault_old last unread failed last_failed status (Err e) answers ends same starved quiet read sound =
-    inr (ends read sound, starved.1 quiet, starved.0)
+pub ended_script : (at : Tells) (input old mid new fault_old fault_new : Option (List ℕ)) (unread failed last_failed : Bool) (status : Status) (r : Result ScriptEnd AllocError)
+    → IfOk r (λ end. unread ≡ false → failed ≡ false → IfSome input (λ text. AnswersAs at text old mid end))
+    → OnErr r (unread ≡ false → failed ≡ false → IfSome input (λ text. EndsEarly at text old mid))
+    → Keeps mid new → IfOk r (λ end. (status ≡ end.status) × (last_failed ≡ false → Appends fault_old fault_new (hint_of end.is_empty)))
+    → OnErr r ((status ≡ Failed) × (last_failed ≡ false → Appends fault_old fault_new starved_line))
+    → last_failed ≡ false → unread ≡ false → failed ≡ false → IfSome input (λ text. EndsScript at text old new fault_old fault_new status)
+ended_script at None old mid new fault_old fault_new unread failed last_failed status r answers ends kept told starved quiet read sound = tt
+ended_script at (Some text) old mid new fault_old fault_new unread failed last_failed status (Ok end) answers ends kept told starved quiet read sound =
+    let given = answers read sound in
+    inl (AnswersScript-kept at text old mid new status kept (subst (AnswersScript at text old mid) (sym told.0) given.0), subst (λ empty. Appends fault_old fault_new (hint_of empty)) given.1 (told.1 quiet))
+ended_script at (Some text) old mid new fault_old fault_new unread failed last_failed status (Err e) answers ends kept told starved quiet read sound =
+    inr (EndsEarly-kept at text old mid new kept (ends read sound), starved.1 quiet, starved.0)
 
--- whatever the input at
-pub may_starve : {V : Type 0} (contents : V → Option (List ℕ)) (fault_old last : V) (status : Status) (r : Result Status AllocError) (last_failed : Bool) (new : Option (List ℕ))
-    → IfOk r (λ met. (status ≡ met) × (last ≡ fault_old)) → OnErr r ((status ≡ Failed) × (last_failed ≡ false → Appends (contents fault_old) (contents last) starved_line))
-    → last_failed ≡ false → Keeps (contents last) new → MayStarve (contents fault_old) new
-may_starve contents fault_old last status (Ok met) last_failed new same starved quiet kept = inl (subst (λ v. Keeps (contents v) new) same.1 kept)
-may_starve contents fault_old last status (Err e) last_failed new same starved quiet kept = inr (Appends-kept (contents fault_old) (contents last) new starved_line (starved.1 quiet) kept)
+-- whatever the input
+hint_is : (empty : Bool) → (hint_of empty ≡ []) ⊎ (hint_of empty ≡ starved_line) ⊎ (hint_of empty ≡ expected_line)
+hint_is false = inl refl
+hint_is true = inr (inr refl)
+
+pub tells_at_most : (old mid new : Option (List ℕ)) (status : Status) (r : Result ScriptEnd AllocError) (last_failed : Bool)
+    → IfOk r (λ end. (status ≡ end.status) × (last_failed ≡ false → Appends old mid (hint_of end.is_empty)))
+    → OnErr r ((status ≡ Failed) × (last_failed ≡ false → Appends old mid starved_line))
+    → last_failed ≡ false → Keeps mid new → TellsAtMost old new
+tells_at_most old mid new status (Ok end) last_failed told starved quiet kept = (hint_of end.is_empty, hint_is end.is_empty, Appends-kept old mid new (hint_of end.is_empty) (told.1 quiet) kept)
+tells_at_most old mid new status (Err e) last_failed told starved quiet kept = (starved_line, inr (inl refl), Appends-kept old mid new starved_line (starved.1 quiet) kept)
 
 pub kept_script : (at : Tells) (told old mid new fault_old fault_mid fault_new : Option (List ℕ)) (status : Status) → Keeps mid new → Keeps fault_mid fault_new
     → IfSome told (λ text. EndsScript at text old mid fault_old fault_mid status) → IfSome told (λ text. EndsScript at text old new fault_old fault_new status)

@@ -1,6 +1,6 @@
 -- What comes of words, from the profile that they name and the register in the store at its path.
 use Rattle.std.proofs.Common.{◌≡◌, ◌≢◌, ◌⊎◌, ℕ, Bool, true, false, List, inl, inr, refl, subst, sym}
-use Rattle.std.specs.Prelude.{Option, Some, None, Result, Ok, Err, IfOk, IfErr, IfSome, OnErr, String, codes, string_bytes}
+use Rattle.std.specs.Prelude.{Option, Some, None, Result, Ok, Err, IfOk, IfErr, IfSome, OnErr, String, string_bytes}
 use Rattle.std.specs.declared.alloc.AllocError.{AllocError}
 use Rattle.std.specs.declared.alloc.Global.{Global}
 use Rattle.std.specs.Io.KnownBytes.{Appends, Keeps}
@@ -16,10 +16,8 @@ use Rattle.zeb_engine.specs.Replies.{reply_text}
 use Rattle.zeb_image.specs.Holdings.{Holdings, nothing_yet}
 use Rattle.zeb_image.specs.Image.{Keeps as Holding}
 use Rattle.zeb_profile.specs.declared.directives.Directive.{Directive}
-use Rattle.zeb_profile.specs.Indexes.{store_path}
 use Rattle.zeb_paths.specs.Walks.{Tells}
 use Rattle.zeb_paths.specs.declared.causes.Closed.{Closed}
-use Rattle.zeb_paths.specs.declared.paths.OpenFailed.{OpenFailed}
 use Rattle.zeb_paths.specs.declared.causes.StoreCause.{StoreCause}
 use Rattle.zeb_program.specs.declared.failures.Cause.{Cause}
 use Rattle.zeb_program.specs.declared.failures.Failure.{Failure}
@@ -35,14 +33,14 @@ use Rattle.zeb_program.specs.declared.tasks.Task.TheVariants.{Ask}
 use Rattle.zeb_program.specs.Answers.{Writes}
 use Rattle.zeb_register.specs.Formats.{Format, packed_blocks}
 use Rattle.zeb_program.specs.Doing.{DoesOnNothing, DoesTask, RunsText, ServesText}
-use Rattle.zeb_program.specs.FaultAnswers.{GivesAnswer, IsOpeningFailure, IsUnreadWhole, Reaches, unopened_refusal}
+use Rattle.zeb_program.specs.FaultAnswers.{GivesAnswer, IsOpeningFailure, IsUnreadWhole, Reaches}
 use Rattle.zeb_program.specs.FaultLines.{TellsCaused, left_lines, unclosed_lines}
 use Rattle.zeb_program.specs.Explanations.{Explains, ExplainsUnread, NamesRegister, refusal_cause}
 use Rattle.zeb_program.specs.PrivateFaults.{IsOpeningFault}
 use Rattle.zeb_program.specs.PrivateServing.{CarriesOut, HoldsNothing, StandsFor}
 use Rattle.zeb_program.specs.Serving.{AnswersFrom, ServesTask}
-use Rattle.zeb_program.specs.PrivateWordRuns.{ExplainsRun, GivesClosed, GivesFor, OpensUnder, RunsIn, RunsOnNothing, ServesHeld, ServesIn, ServesOnNothing, TakesIn, TakesOpen, TakesStore}
-use Rattle.zeb_program.specs.Registers.{ClosesStore, FailsOpening, shut, given_back, FromStore, IsForeignCause, IsGivenBack, IsLetGo, HasStore, LacksStore, kept, none, Places, nothing_met, whole_but}
+use Rattle.zeb_program.specs.PrivateWordRuns.{ExplainsRun, GivesClosed, GivesFor, OpensUnder, RunsIn, RunsOnNothing, ServesHeld, ServesIn, ServesOnNothing, TakesIn}
+use Rattle.zeb_program.specs.Registers.{ClosesStore, FromStore, HasStore, LacksStore, kept, none, Places, nothing_met}
 use Rattle.zeb_program.specs.ScriptAnswers.{AnswersStopped, AreConditionsIn, AreScriptConditions, RunsFromNothing}
 use Rattle.zeb_program.specs.TaskAnswers.{AnswersOn, AnswersTask, ReadsWhole, paths_of}
 use Rattle.zeb_program.specs.WordAnswers.{TellsApart, WarnsClosed}
@@ -61,9 +59,8 @@ use Rattle.zeb_program.specs.Statuses.{closing_status}
 use Rattle.zeb_program.proofs.ScriptAnswerLemmas.{RunsFromNothing-kept, RunsText-kept, Writes-kept, silent_batch}
 use Rattle.zeb_program.proofs.ShellTextLemmas.{ServesText-kept}
 use Rattle.zeb_program.specs.Scripts.{BeginsRegister}
-use Rattle.zeb_program.proofs.ExplanationLemmas.{fails_so, opening_explained, unopened_so}
+use Rattle.zeb_program.proofs.ExplanationLemmas.{fails_so, opening_explained}
 use Rattle.zeb_program.proofs.TaskLemmas.{over_nothing}
-use Rattle.zeb_program.proofs.ResultValues.{failing, second_same}
 
 -- ---- what is passed on stays what it was
 
@@ -441,38 +438,6 @@ shell_served at config format c held given left read_failed old new fault_old fa
     shell_kept at config format c held given left read_failed old new fault_old fault_new status under (serves sound quiet)
 
 -- ---- what functions give on
-
--- the store that was opened is the one that was taken over
-pub taken_store : {S : Type 0} (at : Places S) (profile : List Directive) (path : List ℕ) (opened : Result (Held S) OpenFailed) (taken : Held S) (Never : OpenFailed → Type 0) → store_path profile ≡ Some path → IfOk opened (at.opens path)
-    → IfOk opened (λ connection. HasCleanDisk (state at.store taken) → TakesOpen at.store connection taken)
-    → IfErr opened Never → ((failed : OpenFailed) → Never failed → ⊥) → TakesStore at profile taken
-taken_store at profile path (Ok connection) taken Never named opens keeps failed never = (connection, (path, named, opens), λ clean. (keeps clean).0)
-taken_store at profile path (Err why) taken Never named opens keeps failed never = absurd (never why failed)
-
--- or there is none, and what was opened, if it was, is let go
-pub fails_opening : {S : Type 0} (T : Type 0) (at : Places S) (profile : List Directive) (path : List ℕ) (opened : Result (Held S) OpenFailed) (back : Option (Held S)) (why : Refusal) (met : Option StoreCause) → store_path profile ≡ Some path → IfOk opened (at.opens path)
-    → IfErr opened (λ failed. at.refuses path failed.cause) → IfErr opened (λ failed. failing T (Option (Held S)) Refusal back why ≡ failing T (Option (Held S)) Refusal None (unopened_refusal failed.cause))
-    → IfOk opened (λ connection. IsForeignCause (state at.store connection) met)
-    → IfErr opened (λ failed. met ≡ failed.cause)
-    → IfOk opened (λ connection. (left : Held S) × (back ≡ Some left) × IsGivenBack at.store connection left why) → IfSome back (IsLetGo at.store at.lets_go) → FailsOpening at profile why (whole_but met)
-fails_opening T at profile path (Ok connection) back why met named opens refuses lost other is given gone =
-    given_back connection given.0 (path, named, opens) other given.2 (subst (λ b. IfSome b (IsLetGo at.store at.lets_go)) given.1 gone)
-fails_opening {S} T at profile path (Err failed) back why met named opens refuses lost other is given gone =
-    let same : why ≡ unopened_refusal failed.cause = second_same T (Option (Held S)) Refusal back None why (unopened_refusal failed.cause) lost in
-    subst (λ it. FailsOpening at profile it (whole_but met)) (sym same) (subst (λ it. FailsOpening at profile (unopened_refusal failed.cause) (whole_but it)) (sym is) (shut path named refuses))
-
--- as the program gives it
-pub opening_fault : {S : Type 0} (at : Places S) (profile : List Directive) (why : Refusal) (closed : Closed) (it : Unopened) → FailsOpening at profile why closed
-    → it.failure.fault ≡ fault.Refused why → it.failure.cause ≡ refusal_cause why closed.cause → it.closed ≡ closed → IsOpeningFault at profile it.failure.fault it.failure.cause it.closed
-opening_fault at profile why closed it fails is cause same =
-    subst (λ f. IsOpeningFault at profile f it.failure.cause it.closed) (sym is) (subst (λ c. FailsOpening at profile why c × (it.failure.cause ≡ refusal_cause why c.cause)) (sym same) (fails, cause))
-
--- of the store or of the memory
-pub fails_anyway : {S : Type 0} (T : Type 0) (opened : Result (Held S) OpenFailed) (g : Ghosts S) (back : Option (Held S)) (why : Refusal) → IfErr opened (λ failed. failing T (Option (Held S)) Refusal back why ≡ failing T (Option (Held S)) Refusal None (unopened_refusal failed.cause))
-    → IfOk opened (λ connection. (left : Held S) × (back ≡ Some left) × IsGivenBack g connection left why) → IsOpeningFailure why
-fails_anyway T (Ok connection) g back why lost given = given.2.0
-fails_anyway {S} T (Err failed) g back why lost given =
-    subst IsOpeningFailure (sym (second_same T (Option (Held S)) Refusal back None why (unopened_refusal failed.cause) lost)) (unopened_so failed.cause)
 
 -- under the profile in a file
 pub opens_under : {S B E : Type 0} (at : Places S) (config : String Global) (profile : List Directive) (r : Result B E) (held : B → Held S) (format : B → Format) (c : B → Conditions) → ReadsAt at config (Ok profile)

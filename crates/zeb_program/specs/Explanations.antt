@@ -1,6 +1,6 @@
 -- What is told below the line of a fault, where it is known (this program's own): why a path isn't read, the path of a refusal's file, and why
 -- a store failed.
-use Rattle.std.specs.Prelude.{◌≡◌, ◌≢◌, ◌==◌, ⊤, ℕ, List, Option, None, Some, Ok, Err, IfNone, IfSome, String, true, if◌then◌else◌, string_bytes}
+use Rattle.std.specs.Prelude.{◌≡◌, ◌≢◌, ◌==◌, ⊤, ℕ, Bool, List, Option, None, Some, Ok, Err, IfNone, IfSome, String, false, true, string_bytes}
 use Rattle.std.specs.Option.{option_map}
 use Rattle.std.specs.declared.alloc.Global.{Global}
 use Rattle.zeb_change.specs.declared.faults.RecordFault.{RecordFault}
@@ -19,34 +19,49 @@ use Rattle.zeb_program.specs.FaultLines.{file_in, is_of_register}
 use Rattle.zeb_program.specs.ProfileFiles.{ReadsProfile}
 use Rattle.zeb_program.specs.WalkedFiles.{FindsNthFile}
 use Rattle.zeb_program.specs.declared.failures.Cause.{Cause}
-use Rattle.zeb_program.specs.declared.failures.Cause.TheVariants.{Path as PathOf, Store as StoreOf, File as FileOf}
+use Rattle.zeb_program.specs.declared.failures.Cause.TheVariants.{Path as PathOf, Store as StoreOf, Query, File as FileOf}
+use Rattle.zeb_program.specs.declared.failures.FileCause.{FileCause}
+use Rattle.zeb_program.specs.declared.failures.FileCause.TheVariants.{Path as PathMet, Form as IsForm}
+use Rattle.zeb_program.specs.Forms.{IsFormOf}
+use Rattle.zeb_program.specs.declared.forms.Form.{Form}
 use Rattle.zeb_program.specs.declared.faults.Fault.{Fault}
 use Rattle.zeb_program.specs.declared.faults.Fault.TheVariants.{Profile, Unreadable, Refused, Memory}
 
--- what is known of why a store failed is the cause of a failed store alone
+-- what is known of why a store failed is the cause of a failed store alone; that of a diagnostic is its meaning
 abbrev pub refusal_cause : Refusal → Option StoreCause → Option Cause
 refusal_cause refusal.Store cause = option_map StoreOf cause
+refusal_cause (refusal.Diagnostic number place addinfo) cause = Some (Query number place)
 refusal_cause _ cause = None
 
--- what is told of a file with a faulty record of this number: one that begins with no length of a record may be of another form
-abbrev pub record_cause : ℕ → RecordFault → Option PathCause
-record_cause nth faulty.LengthDigits = if nth == 1 then Some path.NoRecord else None
-record_cause nth other = None
+-- a file with this fault of the record of this number begins with no length of a record, so that it may be of another form
+abbrev pub lacks_record : ℕ → RecordFault → Bool
+lacks_record nth faulty.LengthDigits = nth == 1
+lacks_record nth other = false
 
--- this is told of the file at a path that a refusal is about: of a read that failed what the paths tell of it
-abbrev pub MeetsFile : (List ℕ → Asked → Option PathCause → Type 0) → Refusal → List ℕ → Option PathCause → Type 0
-MeetsFile explains (refusal.ReadFault file) path met = explains path Bytes met
-MeetsFile explains (refusal.Record file nth fault) path met = met ≡ record_cause nth fault
-MeetsFile explains other path met = met ≡ None
+-- what is told of a file that begins with no record: its form, where its first bytes tell one
+abbrev pub form_cause : Option Form → FileCause
+form_cause None = PathMet path.NoRecord
+form_cause (Some form) = IsForm form
+
+-- this is told of a file with a faulty record, of which these bytes are told, if any, where it begins with no record, or with one
+abbrev pub MeetsRecord : Option (List ℕ) → Bool → Option FileCause → Type 0
+MeetsRecord told true met = (form : Option Form) × IsFormOf told form × (met ≡ Some (form_cause form))
+MeetsRecord told false met = met ≡ None
+
+-- This is told of the file at a path that a refusal is about: of a read that failed what the paths tell of it, of a faulty record the file's form.
+abbrev pub MeetsFile : (List ℕ → Option (List ℕ)) → (List ℕ → Asked → Option PathCause → Type 0) → Refusal → List ℕ → Option FileCause → Type 0
+MeetsFile tells explains (refusal.ReadFault file) path met = (why : Option PathCause) × explains path Bytes why × (met ≡ option_map PathMet why)
+MeetsFile tells explains (refusal.Record file nth fault) path met = MeetsRecord (tells path) (lacks_record nth fault) met
+MeetsFile tells explains other path met = met ≡ None
 
 -- the cause is that file's path, with what is told of it; without a path there is none
-abbrev pub IsFileCause : (List ℕ → Asked → Option PathCause → Type 0) → Refusal → ℕ → Option (String Global) → Option Cause → Type 0
-IsFileCause explains why number None cause = cause ≡ None
-IsFileCause explains why number (Some path) cause = (met : Option PathCause) × MeetsFile explains why (string_bytes path) met × (cause ≡ Some (FileOf number path met))
+abbrev pub IsFileCause : (List ℕ → Option (List ℕ)) → (List ℕ → Asked → Option PathCause → Type 0) → Refusal → ℕ → Option (String Global) → Option Cause → Type 0
+IsFileCause tells explains why number None cause = cause ≡ None
+IsFileCause tells explains why number (Some path) cause = (met : Option FileCause) × MeetsFile tells explains why (string_bytes path) met × (cause ≡ Some (FileOf number path met))
 
 -- the cause is the path of the file of this number, where a walk over the named paths finds one, with what is told of it
 abbrev pub TellsFile : Tells → (List ℕ → Asked → Option PathCause → Type 0) → List (List ℕ) → Refusal → ℕ → Option Cause → Type 0
-TellsFile at explains named why number cause = (found : Option (String Global)) × FindsNthFile at named number found × IsFileCause explains why number found cause
+TellsFile at explains named why number cause = (found : Option (String Global)) × FindsNthFile at named number found × IsFileCause at.bytes explains why number found cause
 
 -- of a refusal about a file: that file's path; of another: this, if it is a failed store
 abbrev pub ExplainsRefusal : Tells → (List ℕ → Asked → Option PathCause → Type 0) → List (List ℕ) → Option StoreCause → Refusal → Option Cause → Type 0

@@ -1,5 +1,5 @@
 -- What is written where a command that words or a line name isn't answered, and the status that goes with it (this program's own).
-use Rattle.std.specs.Prelude.{◌≡◌, ◌==◌, ℕ, Bool, true, false, IsTrue, List, [], ◌∷◌, ◌++◌, Option, Some, None, String, codes, string_bytes}
+use Rattle.std.specs.Prelude.{◌≡◌, ◌==◌, ◌&&◌, ℕ, Bool, true, false, IsTrue, List, [], ◌∷◌, ◌++◌, Option, Some, None, String, codes, string_bytes}
 use Rattle.std.specs.Option.{option_map, option_map_or}
 use Rattle.std.specs.declared.alloc.Global.{Global}
 use Rattle.zeb_change.specs.declared.refusals.Refusal.{Refusal}
@@ -12,8 +12,12 @@ use Rattle.std.specs.Fmt.{decimal}
 use Rattle.zeb_paths.specs.Causes.{path_cause_text, store_cause_text}
 use Rattle.zeb_paths.specs.declared.causes.PathCause.{PathCause}
 use Rattle.zeb_paths.specs.declared.causes.StoreCause.{StoreCause}
+use Rattle.zeb_program.specs.Diagnostics.{meaning_lines}
+use Rattle.zeb_program.specs.Forms.{form_text}
 use Rattle.zeb_program.specs.declared.failures.Cause.{Cause}
-use Rattle.zeb_program.specs.declared.failures.Cause.TheVariants.{Path, Store, Input, Text, File}
+use Rattle.zeb_program.specs.declared.failures.Cause.TheVariants.{Path, Store, Query, Input, Text, File}
+use Rattle.zeb_program.specs.declared.failures.FileCause.{FileCause}
+use Rattle.zeb_program.specs.declared.failures.FileCause.TheVariants.{Path as PathOf, Form}
 use Rattle.zeb_program.specs.FixedLines.{refusal_line, unreadable_line}
 use Rattle.zeb_program.specs.InputCauses.{input_cause_text, text_cause_text}
 use Rattle.zeb_program.specs.declared.line_input.InputCause.{InputCause}
@@ -44,18 +48,20 @@ file_line number path = codes "zebraidx: file " ++ decimal number ++ codes " is 
 abbrev pub met_line : PathCause → List ℕ
 met_line cause = codes "zebraidx: cause: " ++ path_cause_text cause ++ 10 ∷ []
 
--- such a line where that is known, else nothing
-abbrev pub met_lines : Option PathCause → List ℕ
-met_lines None = []
-met_lines (Some cause) = met_line cause
+-- the line of what is told of a file, where something is, else nothing
+abbrev pub file_lines : Option FileCause → List ℕ
+file_lines None = []
+file_lines (Some (PathOf cause)) = met_line cause
+file_lines (Some (Form form)) = codes "zebraidx: cause: " ++ form_text form ++ 10 ∷ []
 
 -- of what is known of why there is a fault
 abbrev pub cause_line : Cause → List ℕ
 cause_line (Path cause) = met_line cause
 cause_line (Store cause) = codes "zebraidx: cause: " ++ store_cause_text cause ++ 10 ∷ []
+cause_line (Query number place) = meaning_lines number place
 cause_line (Input cause) = codes "zebraidx: cause: " ++ input_cause_text cause ++ 10 ∷ []
 cause_line (Text cause) = codes "zebraidx: cause: " ++ text_cause_text cause ++ 10 ∷ []
-cause_line (File number path met) = file_line number (string_bytes path) ++ met_lines met
+cause_line (File number path met) = file_line number (string_bytes path) ++ file_lines met
 
 -- such a line where a cause is known, else nothing
 abbrev pub cause_lines : Option Cause → List ℕ
@@ -73,11 +79,18 @@ abbrev pub is_store : Refusal → Bool
 is_store refusal.Store = true
 is_store _ = false
 
--- A fault may have this cause: a path or an input that can't be read, why it isn't; a failed store, why it fails; and a refusal about a file has that file's path.
+-- a refusal is the diagnostic of this number at this place
+abbrev pub is_diagnostic : Refusal → ℕ → ℕ → Bool
+is_diagnostic (refusal.Diagnostic number place addinfo) this at = (number == this) && (place == at)
+is_diagnostic _ this at = false
+
+-- A fault may have this cause: a path or an input that can't be read, why it isn't; a failed store, why it fails; a diagnostic, its number and its place;
+-- and a refusal about a file has that file's path.
 abbrev pub is_cause_of : Fault → Cause → Bool
 is_cause_of (Unreadable path) (Path cause) = true
 is_cause_of (Unreadable path) (Text cause) = true
 is_cause_of (Refused why) (Store cause) = is_store why
+is_cause_of (Refused why) (Query number place) = is_diagnostic why number place
 is_cause_of (Refused why) (File number path met) = option_map_or (λ file. file == number) (file_in why) false
 is_cause_of _ _ = false
 

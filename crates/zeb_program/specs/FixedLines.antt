@@ -12,6 +12,10 @@ refusal_line why = refusal_text why ++ 10 ∷ []
 abbrev pub starved_line : List ℕ
 starved_line = codes "zebraidx: out of memory" ++ 10 ∷ []
 
+-- of what is expected in place of an empty input
+abbrev pub expected_line : List ℕ
+expected_line = codes "zebraidx: cause: an empty input, where a script is expected: a profile, a line '.', commands (see zebraidx help)" ++ 10 ∷ []
+
 abbrev pub unreadable_line : List ℕ
 unreadable_line = codes "zebraidx: cannot read input" ++ 10 ∷ []
 

@@ -13,6 +13,8 @@ pub mod FaultAnswers
 pub mod FaultLines
 pub mod Unanswered
 pub mod Explanations
+pub mod Forms
+pub mod Diagnostics
 pub mod WalkedFiles
 pub mod PrivateAnalyses
 pub mod PrivateEnding

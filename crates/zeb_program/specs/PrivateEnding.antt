@@ -1,7 +1,10 @@
 -- What only the contracts of private functions speak of; no public clause reaches it.
 -- How a run ends (this program's own).
-use Rattle.std.specs.Prelude.{◌≡◌, ◌⊎◌, ℕ, Bool, false, true, List, [], Option}
+use Rattle.std.specs.Prelude.{◌≡◌, ◌⊎◌, ◌==◌, ℕ, Bool, false, true, List, [], Option, length}
 use Rattle.std.specs.Io.KnownBytes.{Keeps}
+use Rattle.zeb_paths.specs.Walks.{Tells}
+use Rattle.zeb_program.specs.ScriptAnswers.{AnswersScript}
+use Rattle.zeb_program.specs.declared.program.ScriptEnd.{ScriptEnd}
 use Rattle.zeb_program.specs.declared.statuses.Status.{Status}
 use Rattle.zeb_program.specs.declared.statuses.Status.TheVariants.{Failed}
 
@@ -13,3 +16,7 @@ IsLastStatus failed fault_failed met last =
 -- no write has failed before, nothing is held back any more, and what is known of what was written stays
 abbrev pub PassesOn : Bool → List ℕ → Option (List ℕ) → Option (List ℕ) → Type 0
 PassesOn failed held_back old new = (failed ≡ false) × (held_back ≡ []) × Keeps old new
+
+-- a script is answered, and ends so
+abbrev pub AnswersAs : Tells → List ℕ → Option (List ℕ) → Option (List ℕ) → ScriptEnd → Type 0
+AnswersAs at text old new end = AnswersScript at text old new end.status × (end.is_empty ≡ (length text == 0))

@@ -33,8 +33,8 @@ use Rattle.zeb_words.specs.declared.words.LayoutChoice.TheVariants.{Leaves, Unsa
 use Rattle.zeb_program.specs.FaultAnswers.{IsOpeningFailure, unopened_refusal}
 
 -- What is known of the paths that a program is given: the bytes of files, what a walk over them sees behind a command, what may be told of why one isn't
--- read, by which connections the store at a path may be opened, where it may not be, where none may stand and where one may, which stores were let go,
--- how one may be left at its path that was closed, and that none was opened: the paths are as they were.
+-- read, by which connections the store at a path may be opened, where it may not be, where none may stand and where one may, which stores may be
+-- let go that have met this, how one may be left at its path that was closed, and that none was opened: the paths are as they were.
 pub record Places (S : Type 0) : Type 1 where
   pub store : Ghosts S
   pub tells : List ℕ → Option (List ℕ)
@@ -44,13 +44,13 @@ pub record Places (S : Type 0) : Type 1 where
   pub refuses : List ℕ → Option StoreCause → Type 0
   pub lacks : List ℕ → Type 0
   pub has : List ℕ → Type 0
-  pub lets_go : S → Type 0
+  pub lets_go : Option StoreCause → S → Type 0
   pub leaves : Closed → S → Type 0
   pub untouched : Type 0
 
 -- the same of paths that were these and are those, by what paths tell
 abbrev pub places : {S P : Type 0} → Ghosts S → (P → List ℕ → Option (List ℕ)) → (P → List ℕ → Option (Result PathKind PathCause)) → (P → List ℕ → Option (List (List ℕ)))
-    → (P → List ℕ → Asked → Option PathCause → Type 0) → (P → P → List ℕ → Held S → Type 0) → (P → P → List ℕ → Option StoreCause → Type 0) → (P → List ℕ → Type 0) → (P → List ℕ → Type 0) → (P → S → Type 0) → (P → Closed → S → Type 0)
+    → (P → List ℕ → Asked → Option PathCause → Type 0) → (P → P → List ℕ → Held S → Type 0) → (P → P → List ℕ → Option StoreCause → Type 0) → (P → List ℕ → Type 0) → (P → List ℕ → Type 0) → (P → Option StoreCause → S → Type 0) → (P → Closed → S → Type 0)
     → P → P → Places S
 places store tells stands lists explains opens refuses lacks has lets_go leaves old new = record {
   store = store;
@@ -86,9 +86,9 @@ HasStore at profile = AtStore profile at.has
 abbrev pub IsOpenedRegister : State → Type 0
 IsOpenedRegister s = IsWellOpened s × (s.now.schema ≡ store_schema)
 
--- The store of a connection is let go: an open finds then only what a crash before that would have left.
-abbrev pub IsLetGo : {S : Type 0} → Ghosts S → (S → Type 0) → Held S → Type 0
-IsLetGo {S} g lets_go back = (left : S) × lets_go left × IsQuiet g.view g.faults g.recovers g.is_shielded back.store left
+-- The store of a connection is let go, which tells what it has met: an open finds then only what a crash before that would have left.
+abbrev pub IsLetGo : {S : Type 0} → Ghosts S → (Option StoreCause → S → Type 0) → Option StoreCause → Held S → Type 0
+IsLetGo {S} g lets_go met back = (left : S) × lets_go met left × IsQuiet g.view g.faults g.recovers g.is_shielded back.store left
 
 -- A store isn't taken over for this failure: nothing of it has changed.
 abbrev pub IsGivenBack : {S : Type 0} → Ghosts S → Held S → Held S → Refusal → Type 0
@@ -130,9 +130,9 @@ pub record ClosesStore {S : Type 0} (g : Ghosts S) (leaves : Closed → S → Ty
   -- and where it isn't closed whole, something has kept it from that
   pub reason : HasReason g.view g.faults last.store left closed
 
--- what is known of why a store isn't taken over that was opened: that it has other tables than a register's, or nothing
-abbrev pub IsForeignCause : State → Option StoreCause → Type 0
-IsForeignCause s met = (HasOtherTables s → met ≡ Some store_cause.Foreign) × (¬ HasOtherTables s → met ≡ None)
+-- this is told of why a store isn't taken over that was opened: that it has other tables than a register's; else what it has met, where that is known
+abbrev pub IsForeignOr : State → Option StoreCause → Option StoreCause → Type 0
+IsForeignOr s met cause = (HasOtherTables s → cause ≡ Some store_cause.Foreign) × (¬ HasOtherTables s → cause ≡ met)
 
 abbrev failed_look : Refusal → Result Bool Refusal
 failed_look why = Err why
@@ -150,8 +150,8 @@ whole_but met = record { is_whole = true; cause = met }
 -- fails it has a cause.
 pub data FailsOpening {S : Type 0} (at : Places S) (profile : List Directive) : Refusal → Closed → Type 0 where
   shut : {met : Option StoreCause} → (path : List ℕ) → store_path profile ≡ Some path → at.refuses path met → FailsOpening at profile (unopened_refusal met) (whole_but met)
-  given_back : {why : Refusal} → {met : Option StoreCause} → (opened : Held S) → (back : Held S) → OpensStore at profile opened → IsForeignCause (state at.store opened) met
-      → IsGivenBack at.store opened back why → IsLetGo at.store at.lets_go back → FailsOpening at profile why (whole_but met)
+  given_back : {why : Refusal} → {cause : Option StoreCause} → (opened : Held S) → (back : Held S) → (met : Option StoreCause) → OpensStore at profile opened
+      → IsForeignOr (state at.store opened) met cause → IsGivenBack at.store opened back why → IsLetGo at.store at.lets_go met back → FailsOpening at profile why (whole_but cause)
   untold : {why : Refusal} → (closed : Closed) → (opened taken last : Held S) → OpensStore at profile opened → IsOpeningFailure why
       → (HasCleanDisk (state at.store last) → IsTakenOver at.store opened taken × FailsLook (state at.store taken) (state at.store last) why)
       → ClosesStore at.store at.leaves last closed → FailsOpening at profile why closed

@@ -1,6 +1,6 @@
 -- What a script writes, and its status (this program's own).
-use Rattle.std.specs.Prelude.{◌≡◌, ◌⊎◌, ◌<◌, ℕ, Option, Some, Ok, IsOk, List, [], ◌∷◌, ◌++◌, codes, length}
-use Rattle.std.specs.Io.KnownBytes.{Appends, Keeps}
+use Rattle.std.specs.Prelude.{◌≡◌, ◌⊎◌, ◌<◌, ◌==◌, if◌then◌else◌, ℕ, Bool, Option, Some, Ok, IsOk, List, [], ◌∷◌, ◌++◌, codes, length}
+use Rattle.std.specs.Io.KnownBytes.{Appends}
 use Rattle.zeb_change.specs.Conditions.{Conditions}
 use Rattle.zeb_image.specs.Holdings.{Holdings, nothing_yet}
 use Rattle.zeb_paths.specs.Walks.{Tells}
@@ -11,7 +11,7 @@ use Rattle.zeb_profile.specs.Faults.{fault_text}
 use Rattle.zeb_profile.specs.Outcomes.{FailsPlaced}
 use Rattle.zeb_profile.specs.Profiles.{profile_of}
 use Rattle.zeb_register.specs.Formats.{Format, packed_blocks, version_of}
-use Rattle.zeb_program.specs.FixedLines.{refusal_line, starved_line, unreadable_line}
+use Rattle.zeb_program.specs.FixedLines.{expected_line, refusal_line, starved_line, unreadable_line}
 use Rattle.zeb_program.specs.Inputs.{IsInput}
 use Rattle.zeb_program.specs.Scripts.{DividesAt, HasNoDivider}
 use Rattle.zeb_program.specs.Answers.{Writes, AnswersBatch, AnswersPart}
@@ -95,12 +95,16 @@ pub data EndsEarly : Tells → List ℕ → Option (List ℕ) → Option (List �
   -- while the input is read
   silent : {at : Tells} {text : List ℕ} {old new : Option (List ℕ)} → Writes old new (λ bytes. bytes ≡ []) → EndsEarly at text old new
 
--- nothing goes to the fault output, or that memory ran out
-abbrev pub MayStarve : Option (List ℕ) → Option (List ℕ) → Type 0
-MayStarve fault_old fault_new = Keeps fault_old fault_new ⊎ Appends fault_old fault_new starved_line
+-- below the answer to an empty input stands what is expected, below another nothing
+abbrev pub hint_of : Bool → List ℕ
+hint_of is_empty = if is_empty then expected_line else []
 
--- a script is answered, and the fault output is left alone; or it ends early, which is told there, with status 3
+-- nothing goes to the fault output, or that memory ran out, or what is expected in place of an empty input
+abbrev pub TellsAtMost : Option (List ℕ) → Option (List ℕ) → Type 0
+TellsAtMost fault_old fault_new = Writes fault_old fault_new (λ told. (told ≡ []) ⊎ (told ≡ starved_line) ⊎ (told ≡ expected_line))
+
+-- A script is answered, and just of an empty input the fault output says what is expected; or it ends early, which is told there, with status 3.
 abbrev pub EndsScript : Tells → List ℕ → Option (List ℕ) → Option (List ℕ) → Option (List ℕ) → Option (List ℕ) → Status → Type 0
 EndsScript at text old new fault_old fault_new status =
-    (AnswersScript at text old new status × Keeps fault_old fault_new)
+    (AnswersScript at text old new status × Appends fault_old fault_new (hint_of (length text == 0)))
     ⊎ (EndsEarly at text old new × Appends fault_old fault_new starved_line × (status ≡ Failed))

@@ -80,5 +80,5 @@ fn file_cause<P: Paths>(
         (P.explains paths.now) (map string_bytes named.now) refusal.now number) }
 {
     let found = path_of_file(alloc, paths, named, number)?;
-    Ok(of_file(paths, refusal, number, found))
+    of_file(alloc, paths, refusal, number, found)
 }

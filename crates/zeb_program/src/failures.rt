@@ -5,18 +5,22 @@ ghost use Rattle.std.specs.Option.{option_map};
 ghost use Rattle.zeb_program.specs.Answers.{Writes};
 ghost use Rattle.zeb_program.specs.Closings.{TellsClosed, TellsLeft};
 ghost use Rattle.zeb_program.specs.Unanswered.{TellsUnanswered};
-ghost use Rattle.zeb_program.specs.FaultLines.{IsCauseOf, TellsCaused, TellsPlaced, cause_line, cause_lines, met_line, met_lines, register_lines, unread_lines};
+ghost use Rattle.zeb_program.specs.FaultLines.{IsCauseOf, TellsCaused, TellsPlaced, cause_line, cause_lines, file_lines, met_line, register_lines, unread_lines};
 ghost use Rattle.zeb_program.specs.declared.failures.Cause.TheVariants.{Path as PathOf, Store as StoreOf};
 ghost use Rattle.zeb_program.specs.Explanations as spec;
 ghost use Rattle.zeb_program.specs.FaultLines as lines;
-ghost use Rattle.zeb_program.specs.Explanations.{ExplainsUnread, IsFileCause, MeetsFile, NamesRegister, refusal_cause};
+ghost use Rattle.zeb_program.specs.Explanations.{ExplainsUnread, IsFileCause, MeetsFile, MeetsRecord, NamesRegister, refusal_cause};
+ghost use Rattle.zeb_program.specs.Diagnostics.{meaning_lines};
+ghost use Rattle.zeb_program.specs.declared.failures.FileCause.TheVariants.{Path as PathMet};
 ghost use Rattle.zeb_program.specs.PrivateFaults.{IsUnread};
 ghost use Rattle.zeb_program.specs.Statuses.{IsFaultStatus, closing_status};
 ghost use Rattle.zeb_program.specs.declared.faults.Fault.TheVariants.{Memory, Refused};
 ghost use Rattle.std.specs.Io.KnownBytes.{Appends};
 
+use crate::diagnostics::{is_placed, meaning_of};
 use crate::faults::{Fault, tell};
 use crate::files::read_profile;
+use crate::forms::{Form, form_at};
 use crate::input::TextCause;
 use crate::line_input::InputCause;
 use crate::sinks::Sink;
@@ -33,6 +37,11 @@ pub enum Cause {
     Path(PathCause),
     /// Why the store fails.
     Store(StoreCause),
+    /// The number of a diagnostic, and the byte of the query that it is about.
+    Query {
+        number: u32,
+        place: usize,
+    },
     /// Why the input can't be read on.
     Input(InputCause),
     /// Why the input can't be read whole.
@@ -41,8 +50,17 @@ pub enum Cause {
     File {
         number: u64,
         path: String,
-        met: Option<PathCause>,
+        met: Option<FileCause>,
     },
+}
+
+/// What is told of the file that a refusal is about.
+#[derive(Clone, Copy, Debug, PartialEq, Eq)]
+pub enum FileCause {
+    /// What its path is met with.
+    Path(PathCause),
+    /// What it is, where it begins with no record.
+    Form(Form),
 }
 
 /// Why a command isn't answered, and the cause, where it is known.
@@ -105,50 +123,97 @@ fn store_cause(met: Option<StoreCause>) -> Option<Cause>
 
 /// The path of the file that a refusal is about, which has this number, as a cause, with what is told of it.
 pub fn of_file<P: Paths>(
+    alloc: Global,
     paths: &P,
     refusal: &Refusal,
     number: u64,
     found: Option<String>,
-) -> Option<Cause>
-    ensures { IsFileCause (P.explains paths.now) refusal.now number found result }
+) -> Result<Option<Cause>, AllocError>
+    ensures { IfOk result
+        (IsFileCause (P.tells paths.now) (P.explains paths.now) refusal.now number found) }
 {
     match found {
         Some(path) => {
-            let met = file_met(paths, refusal, path.as_str());
-            Some(Cause::File { number, path, met })
+            let met = file_met(alloc, paths, refusal, path.as_str())?;
+            Ok(Some(Cause::File { number, path, met }))
         }
-        None => None,
+        None => Ok(None),
     }
 }
 
-/// What is told of the file at this path that a refusal is about: why a read failed, or what its first record may be.
-fn file_met<P: Paths>(paths: &P, refusal: &Refusal, path: &str) -> Option<PathCause>
-    ensures { MeetsFile (P.explains paths.now) refusal.now path.now result }
+/// What is told of the file at this path that a refusal is about: why a read failed, or what it is, where it begins with no record.
+fn file_met<P: Paths>(
+    alloc: Global,
+    paths: &P,
+    refusal: &Refusal,
+    path: &str,
+) -> Result<Option<FileCause>, AllocError>
+    ensures { IfOk result
+        (MeetsFile (P.tells paths.now) (P.explains paths.now) refusal.now path.now) }
 {
     match refusal {
-        Refusal::ReadFault { .. } => paths.why_unread(path, Asked::Bytes),
-        Refusal::Record { nth, fault, .. } => record_cause(*nth, *fault),
-        _ => None,
+        Refusal::ReadFault { .. } => Ok(path_met(paths.why_unread(path, Asked::Bytes))),
+        Refusal::Record { nth, fault, .. } => {
+            record_met(alloc, paths, path, lacks_record(*nth, *fault))
+        }
+        _ => Ok(None),
     }
 }
 
-/// What is told of a file with a faulty record of this number.
-fn record_cause(nth: u64, fault: RecordFault) -> Option<PathCause>
-    ensures { result ≡ spec.record_cause nth fault }
+/// What a path is met with, as what is told of its file.
+fn path_met(met: Option<PathCause>) -> Option<FileCause>
+    ensures { result ≡ option_map PathMet met }
+{
+    met.map(FileCause::Path)
+}
+
+/// Whether a file with this fault of the record of this number begins with no record.
+fn lacks_record(nth: u64, fault: RecordFault) -> bool
+    ensures { result ≡ spec.lacks_record nth fault }
 {
     match fault {
-        RecordFault::LengthDigits if nth == 1 => Some(PathCause::NoRecord),
-        _ => None,
+        RecordFault::LengthDigits => nth == 1,
+        _ => false,
     }
 }
 
-/// A refusal; of a failed store the cause is this one.
+/// What is told of the file at this path, which has a faulty record, and begins with no record or with one.
+fn record_met<P: Paths>(
+    alloc: Global,
+    paths: &P,
+    path: &str,
+    lacks: bool,
+) -> Result<Option<FileCause>, AllocError>
+    ensures { IfOk result (MeetsRecord (P.tells paths.now path.now) lacks) }
+{
+    if !lacks {
+        return Ok(None);
+    }
+    let form = form_at(alloc, paths, String::from_str(alloc, path)?)?;
+    Ok(Some(form_cause(form)))
+}
+
+/// What is told of a file that begins with no record, by its form.
+fn form_cause(form: Option<Form>) -> FileCause
+    ensures { result ≡ spec.form_cause form }
+{
+    match form {
+        Some(form) => FileCause::Form(form),
+        None => FileCause::Path(PathCause::NoRecord),
+    }
+}
+
+/// A refusal; of a failed store the cause is this one, of a diagnostic its meaning.
 pub fn of_store(refusal: Refusal, cause: Option<StoreCause>) -> Failure
     ensures fault { result.fault ≡ Refused refusal }
     ensures cause { result.cause ≡ refusal_cause refusal cause }
 {
-    let cause = match refusal {
+    let cause = match &refusal {
         Refusal::Store => store_cause(cause),
+        Refusal::Diagnostic { number, place, .. } => Some(Cause::Query {
+            number: *number,
+            place: *place,
+        }),
         _ => None,
     };
     Failure {
@@ -261,6 +326,7 @@ fn write_cause<W: Write>(cause: &Cause, output: &mut Sink<W>)
     match cause {
         Cause::Path(cause) => write_met(*cause, output),
         Cause::Store(cause) => output.write_line(format_args!("zebraidx: cause: {cause}")),
+        Cause::Query { number, place } => write_meaning(*number, *place, output),
         Cause::Input(cause) => output.write_line(format_args!("zebraidx: cause: {cause}")),
         Cause::Text(cause) => output.write_line(format_args!("zebraidx: cause: {cause}")),
         Cause::File { number, path, met } => {
@@ -270,15 +336,34 @@ fn write_cause<W: Write>(cause: &Cause, output: &mut Sink<W>)
     }
 }
 
-/// Writes the line of what is told of a path, where something is.
-fn tell_met<W: Write>(met: Option<PathCause>, output: &mut Sink<W>)
+/// Writes the line of what is told of a file, where something is.
+fn tell_met<W: Write>(met: Option<FileCause>, output: &mut Sink<W>)
     ensures told { output.new.failed ≡ false → Appends (W.contents output.old.writer)
-        (W.contents output.new.writer) (met_lines met) }
+        (W.contents output.new.writer) (file_lines met) }
     ensures sound { output.new.failed ≡ false → output.old.failed ≡ false }
 {
     match met {
-        Some(cause) => write_met(cause, output),
+        Some(FileCause::Path(cause)) => write_met(cause, output),
+        Some(FileCause::Form(form)) => {
+            output.write_line(format_args!("zebraidx: cause: {form}"));
+        }
         None => {}
+    }
+}
+
+/// Writes the line of a diagnostic's meaning, with its place in the query, if it has one.
+fn write_meaning<W: Write>(number: u32, place: usize, output: &mut Sink<W>)
+    ensures told { output.new.failed ≡ false → Appends (W.contents output.old.writer)
+        (W.contents output.new.writer) (meaning_lines number place) }
+    ensures sound { output.new.failed ≡ false → output.old.failed ≡ false }
+{
+    let Some(meaning) = meaning_of(number) else {
+        return;
+    };
+    if is_placed(number) {
+        output.write_line(format_args!("zebraidx: cause: {meaning}, at byte {place} of the query"));
+    } else {
+        output.write_line(format_args!("zebraidx: cause: {meaning}"));
     }
 }
 

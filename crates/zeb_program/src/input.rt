@@ -150,7 +150,11 @@ pub fn read_whole<R: Source>(
 }
 
 /// The bytes up to the source's end, but no more than one above so many.
-fn read_bytes<R: Source>(alloc: Global, source: &mut R, most: usize) -> Result<Vec<u8>, InputFault>
+pub fn read_bytes<R: Source>(
+    alloc: Global,
+    source: &mut R,
+    most: usize,
+) -> Result<Vec<u8>, InputFault>
     requires sound { R.has_failed source.old ≡ false }
     requires bounded { most ≤ GREATEST_INPUT }
     ensures taken { IfOk result (λ bytes.

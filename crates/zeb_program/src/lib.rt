@@ -4,11 +4,13 @@
 mod analyses;
 mod batch;
 mod command_line;
+mod diagnostics;
 mod digits;
 mod explaining;
 mod failures;
 mod faults;
 mod files;
+mod forms;
 mod input;
 mod laws;
 mod line_input;

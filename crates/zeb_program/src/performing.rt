@@ -1,6 +1,6 @@
 //! A task from the words to what is told of it: the register is opened, the task is carried out, and the register is closed.
 
-ghost use Rattle.std.specs.Prelude.{◌≡◌, ◌⊎◌, ◌↔◌, false, true, IfErr, IfOk, IfSome, IsTrue, None, Result, string_bytes};
+ghost use Rattle.std.specs.Prelude.{◌≡◌, ◌⊎◌, ◌↔◌, false, true, IfErr, IfNone, IfOk, IfSome, IsTrue, None, Result, string_bytes};
 ghost use Rattle.sqlite.specs.Held.{state};
 ghost use Rattle.zeb_paths.specs.Walks.{telling};
 ghost use Rattle.zeb_engine.specs.Adopting.{HasOtherTables};
@@ -8,7 +8,7 @@ ghost use Rattle.zeb_engine.specs.declared.replies.Reply.{Reply};
 ghost use Rattle.zeb_program.specs.PrivateServing.{StandsFor};
 ghost use Rattle.zeb_program.specs.PrivateWordRuns.{ExplainsFailure, ExplainsRun, GivesClosed, GivesFor, ServesHeld, ServesOnNothing, TakesIn, TakesStore, fault_given, format_of};
 ghost use Rattle.zeb_program.specs.ProfileFiles.{ReadsProfile};
-ghost use Rattle.zeb_program.specs.Registers.{AtStore, ClosesStore, IsForeignCause, IsLetGo, nothing_met, places};
+ghost use Rattle.zeb_program.specs.Registers.{AtStore, ClosesStore, IsForeignOr, IsLetGo, nothing_met, places};
 ghost use Rattle.zeb_program.specs.TaskAnswers.{paths_of};
 ghost use Rattle.zeb_program.specs.WordRuns.{IsOwnOr, Performs, ServesUnder};
 ghost use Rattle.std.specs.Option.{option_map};
@@ -309,7 +309,7 @@ fn take_register<P: Paths>(
     match session_over(alloc, opened, profile) {
         Ok(session) => Ok(session),
         Err((back, refusal)) => {
-            let_go(paths, back);
+            let cause = cause.or(let_go(paths, back));
             Err(refused_opening(
                 refusal,
                 Closed {
@@ -321,18 +321,22 @@ fn take_register<P: Paths>(
     }
 }
 
-/// Ends a connection over which there is no session, where there is one.
-fn let_go<P: Paths>(paths: &P, back: Option<Connection<P::Store>>)
-    ensures { IfSome back (IsLetGo P.Store.Store (P.lets_go paths.now)) }
+/// Ends a connection over which there is no session, where there is one, and answers what its store has met, where that is told.
+fn let_go<P: Paths>(paths: &P, back: Option<Connection<P::Store>>) -> Option<StoreCause>
+    ensures told { IfSome back (IsLetGo P.Store.Store (P.lets_go paths.now) result) }
+    ensures none { IfNone back (result ≡ None) }
 {
-    if let Some(connection) = back {
-        paths.let_go(connection.into_store());
+    match back {
+        Some(connection) => paths.let_go(connection.into_store()),
+        None => None,
     }
 }
 
-/// Why there would be no register over what was opened: it wasn't, or it has other tables.
+/// Why there would be no register over what was opened, as far as that is known before it is taken over: it wasn't opened, or it has
+/// other tables.
 fn opening_cause<S: Alter>(opened: &Result<Connection<S>, OpenFailed>) -> Option<StoreCause>
-    ensures other { IfOk opened.now (λ connection. IsForeignCause (state S.Store connection) result) }
+    ensures other { IfOk opened.now
+        (λ connection. IsForeignOr (state S.Store connection) None result) }
     ensures failed { IfErr opened.now (λ failed. result ≡ failed.cause) }
 {
     match opened {

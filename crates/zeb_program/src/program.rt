@@ -1,14 +1,14 @@
 //! The program without its outside: words and input come in, output and a status go out.
 
 ghost use Rattle.std.specs.Prelude.{◌≡◌, ◌≢◌, ◌+◌, [], true, false, map, string_bytes, IfOk, IfSome, OnErr};
-ghost use Rattle.std.specs.Io.KnownBytes.{Appends};
+ghost use Rattle.std.specs.Io.KnownBytes.{Appends, Keeps};
 ghost use Rattle.zeb_paths.specs.Walks.{telling};
-ghost use Rattle.zeb_program.specs.Inputs.{TakesAtMost};
+ghost use Rattle.zeb_program.specs.Inputs.{IsInput, TakesAtMost};
 ghost use Rattle.zeb_program.specs.LeftStores.{IsStarvedCode, LeavesStore};
 ghost use Rattle.zeb_program.specs.Registers.{places};
 ghost use Rattle.zeb_program.specs.FixedLines.{starved_line};
-ghost use Rattle.zeb_program.specs.ScriptAnswers.{AnswersScript, EndsEarly, EndsScript, MayStarve, fault_line};
-ghost use Rattle.zeb_program.specs.PrivateEnding.{IsLastStatus, PassesOn};
+ghost use Rattle.zeb_program.specs.ScriptAnswers.{AnswersScript, EndsEarly, EndsScript, TellsAtMost, fault_line, hint_of};
+ghost use Rattle.zeb_program.specs.PrivateEnding.{AnswersAs, IsLastStatus, PassesOn};
 ghost use Rattle.zeb_program.specs.Statuses.{EndsWith, ShowsFailures, fault_status};
 ghost use Rattle.zeb_program.specs.WordAnswers.{EndsWords, NamesLines, NamesShell};
 
@@ -30,7 +30,8 @@ use zeb_profile::{Profile, ProfileFault};
 /// Without a word the input is a script: the lines of a profile, a line `.`, and the lines of a batch,
 /// which run over a register in memory; a file may be named by its path. What they answer goes to the
 /// output, each refusal in its place; a fault of the input or of the profile goes there too, and then
-/// nothing else. A script without a line `.` is a profile alone, and only its fault is written.
+/// nothing else. A script without a line `.` is a profile alone, and only its fault is written. Of an empty input the fault output says
+/// what is expected.
 ///
 /// Words name a profile's file, a database and a command, which is carried out on the register at the
 /// profile's path. Its answer goes to the output, and to the fault output why there is none: words that
@@ -73,10 +74,10 @@ pub fn run<R: Source, W: Output, V: Output, P: Paths>(
         × (fault_output.new.failed ≡ false → V.held_back fault_output.new.writer ≡ []) }
 
     // Without a word: what is written, where the input tells its bytes and neither a read nor a write failed, and that nothing goes to
-    // the fault output but that memory ran out. The answers of lines are told where the paths tell the bytes of each file that a line
-    // names by its path.
+    // the fault output but that memory ran out, or what is expected. The answers of lines are told where the paths tell the bytes of each
+    // file that a line names by its path.
     ensures script { words.now ≡ [] → fault_output.new.failed ≡ false
-        → MayStarve (V.contents fault_output.old.writer) (V.contents fault_output.new.writer)
+        → TellsAtMost (V.contents fault_output.old.writer) (V.contents fault_output.new.writer)
         × (R.has_failed input.new ≡ false → output.new.failed ≡ false
         → IfSome (R.remaining input.old) (λ text. EndsWith result
         (EndsScript (telling (P.tells files.old) (P.stands files.old) (P.lists files.old)) text
@@ -94,7 +95,7 @@ pub fn run<R: Source, W: Output, V: Output, P: Paths>(
 {
     if words.is_empty() {
         let ended = run_script(alloc, files, input, output);
-        let status = tell_starved(ended, fault_output);
+        let status = tell_script(ended, output, fault_output);
         return finish(status, output, fault_output).code();
     }
     let ended = run_words(alloc, words, files, input, output, fault_output);
@@ -142,23 +143,77 @@ fn finish<W: Output, V: Output>(
     status
 }
 
+/// How a script ended.
+#[derive(Clone, Copy, Debug)]
+struct ScriptEnd {
+    status: Status,
+    /// Whether its input had no byte.
+    is_empty: bool,
+}
+
+/// The status of a script that ended so, with what the fault output says of it: what is expected, where the input was empty, or that memory
+/// ran out.
+fn tell_script<W: Output, V: Write>(
+    ended: Result<ScriptEnd, AllocError>,
+    output: &mut Sink<W>,
+    fault_output: &mut Sink<V>,
+) -> Status
+    ensures answered { IfOk ended (λ end. (result ≡ end.status) × (fault_output.new.failed ≡ false
+        → Appends (V.contents fault_output.old.writer) (V.contents fault_output.new.writer)
+        (hint_of end.is_empty))) }
+    ensures starved { OnErr ended ((result ≡ Status.Failed) × (fault_output.new.failed ≡ false
+        → Appends (V.contents fault_output.old.writer) (V.contents fault_output.new.writer)
+        starved_line)) }
+    ensures kept { output.new.failed ≡ false → (output.old.failed ≡ false)
+        × Keeps (W.contents output.old.writer) (W.contents output.new.writer) }
+    ensures sound { fault_output.new.failed ≡ false → fault_output.old.failed ≡ false }
+{
+    match ended {
+        Ok(end) => {
+            tell_expected(end.is_empty, output, fault_output);
+            end.status
+        }
+        Err(error) => tell_starved(Err(error), fault_output),
+    }
+}
+
+/// Where the input was empty, writes what is expected below its answer, which is passed on before.
+fn tell_expected<W: Output, V: Write>(
+    is_empty: bool,
+    answers: &mut Sink<W>,
+    fault_output: &mut Sink<V>,
+)
+    ensures told { fault_output.new.failed ≡ false → Appends (V.contents fault_output.old.writer)
+        (V.contents fault_output.new.writer) (hint_of is_empty) }
+    ensures kept { answers.new.failed ≡ false → (answers.old.failed ≡ false)
+        × Keeps (W.contents answers.old.writer) (W.contents answers.new.writer) }
+    ensures sound { fault_output.new.failed ≡ false → fault_output.old.failed ≡ false }
+{
+    if is_empty {
+        answers.flush();
+        fault_output.write_line(
+            "zebraidx: cause: an empty input, where a script is expected: a profile, a line '.', commands (see zebraidx help)",
+        );
+    }
+}
+
+/// Reads a script from the input, and runs it.
 fn run_script<R: Source, W: Write, P: Paths>(
     alloc: Global,
     paths: &P,
     input: &mut R,
     output: &mut Sink<W>,
-) -> Result<Status, AllocError>
+) -> Result<ScriptEnd, AllocError>
     requires { R.has_failed input.old ≡ false }
     ensures bounded { TakesAtMost (GREATEST_INPUT + 1) (R.remaining input.old)
         (R.remaining input.new) }
     ensures failed_read { R.has_failed input.new ≡ true
-        → IfOk result (λ status. status ≡ Status.Failed) }
+        → IfOk result (λ end. end.status ≡ Status.Failed) }
     ensures sound { output.new.failed ≡ false → output.old.failed ≡ false }
-    ensures answer { IfOk result (λ status. R.has_failed input.new ≡ false
+    ensures answer { IfOk result (λ end. R.has_failed input.new ≡ false
         → output.new.failed ≡ false → IfSome (R.remaining input.old)
-        (λ text. AnswersScript (telling (P.tells paths.now) (P.stands paths.now) (P.lists paths.now))
-        text (W.contents output.old.writer)
-        (W.contents output.new.writer) status)) }
+        (λ text. AnswersAs (telling (P.tells paths.now) (P.stands paths.now) (P.lists paths.now))
+        text (W.contents output.old.writer) (W.contents output.new.writer) end)) }
     ensures stopped { OnErr result (R.has_failed input.new ≡ false → output.new.failed ≡ false
         → IfSome (R.remaining input.old) (λ text. EndsEarly
         (telling (P.tells paths.now) (P.stands paths.now) (P.lists paths.now)) text
@@ -168,11 +223,38 @@ fn run_script<R: Source, W: Write, P: Paths>(
         Ok(text) => text,
         Err(InputFault::Unreadable) => {
             output.write_line("zebraidx: cannot read input");
-            return Ok(Status::Failed);
+            return Ok(ScriptEnd {
+                status: Status::Failed,
+                is_empty: false,
+            });
         }
         Err(InputFault::Memory) => return Err(AllocError),
     };
-    let script = Script::cut(text.as_str());
+    let text = text.as_str();
+    let status = run_text(alloc, paths, text, output)?;
+    Ok(ScriptEnd {
+        status,
+        is_empty: text.is_empty(),
+    })
+}
+
+/// Runs the script that has this text.
+fn run_text<W: Write, P: Paths>(
+    alloc: Global,
+    paths: &P,
+    text: &str,
+    output: &mut Sink<W>,
+) -> Result<Status, AllocError>
+    requires { IsInput text.now }
+    ensures sound { output.new.failed ≡ false → output.old.failed ≡ false }
+    ensures answer { IfOk result (λ status. output.new.failed ≡ false → AnswersScript
+        (telling (P.tells paths.now) (P.stands paths.now) (P.lists paths.now)) text.now
+        (W.contents output.old.writer) (W.contents output.new.writer) status) }
+    ensures stopped { OnErr result (output.new.failed ≡ false → EndsEarly
+        (telling (P.tells paths.now) (P.stands paths.now) (P.lists paths.now)) text.now
+        (W.contents output.old.writer) (W.contents output.new.writer)) }
+{
+    let script = Script::cut(text);
     match Profile::read(alloc, script.profile) {
         Ok(profile) => match script.batch {
             Some(batch) => run_in_memory(alloc, profile, paths, batch, output),

@@ -13,6 +13,10 @@ ghost use Rattle.zeb_register.specs.PrivateRowStatements.{Lists};
 use sqlite::{Alter, Connection, Error, Row, params};
 use zeb_register::{RegFault, RegisterOf};
 
+/// The first of a register's terms that are not below a text, so many at most.
+pub(crate) const TERMS_FROM: &str =
+    "SELECT term, records FROM dict WHERE db = ?1 AND idx = ?2 AND reg = ?3 AND term >= ?4 ORDER BY term LIMIT ?5";
+
 /// The blocks of a key: the number of each, and its bytes.
 pub(crate) fn block_rows<S: Alter>(
     conn: &mut Connection<S>,
@@ -69,10 +73,7 @@ pub(crate) fn dict_rows_from<S: Alter>(
     let _idle = conn.is_autocommit();
     let db = at.db.column();
     let reg = u32::from(at.register.code());
-    conn.query_all(
-        "SELECT term, records FROM dict WHERE db = ?1 AND idx = ?2 AND reg = ?3 AND term >= ?4 ORDER BY term LIMIT ?5",
-        params![db, at.index, reg, start, limit],
-    )
+    conn.query_all(TERMS_FROM, params![db, at.index, reg, start, limit])
 }
 
 /// The last of the terms that are below `start`, the last first, with the numbers of their records: at most `limit`, or all where

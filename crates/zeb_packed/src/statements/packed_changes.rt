@@ -1,16 +1,20 @@
 //! Statements on one row of `blocks` or `dict`: it is read, put where none was, put in the place of the one that was there, or taken.
 
-ghost use Rattle.std.specs.Prelude.{IsUtf8, ◌≡◌, ◌++◌, [], ◌∷◌, false, OnOk};
+ghost use Rattle.std.specs.Prelude.{IsUtf8, ◌≡◌, ◌++◌, List, [], ◌∷◌, false, take, OnOk};
 ghost use Rattle.sqlite.specs.declared.types.Value.TheVariants.{Blob, Int};
 ghost use Rattle.sqlite.specs.Held.{state};
+ghost use Rattle.zeb_packed.specs.PrivatePackedRows.{IsRestFrom};
 ghost use Rattle.zeb_register.specs.Calls.{Inside};
 ghost use Rattle.zeb_register.specs.UnitChanges.{IsTold};
 ghost use Rattle.zeb_register.specs.Clauses.{InStore, Writes};
 ghost use Rattle.zeb_register.specs.PrivateKeyColumns.{IsOfKey, IsOfNumbered, key_columns, numbered_columns};
 ghost use Rattle.zeb_register.specs.PrivateRowStatements.{Gains, IsUnchangedByViolation, ListsInside, Renews};
-ghost use Rattle.zeb_register.specs.Sql.{Loses};
+ghost use Rattle.zeb_register.specs.PlainRows.{register_front};
+ghost use Rattle.zeb_register.specs.PrivateRowTerms.{ReadsInside};
+ghost use Rattle.zeb_register.specs.Sql.{IsListOf, Loses};
 ghost use Rattle.zeb_register.specs.Store.{IsRest, blocks_tree, dict_tree};
 
+use crate::statements::packed::TERMS_FROM;
 use sqlite::{Alter, Error, Row, Transaction, params};
 use zeb_register::RegFault;
 use zeb_register::for_layouts::KeyOf;
@@ -52,6 +56,25 @@ pub(crate) fn dict_records<S: Alter>(
         "SELECT records FROM dict WHERE db = ?1 AND idx = ?2 AND reg = ?3 AND term = ?4",
         params![db, at.key.index, reg, term],
     )
+}
+
+/// The first term of a key's register that is not below the key's, with the number of its records: at most one row.
+pub(crate) fn dict_from<S: Alter>(
+    tx: &mut Transaction<'_, S>,
+    at: KeyOf<'_>,
+) -> Result<Vec<Row>, Error>
+    ensures same { tx.new.conn.ghost_name ≡ tx.old.conn.ghost_name }
+    ensures call { Inside (state S.Store tx.old.conn.now) (state S.Store tx.new.conn.now) result
+        (λ rows a b. ReadsInside (λ trees rows. (all : List _)
+        × IsListOf (IsRestFrom dict_tree
+        (register_front at.entry.db.0 at.entry.key.now.index at.entry.key.now.register)
+        at.entry.key.now.term trees) all × (rows ≡ take 1 all)) a b rows.items) }
+{
+    let db = at.db.column();
+    let reg = u32::from(at.key.register.code());
+    let term = at.key.term.as_str();
+    let limit: u32 = 1;
+    tx.query_all(TERMS_FROM, params![db, at.key.index, reg, term, limit])
 }
 
 /// Puts a row. It is refused where the key has one for the block.

@@ -1,4 +1,4 @@
-use Rattle.zeb_change.proofs.Cited.{◌≡◌, ◌⊎◌, ◌++◌, map, inl, inr, subst₂, rules, Has, Occurrence, IsRising, AreOfKey, Stops, IsAddedIfChanged, place_in}
+use Rattle.zeb_change.proofs.Cited.{◌≡◌, ◌⊎◌, ◌++◌, inl, inr, subst₂, rules, Has, Occurrence, IsRising, AreOfKey, Stops, IsAddedIfChanged}
 use Rattle.zeb_change.proofs.KeyChanges.{nothing_cut, all_cut, cut_run, noted_run, some_begins, SoFar}
 use Rattle.zeb_change.proofs.changed_keys.changed_keys.Goals as goal
 
@@ -30,7 +30,7 @@ loop-key-preserved c =
     ] in
     let elder_run = λ (up : IsRising elder). cut_run key elder run_elder rest_elder cut_elder up low.0 of_elder stops_elder in
     let newer_run = λ (up : IsRising newer). cut_run key newer run_newer rest_newer cut_newer up low.1 of_newer stops_newer in
-    let noted : IsAddedIfChanged key (map place_in run_elder) (map place_in run_newer) c.loop-key.changed.items c.note.new.changed.items = rw (← c.in_ok-old.ensures, ← c.in_ok-new.ensures) c.in_ok-note.ensures in
+    let noted : IsAddedIfChanged key run_elder run_newer c.loop-key.changed.items c.note.new.changed.items = c.in_ok-note.ensures of_elder of_newer in
     record {
       rising = λ one other. let up = c.loop-key.invariant.rising one other in ((elder_run up.0).rest_up, (newer_run up.1).rest_up);
       so_far = λ one other.

@@ -1,4 +1,4 @@
-use Rattle.zeb_change.proofs.Cited.{◌≡◌, ◌∙◌, ◌++◌, ◌∷◌, List, [], arith, ap, drop, length, length-append, map, refl, suc, subst, subst₂, sym, take, split_at, YieldsList-from_vec, YieldsList-end, YieldsList-so_far, YieldsList-turn, changed_at, change_is, ChangedKey, Place, KeyChange, IsNotedAlso, AreChangedKeys, key_in, LeadsTo}
+use Rattle.zeb_change.proofs.Cited.{◌≡◌, ◌∙◌, ◌++◌, ◌∷◌, List, [], arith, ap, drop, length, length-append, map, refl, suc, subst, subst₂, sym, take, split_at, YieldsList-from_vec, YieldsList-end, YieldsList-so_far, YieldsList-turn, changed_at, change_is, ChangedKey, Place, KeyChange, IsNotedAlso, AreChangedKeys, key_in, new_in, old_in, LeadsTo}
 use Rattle.zeb_change.proofs.ChangeKeysContent.{moved, moved_is, moved_more, moved_none, moved_rises, one_reposted, still_old}
 use Rattle.zeb_change.proofs.CostLemmas.{keys_cost}
 use Rattle.zeb_change.proofs.EqualReplacements.{none_changed}
@@ -29,9 +29,9 @@ loop-changed-preserved c =
     let rest = drop (suc (length done)) all.items in
     let split : all.items ≡ done ++ item ∷ rest =
     split_at all.items (length done) item turn.0 ∙ ap (λ (x : ChangedKey). take (length done) all.items ++ x ∷ rest) (sym turn.1) ∙ ap (λ (l : List ChangedKey). l ++ item ∷ rest) front in
-    let change : KeyChange = record { sysno = sysno; old = item.old.items; new = item.new.items } in
+    let change : KeyChange = record { sysno = sysno; old = old_in item; new = new_in item } in
     let noted = subst₂ (λ (old new : List Place). IsNotedAlso (key_in item) (record { sysno = sysno; old = old; new = new }) c.loop-changed.pending c.note.new.self)
-    c.deref.ensures.value c.deref-in-loop-changed.ensures.value c.in_ok-note.ensures in
+    (c.deref.ensures.value ∙ c.in_ok-set_places.ensures) (c.deref-in-loop-changed.ensures.value ∙ c.in_ok-set_places-2.ensures) c.in_ok-note.ensures in
     record {
       leads = λ elder newer db behind before leads up was.
           let are = c.in_ok-changed_keys.ensures elder newer in
@@ -41,8 +41,8 @@ loop-changed-preserved c =
           let stood = still_old db sysno c.args.elder.now c.args.newer.now done rest item before up (subst (AreChangedKeys c.args.elder.now c.args.newer.now) split are) was in
           let old_rises = (are.old item (length done, turn.0, sym turn.1)).rising in
           subst (LeadsTo db c.note.new.self behind) (sym (moved_more db sysno done item before))
-          (leads_more db (key_in item) change c.loop-changed.pending c.note.new.self behind now (changed_at db (key_in item) sysno item.new.items now) so_far rising noted old_rises stood
-          (change_is db (key_in item) sysno item.new.items now rising));
+          (leads_more db (key_in item) change c.loop-changed.pending c.note.new.self behind now (changed_at db (key_in item) sysno (new_in item) now) so_far rising noted old_rises stood
+          (change_is db (key_in item) sysno (new_in item) now rising));
       idle = λ none. absurd (omega (arith, ap length none, length-append done (item ∷ [])));
       count = omega (arith, c.loop-changed.invariant.count, noted.count, length-append done (item ∷ []));
     }

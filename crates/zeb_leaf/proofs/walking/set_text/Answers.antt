@@ -11,5 +11,5 @@ pub returns-then-is_text-clause-told : goal.returns-then-is_text-clause-told
 returns-then-is_text-clause-told c =
     let text = c.args.text.now.items in
     let put = c.in_ok-set_behind.ensures.ok in
-    let cut = subst (λ (t : List ℕ). IsCharBoundary t c.args.shared) c.as_slice.ensures.value (c.is_between_characters.ensures c.if-is_between_characters.true) in
+    let cut = subst (λ (t : List ℕ). IsCharBoundary t c.args.shared) c.as_slice-2.ensures.value (c.is_between_characters.ensures c.if-is_between_characters.true) in
     (put, subst IsUtf8 (sym put) (joined text c.args.suffix.now c.args.shared c.requires.1 cut (c.is_text.ensures.0 c.if-is_text.true)))

@@ -1,7 +1,7 @@
 use Rattle.zeb_leaves.proofs.Cited.{◌≡◌, ◌≢◌, ◌∙◌, ℕ, List, Err, false, ap, subst, rules, state, nat_cmp, nat_list_cmp_total, slice_cmp, tied_itself}
 use Rattle.std.specs.Ordering.{is_lt}
 use Rattle.zeb_leaf.specs.declared.entries.Held.{Held}
-use Rattle.zeb_leaves.proofs.SpanCalls.{answers_between, uncovered_between, unshown_between}
+use Rattle.zeb_leaves.proofs.SpanCalls.{answers_between, said_in_turn, uncovered_between, unshown_between}
 use Rattle.zeb_leaves.specs.PrivateSaid.{SayAll, SomeSaysNone}
 use Rattle.zeb_leaves.specs.PrivateSpans.{SomeShowsNoKey}
 use Rattle.zeb_register.proofs.Answered.{refused_so}
@@ -50,3 +50,14 @@ returns-in_err-rows-clause-units g c clean store =
       λ told. uncovered_between s0 store c.args.at first last (itself_between first last c.requires) (c.in_err-rows.ensures.finds clean store told),
       λ failed. c.in_err-rows.ensures.refused clean store (ap Err failed),
     )
+
+pub returns-clause-turn : goal.returns-clause-turn
+returns-clause-turn g c clean store =
+    let s0 = state g.S.Store c.args.conn.now in
+    let first = c.args.first.now in
+    let last = c.args.last.now in
+    let rows = c.in_ok-rows.rows.items in
+    let held = c.in_ok-held.held.items in
+    let are = c.in_ok-rows.ensures.finds clean store last (c.as_str.ensures.value ∙ c.in_ok-end.ensures) in
+    let shows = rw (c.deref.ensures.value, c.as_bytes.ensures.value, c.as_bytes-2.ensures.value, c.as_str-2.ensures.value, c.in_ok-end.ensures) at c.in_ok-held.ensures in
+    said_in_turn s0 store c.args.at first last (itself_between first last c.requires) rows are held shows c.postings_said.result (subst (λ (h : List Held). Answers (λ fault. (fault ≢ Store) × IfDamaged (SomeSaysNone h) fault) (λ list. SayAll h list.items) c.postings_said.result) c.deref-2.ensures.value c.postings_said.ensures)

@@ -3,11 +3,14 @@ use Rattle.zeb_leaves.proofs.Cited.{◌≡◌, List, Entry, filter, length}
 use Rattle.std.specs.Option.{option_map}
 use Rattle.zeb_leaf.proofs.Walked.{Reaches}
 use Rattle.zeb_leaf.specs.declared.spans.BlockKey.{BlockKey}
+use Rattle.std.specs.Prelude.{IsTrue}
+use Rattle.zeb_leaves.proofs.WalkedRows.{AreFrom}
 use Rattle.zeb_leaves.specs.PrivateTermReads.{is_own}
 use Rattle.zeb_leaves.proofs.own_entries.entries_in.Given as goal
 
 abbrev pub invariant-loop-own : goal.invariant-loop-own
 invariant-loop-own l = (done : List Entry) × Reaches l.bytes done l.reader × (l.own.items ≡ filter (is_own l.from.term.now l.from.block (option_map (λ (k : BlockKey). (k.term.now, k.block)) l.end)) done)
+    × (IsTrue l.begun → AreFrom l.from.term.now l.from.block l.reader.place)
 
 abbrev pub decreases-loop-own : goal.decreases-loop-own
 decreases-loop-own l = length l.reader.left

@@ -1,4 +1,4 @@
-use Rattle.zeb_leaves.proofs.Cited.{◌≡◌, ◌+◌, arith, drop, refl, rules, subst, suc, sym, all_has, List, LiesIn, Posting, places_in}
+use Rattle.zeb_leaves.proofs.Cited.{◌≡◌, ◌+◌, arith, drop, refl, rules, subst, suc, sym, all_has, LiesIn}
 use Rattle.std.proofs.Common.{drop-cons, get_or}
 use Rattle.zeb_register.proofs.Answered.{refused_so}
 use Rattle.zeb_register.proofs.ContentLemmas.{has_get}
@@ -7,7 +7,7 @@ use Rattle.zeb_register.proofs.ListChanges.{no_change}
 use Rattle.zeb_register.specs.Formats.{packed_leaves}
 use Rattle.zeb_register.specs.PrivatePackedRows.{IsInBlock}
 use Rattle.zeb_register.specs.PrivateUnits.{units_of}
-use Rattle.zeb_register.specs.UnitChanges.{TurnsPlaces, TurnsUnits}
+use Rattle.zeb_register.specs.UnitChanges.{TurnsUnits}
 use Rattle.zeb_leaves.specs.PrivatePieces.{block_of}
 use Rattle.zeb_leaves.proofs.TurnedEntries.{CanTurn, can_from, same_turned, turned_unit}
 use Rattle.zeb_leaves.proofs.turned_entries.postings_after.Goals as goal
@@ -23,7 +23,7 @@ loop-change-preserved c =
     let before = c.loop-change.invariant in
     let held = units_of c.loop-change.list.items 0 in
     let next = units_of c.in_ok-list.list.items 0 in
-    let it = turned_unit x c.loop-change.list.items c.in_ok-list.list.items (subst (λ (l : List Posting). TurnsPlaces x l c.in_ok-list.list.items) c.deref.ensures.value c.in_ok-list.ensures.turned) in
+    let it = turned_unit x c.loop-change.list.items c.in_ok-list.list.items c.in_ok-list.ensures.turned in
     let is = drop-cons xs i no_change c.loop-change-test.true in
     let more : suc i ≡ i + 1 = omega arith in
     record {
@@ -49,5 +49,5 @@ returns-in_err-list-clause-turned c = refused_so _ _ c.from_residual.result c.in
       let held = units_of c.loop-change.list.items 0 in
       let rest = subst (λ l. CanTurn l held) (drop-cons xs i no_change c.loop-change-test.true) (c.loop-change.invariant.left (are, turns)) in
       let x = get_or xs i no_change in
-      c.in_err-list.ensures.turned.1 told (subst (λ (l : List Posting). places_in x.sysno l ≡ x.old.now) (sym c.deref.ensures.value) rest.1.1.found),
+      c.in_err-list.ensures.turned.1 told rest.1.1.found,
 )

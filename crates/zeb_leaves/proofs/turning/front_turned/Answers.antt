@@ -7,6 +7,7 @@ use Rattle.zeb_register.proofs.Answered.{refused_so}
 use Rattle.zeb_register.proofs.Calls.{store_same}
 use Rattle.zeb_register.specs.Tallies.{WorksOnLeaves}
 use Rattle.zeb_register.specs.declared.registers.RegisterOf.{RegisterOf}
+use Rattle.zeb_leaves.proofs.CountedLeaves.{turn_counted}
 use Rattle.zeb_leaves.proofs.FrontPieces.{covers_read, ends_leaf, one_key, uncovered_lacks}
 use Rattle.zeb_leaves.proofs.OwnedEntries.{end_shown}
 use Rattle.zeb_leaves.proofs.PiecesWritten.{store_distinct}
@@ -83,7 +84,7 @@ returns-in_default-clause-work g c clean inside store =
     let s2 = state g.S.Store c.register_begun.new.tx.conn.now in
     let clean1 : HasCleanDisk s1 = omega (arith, c.register_begun.ensures.call.crash.clean) in
     let read = c.in_ok-leaf.ensures.call.ok clean1 inside in
-    let counts = c.register_begun.ensures.work clean read.mode (store_same s0 s1 read.now_is store) in
+    let counts = turn_counted 0 c.register_begun.result s1.now.trees s2.now.trees c.args.work.now c.register_begun.new.work (c.register_begun.ensures.work clean read.mode (store_same s0 s1 read.now_is store)) in
     subst (λ (d : Database). OnOk c.register_begun.result (WorksOnLeaves 1 d.trees s2.now.trees c.args.work.now c.register_begun.new.work)) read.now_is counts
 
 pub returns-clause-work : goal.returns-clause-work
@@ -97,5 +98,5 @@ returns-clause-work g c clean inside store =
     let read1 = c.in_ok-leaf.ensures.call.ok clean1 inside in
     let store1 = store_same s0 s1 read1.now_is store in
     let read2 = c.in_ok-behind.ensures.call.ok clean2 read1.mode in
-    let counts = c.leaf_turned.ensures.work clean read2.mode (store_same s1 s2 read2.now_is store1) in
+    let counts = turn_counted 1 c.leaf_turned.result s2.now.trees s3.now.trees c.args.work.now c.leaf_turned.new.work (c.leaf_turned.ensures.work clean read2.mode (store_same s1 s2 read2.now_is store1)) in
     subst (λ (d : Database). OnOk c.leaf_turned.result (WorksOnLeaves 1 d.trees s3.now.trees c.args.work.now c.leaf_turned.new.work)) (read2.now_is ∙ read1.now_is) counts

@@ -76,4 +76,4 @@ pub returns-clause-work : goal.returns-clause-work
 returns-clause-work g c clean inside store =
     let old = (state g.S.Store c.args.tx.now.conn.now).now.trees in
     let new = (state g.S.Store c.entries_put.new.tx.conn.now).now.trees in
-    front_counted true 1 c.in_ok-written.written old new c.args.work.now c.count_leaves.new.work (omega arith) (c.in_ok-written.ensures.rows clean inside store) c.count_leaves.ensures
+    (c.count_leaves.ensures.reads_leaves, front_counted true 1 c.in_ok-written.written old new c.args.work.now c.count_leaves.new.work (omega arith) (c.in_ok-written.ensures.rows clean inside store) c.count_leaves.ensures)

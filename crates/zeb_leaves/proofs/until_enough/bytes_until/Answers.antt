@@ -1,20 +1,22 @@
 -- Each entry is counted, or passed over, or there are enough before it.
-use Rattle.zeb_leaves.proofs.Cited.{◌++◌, ◌∷◌, [], ℕ, List, true, false, sym, refl, subst, rules, filter}
-use Rattle.std.proofs.Common.{Bool}
+use Rattle.zeb_leaves.proofs.Cited.{◌≡◌, ◌∙◌, ap, Entry, ◌++◌, ◌∷◌, [], ℕ, List, true, false, sym, refl, subst, rules, filter}
+use Rattle.std.proofs.Common.{Bool, not}
+use Rattle.std.specs.Ordering.{is_lt}
+use Rattle.zeb_leaf.specs.Spans.{key_cmp}
 use Rattle.std.specs.Prelude.{IsUtf8}
 use Rattle.std.specs.Option.{option_map}
 use Rattle.zeb_leaf.proofs.Numbers.{step_shorter}
 use Rattle.zeb_leaf.proofs.Walked.{reaches_first, reaches_more}
 use Rattle.zeb_leaf.specs.Answers.{entry_of}
 use Rattle.zeb_leaf.specs.declared.spans.BlockKey.{BlockKey}
-use Rattle.zeb_leaves.proofs.WalkedRows.{counted_more, enough_more, stuck_none, walked_all}
+use Rattle.zeb_leaves.proofs.WalkedRows.{counted_more, enough_more, noted_from, still_from, stuck_none, told_own, walked_all}
 use Rattle.zeb_leaves.specs.PrivateNearTerms.{CountUntil}
 use Rattle.zeb_leaves.specs.PrivateTermReads.{is_own}
 use Rattle.zeb_register.proofs.Answered.{refused_so}
 use Rattle.zeb_leaves.proofs.until_enough.bytes_until.Goals as goal
 
 pub loop-reader-init : goal.loop-reader-init
-loop-reader-init c = ([], rw c.new-reader.ensures (reaches_first c.args.bytes.now), (refl, refl))
+loop-reader-init c = ([], rw c.new-reader.ensures (reaches_first c.args.bytes.now), (refl, refl), λ begun. absurd (let e : false ≡ true = begun in cc))
 
 pub returns-in_err-held : goal.returns-in_err-held
 returns-in_err-held c = refused_so _ _ c.from_residual.result c.in_err-held.field-0.0 (search rules) (
@@ -22,13 +24,19 @@ returns-in_err-held c = refused_so _ _ c.from_residual.result c.in_err-held.fiel
   λ told. stuck_none c.args.bytes.now c.loop-reader.invariant.0 c.loop-reader.reader c.loop-reader.invariant.1 (c.in_err-held.ensures.1 told),
 )
 
+pub is_own_entry-chosen-requires : goal.is_own_entry-chosen-requires
+is_own_entry-chosen-requires c = λ begun.
+    let step = rw c.in-Some.is at c.in_ok-held.ensures in
+    let e = entry_of c.next_entry.new.reader.place.term c.in-Some.held in
+    subst (λ (t : List ℕ). is_lt (key_cmp t c.in-Some.held.block c.args.from.term.now c.args.from.block) ≡ false) (sym c.term.ensures) (c.loop-reader.invariant.3 begun e step.follows)
+
 -- the term of an entry of a leaf is text
 pub returns-in_err-enough : goal.returns-in_err-enough
 returns-in_err-enough c =
     let step = rw c.in-Some.is at c.in_ok-held.ensures in
     refused_so _ _ c.from_residual-in_err-enough.result c.in_err-enough.field-0.0 (search rules) (
       c.in_err-enough.ensures.0,
-      λ told. absurd (c.in_err-enough.ensures.1 told (subst IsUtf8 (sym c.term.ensures) step.follows.sound.text)),
+      λ told. absurd (c.in_err-enough.ensures.1 told (subst IsUtf8 (sym c.term-then-not-enough.ensures) step.follows.sound.text)),
     )
 
 pub loop-reader-smaller-then-not-enough : goal.loop-reader-smaller-then-not-enough
@@ -47,10 +55,15 @@ loop-reader-preserved-then-not-enough c =
     let new = c.own_until.new.counts.items in
     let enough = c.in_ok-enough.enough in
     let counts = subst (λ (b : Bool). CountUntil c.args.n (filter test done) old mid b) c.if-not-enough.true c.loop-reader.invariant.2 in
-    let next = subst (λ (t : List ℕ). CountUntil c.args.n (filter test (entry_of t c.in-Some.held ∷ [])) mid new enough) c.term.ensures c.in_ok-enough.ensures in (
+    let own = c.is_own_entry-chosen.result in
+    let told = c.is_own_entry-chosen.ensures.own ∙ ap (λ (t : List ℕ). test (entry_of t c.in-Some.held)) c.term.ensures in
+    let here = subst (λ (t : List ℕ). CountUntil c.args.n (filter (λ _. own) (entry_of t c.in-Some.held ∷ [])) mid new enough) c.term-then-not-enough.ensures c.in_ok-enough.ensures in
+    let next = subst (λ (l : List Entry). CountUntil c.args.n l mid new enough) (told_own test e own told) here in
+    let noted = c.is_own_entry-chosen.ensures.begun ∙ ap (λ (t : List ℕ). not (is_lt (key_cmp t c.in-Some.held.block c.args.from.term.now c.args.from.block))) c.term.ensures in (
       done ++ e ∷ [],
       reaches_more c.args.bytes.now done c.loop-reader.reader c.next_entry.new.reader e c.loop-reader.invariant.1 step,
       counted_more c.args.n test done e old mid new enough counts next,
+      λ begun. noted_from c.args.from.term.now c.args.from.block c.loop-reader.reader c.next_entry.new.reader e c.is_own_entry-chosen.new.begun step noted begun,
     )
 
 pub loop-reader-smaller : goal.loop-reader-smaller
@@ -70,6 +83,7 @@ loop-reader-preserved c =
       done ++ e ∷ [],
       reaches_more c.args.bytes.now done c.loop-reader.reader c.next_entry.new.reader e c.loop-reader.invariant.1 step,
       subst (λ (b : Bool). CountUntil c.args.n (filter test (done ++ e ∷ [])) old mid b) (sym c.if-not-enough.false) (enough_more c.args.n test done e old mid enough),
+      λ begun. still_from c.args.from.term.now c.args.from.block c.loop-reader.reader c.next_entry.new.reader e step (c.loop-reader.invariant.3 begun),
     )
 
 pub returns : goal.returns

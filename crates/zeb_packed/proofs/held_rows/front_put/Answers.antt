@@ -1,5 +1,6 @@
 use Rattle.zeb_packed.proofs.Cited.{rules, state, refused_so}
 use Rattle.zeb_packed.proofs.HeldPuts.{stands_first, stands_in_front}
+use Rattle.zeb_packed.specs.declared.statements.many.TheConstants.{MANY}
 use Rattle.zeb_packed.proofs.held_rows.front_put.Goals as goal
 
 pub returns-in_err-one_put-clause-put : goal.returns-in_err-one_put-clause-put
@@ -8,4 +9,4 @@ returns-in_err-one_put-clause-put g c clean inside store = refused_so _ _ c.from
 
 pub returns-in_err-many_put-clause-put : goal.returns-in_err-many_put-clause-put
 returns-in_err-many_put-clause-put g c clean inside store = refused_so _ _ c.from_residual-in_err-many_put.result c.in_err-many_put.field-0.0 (search rules)
-    (λ told. stands_in_front c.args.db.0 c.args.blocks.now 16 (state g.S.Store c.args.tx.now.conn.now).now.trees (c.in_err-many_put.ensures.put clean inside store told))
+    (λ told. stands_in_front c.args.db.0 c.args.blocks.now MANY (state g.S.Store c.args.tx.now.conn.now).now.trees (c.in_err-many_put.ensures.put clean inside store told))

@@ -1,7 +1,9 @@
-use Rattle.zeb_packed.proofs.Cited.{◌≡◌, ◌∙◌, ◌+◌, ◌*◌, Works, length, suc, [], ◌∷◌, ap, arith, drop, drop-cons, refl, rules, subst, sym, state, HasCleanDisk, goes_keeps, goes_then, on_err, quiet_then, refused_so}
+use Rattle.zeb_packed.proofs.Cited.{◌≡◌, ◌∙◌, ◌+◌, ◌*◌, Works, length, suc, [], ◌∷◌, ap, arith, drop, drop-cons, inl, refl, rules, subst, sym, state, HasCleanDisk, goes_keeps, goes_then, on_err, quiet_then, refused_so}
 use Rattle.sqlite_trees.proofs.ListLemmas.{all-get_or}
 use Rattle.zeb_packed.proofs.HeldPuts.{goes_still}
 use Rattle.zeb_packed.proofs.HeldRuns.{HoldsSoFar, holds_all, holds_none, key_more, key_refused}
+use Rattle.zeb_packed.proofs.NewKeys.{told_more}
+use Rattle.zeb_packed.specs.PrivateNewRows.{AreToldNew}
 use Rattle.zeb_register.proofs.Answered.{fault_met}
 use Rattle.zeb_register.proofs.CallsInTurn.{quiet_still}
 use Rattle.zeb_register.proofs.RunCounts.{none_run, work_all, work_begun, work_more}
@@ -18,8 +20,7 @@ loop-one-init g c =
       same = refl;
       crash = quiet_still first;
       on = λ clean inside opened. goes_still first inside opened;
-      store = λ clean inside opened store. store;
-      holds = λ clean inside opened store. holds_none c.args.db.0 c.args.run.now first.now.trees _ c.new-held.ensures.blocks c.new-held.ensures.counts;
+      holds = λ clean inside opened store told. (store, told, holds_none c.args.db.0 c.args.run.now first.now.trees _ c.new-held.ensures.blocks c.new-held.ensures.counts);
       work = work_begun packed_blocks 1 c.args.run.now first.now.trees first.now.trees c.args.work.now refl;
     }
 
@@ -49,15 +50,20 @@ loop-one-preserved g c =
           let was : HasCleanDisk mid = omega (arith, c.key_turned.ensures.crash.clean) in
           let on = so_far.on was inside opened in
           goes_then first mid last on ((it.call on.is_open).ok clean on.mode);
-      store = λ clean inside opened store.
+      holds = λ clean inside opened store told.
           let was : HasCleanDisk mid = omega (arith, c.key_turned.ensures.crash.clean) in
-          (it.turned clean (so_far.on was inside opened).mode (so_far.store was inside opened store)).0;
-      holds = λ clean inside opened store.
-          let was : HasCleanDisk mid = omega (arith, c.key_turned.ensures.crash.clean) in
-          let turned = (it.turned clean (so_far.on was inside opened).mode (so_far.store was inside opened store)).1 in
-          let here = subst (λ l. HoldsSoFar db xs l first.now.trees mid.now.trees c.loop-one.held) is (so_far.holds was inside opened store) in
-          subst (λ n. HoldsSoFar db xs (drop n xs) first.now.trees last.now.trees c.key_turned.new.held) more
-          (key_more db xs x (drop (suc i) xs) (rise_left i xs x (drop (suc i) xs) is c.requires.rising.keys) first.now.trees mid.now.trees c.loop-one.held here last.now.trees c.key_turned.new.held turned);
+          let on = so_far.on was inside opened in
+          let before = so_far.holds was inside opened store told in
+          let left = subst (λ l. AreToldNew c.args.of_run.are_new db l mid.now.trees) is before.1 in
+          let turned = it.turned on.is_open clean on.mode before.0 (left x (inl refl)) in
+          let here = subst (λ l. HoldsSoFar db xs l first.now.trees mid.now.trees c.loop-one.held) is before.2 in
+          let rising = rise_left i xs x (drop (suc i) xs) is c.requires.rising.keys in (
+            turned.0,
+            subst (λ n. AreToldNew c.args.of_run.are_new db (drop n xs) last.now.trees) more
+                (told_more c.args.of_run.are_new db x (drop (suc i) xs) rising mid.now.trees last.now.trees c.loop-one.held c.key_turned.new.held left turned.1),
+            subst (λ n. HoldsSoFar db xs (drop n xs) first.now.trees last.now.trees c.key_turned.new.held) more
+                (key_more db xs x (drop (suc i) xs) rising first.now.trees mid.now.trees c.loop-one.held here last.now.trees c.key_turned.new.held turned.1),
+          );
       work = let one : 1 * length x.changes.now ≡ length x.changes.now = omega arith in
           work_more packed_blocks 1 xs i x first.now.trees mid.now.trees last.now.trees c.args.work.now c.loop-one.work c.count_rows.new.work is c.counts_are_numbers.ensures so_far.work (subst (λ n. Works n n n n c.loop-one.work c.count_rows.new.work) (sym one) c.count_rows.ensures);
     }
@@ -66,12 +72,12 @@ pub returns-clause-call : goal.returns-clause-call
 returns-clause-call g c opened = record { ok = λ clean inside. c.loop-one.invariant.on clean inside opened; err = search rules; crash = c.loop-one.invariant.crash }
 
 pub returns-clause-holds : goal.returns-clause-holds
-returns-clause-holds g c opened clean inside store =
+returns-clause-holds g c opened clean inside store told =
     let first = state g.S.Store c.args.tx.now.conn.now in
     let now = state g.S.Store c.loop-one.tx.conn.now in
-    let so_far = c.loop-one.invariant in (
-      so_far.store clean inside opened store,
-      holds_all c.args.db.0 c.args.run.now (drop c.loop-one.one-index c.args.run.now) first.now.trees now.now.trees c.loop-one.held (none_run c.loop-one.one-index c.args.run.now c.loop-one-test.false) (so_far.holds clean inside opened store),
+    let so_far = c.loop-one.invariant.holds clean inside opened store told in (
+      so_far.0,
+      holds_all c.args.db.0 c.args.run.now (drop c.loop-one.one-index c.args.run.now) first.now.trees now.now.trees c.loop-one.held (none_run c.loop-one.one-index c.args.run.now c.loop-one-test.false) so_far.2,
     )
 
 pub returns-clause-work : goal.returns-clause-work
@@ -93,7 +99,7 @@ pub returns-in_err-key_turned-clause-crash : goal.returns-in_err-key_turned-clau
 returns-in_err-key_turned-clause-crash g c = quiet_then _ _ _ c.loop-one.invariant.crash c.key_turned.ensures.crash
 
 pub returns-in_err-key_turned-clause-holds : goal.returns-in_err-key_turned-clause-holds
-returns-in_err-key_turned-clause-holds g c opened clean inside store =
+returns-in_err-key_turned-clause-holds g c opened clean inside store told =
     let first = state g.S.Store c.args.tx.now.conn.now in
     let mid = state g.S.Store c.loop-one.tx.conn.now in
     let db = c.args.db.0 in
@@ -104,7 +110,10 @@ returns-in_err-key_turned-clause-holds g c opened clean inside store =
     let so_far = c.loop-one.invariant in
     let was : HasCleanDisk mid = omega (arith, c.key_turned.ensures.crash.clean) in
     let is : drop i xs ≡ x ∷ drop (suc i) xs = drop-cons xs i x c.loop-one-test.true ∙ ap (λ y. y ∷ drop (suc i) xs) (sym c.one-item.is) in
-    let here = subst (λ l. HoldsSoFar db xs l first.now.trees mid.now.trees c.loop-one.held) is (so_far.holds was inside opened store) in
-    let refused = c.in_err-key_turned.ensures.turned clean (so_far.on was inside opened).mode (so_far.store was inside opened store) in
+    let on = so_far.on was inside opened in
+    let before = so_far.holds was inside opened store told in
+    let left = subst (λ l. AreToldNew c.args.of_run.are_new db l mid.now.trees) is before.1 in
+    let here = subst (λ l. HoldsSoFar db xs l first.now.trees mid.now.trees c.loop-one.held) is before.2 in
+    let refused = c.in_err-key_turned.ensures.turned on.is_open clean on.mode before.0 (left x (inl refl)) in
     refused_so _ _ c.from_residual.result fault (fault_met c.from_residual.result fault c.from_residual.ensures.1)
     (key_refused db xs x (drop (suc i) xs) (rise_left i xs x (drop (suc i) xs) is c.requires.rising.keys) first.now.trees mid.now.trees c.loop-one.held here fault refused)

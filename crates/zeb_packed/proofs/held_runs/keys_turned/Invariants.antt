@@ -1,6 +1,7 @@
 -- The keys so far are changed, or their rows held.
 use Rattle.zeb_packed.proofs.Cited.{◌≡◌, IsTrue, drop, state, HasCleanDisk, Survives, GoesOn, IsStore}
 use Rattle.zeb_packed.proofs.HeldRuns.{HoldsSoFar}
+use Rattle.zeb_packed.specs.PrivateNewRows.{AreToldNew}
 use Rattle.zeb_register.proofs.RunCounts.{WorksSoFar}
 use Rattle.zeb_register.specs.Formats.{packed_blocks}
 use Rattle.zeb_packed.proofs.held_runs.keys_turned.Given as goal
@@ -13,7 +14,7 @@ invariant-loop-one g l =
       same : l.tx.conn.ghost_name ≡ l.fn.tx.conn.ghost_name;
       crash : Survives old now (λ _. ⊥);
       on : HasCleanDisk now → IsTrue old.in_transaction → IsTrue old.is_open → GoesOn old now;
-      store : HasCleanDisk now → IsTrue old.in_transaction → IsTrue old.is_open → IsStore old → IsStore now;
-      holds : HasCleanDisk now → IsTrue old.in_transaction → IsTrue old.is_open → IsStore old → HoldsSoFar l.db.0 l.run (drop l.one-index l.run) old.now.trees now.now.trees l.held;
+      holds : HasCleanDisk now → IsTrue old.in_transaction → IsTrue old.is_open → IsStore old → AreToldNew l.of_run.are_new l.db.0 l.run old.now.trees
+          → IsStore now × AreToldNew l.of_run.are_new l.db.0 (drop l.one-index l.run) now.now.trees × HoldsSoFar l.db.0 l.run (drop l.one-index l.run) old.now.trees now.now.trees l.held;
       work : WorksSoFar packed_blocks 1 l.run l.one-index old.now.trees now.now.trees l.fn.work l.work;
     }

@@ -3,7 +3,7 @@ use Rattle.std.specs.Prelude.{codes}
 use Rattle.std.specs.Fmt.{decimal}
 use Rattle.std.specs.Io.KnownBytes.{Appends}
 use Rattle.std.proofs.KnownBytes.{Appends-trans}
-use Rattle.zeb_program.specs.FaultLines.{cause_line, file_line, met_lines}
+use Rattle.zeb_program.specs.FaultLines.{cause_line, file_line, file_lines}
 use Rattle.zeb_program.proofs.failures.write_cause.Goals as goal
 
 -- the parts of a line, as they are written and as they are said
@@ -31,5 +31,5 @@ returns-in-File-clause-line g c = λ sound.
     let new = g.W.Write.contents c.tell_met.new.output.writer in
     let same = nested (codes "zebraidx: file ") (decimal c.in-File.number) (codes " is ") (string_bytes c.in-File.path) in
     subst (λ cause. Appends old new (cause_line cause)) (sym c.in-File.is)
-    (Appends-trans old mid new (file_line c.in-File.number (string_bytes c.in-File.path)) (met_lines c.in-File.met)
+    (Appends-trans old mid new (file_line c.in-File.number (string_bytes c.in-File.path)) (file_lines c.in-File.met)
     (subst (Appends old mid) same (c.write_line-in-File.ensures.bytes (c.tell_met.ensures.sound sound))) (c.tell_met.ensures.told sound))

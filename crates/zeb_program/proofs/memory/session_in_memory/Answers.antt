@@ -4,7 +4,7 @@ use Rattle.zeb_program.specs.FaultAnswers.{unopened_refusal}
 use Rattle.zeb_program.specs.PrivateWordRuns.{TakesOpen}
 use Rattle.zeb_program.specs.PrivateServing.{HoldsNothing}
 use Rattle.zeb_program.proofs.ResultValues.{made_of}
-use Rattle.zeb_program.proofs.WordRunLemmas.{fails_anyway}
+use Rattle.zeb_program.proofs.OpeningLemmas.{fails_anyway}
 use Rattle.zeb_program.proofs.memory.session_in_memory.Goals as goal
 
 -- An empty store bears a register that holds nothing, which the session keeps.

@@ -3,6 +3,6 @@ use Rattle.std.specs.Prelude.{IfSome}
 use Rattle.zeb_program.specs.Registers.{IsLetGo}
 use Rattle.zeb_program.proofs.performing.let_go.Goals as goal
 
-pub returns-in-Some : goal.returns-in-Some
-returns-in-Some g c =
-    subst (λ held. IfSome held (IsLetGo g.P.Store.Store (g.P.Paths.lets_go c.args.paths.now))) (sym c.in-Some.is) (c.into_store.result, c.let_go.ensures, c.into_store.ensures.quiet)
+pub returns-in-Some-clause-told : goal.returns-in-Some-clause-told
+returns-in-Some-clause-told g c =
+    subst (λ held. IfSome held (IsLetGo g.P.Store.Store (g.P.Paths.lets_go c.args.paths.now) c.let_go.result)) (sym c.in-Some.is) (c.into_store.result, c.let_go.ensures, c.into_store.ensures.quiet)

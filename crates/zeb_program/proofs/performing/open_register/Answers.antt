@@ -7,7 +7,7 @@ use Rattle.zeb_program.specs.PrivateWordRuns.{format_of}
 use Rattle.zeb_program.specs.Registers.{places, untold}
 use Rattle.zeb_program.specs.ScriptAnswers.{AreScriptConditions}
 use Rattle.zeb_program.proofs.LayoutLemmas.{conditions_in, looked_at, looked_over}
-use Rattle.zeb_program.proofs.WordRunLemmas.{opening_fault}
+use Rattle.zeb_program.proofs.OpeningLemmas.{opening_fault}
 use Rattle.zeb_program.proofs.performing.open_register.Goals as goal
 
 pub returns-in_err-session-clause-failed : goal.returns-in_err-session-clause-failed

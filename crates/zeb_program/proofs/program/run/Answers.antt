@@ -8,29 +8,32 @@ use Rattle.zeb_program.specs.Registers.{places}
 use Rattle.zeb_program.specs.ScriptAnswers.{EndsScript}
 use Rattle.zeb_program.specs.WordAnswers.{EndsWords}
 use Rattle.zeb_program.proofs.LeftLemmas.{starved_code}
-use Rattle.zeb_program.proofs.ScriptAnswerLemmas.{ended_script, ends_with, kept_script, may_starve}
+use Rattle.zeb_program.proofs.ScriptAnswerLemmas.{ended_script, ends_with, kept_script, tells_at_most}
 use Rattle.zeb_program.proofs.WordAnswerLemmas.{ended_words, kept_words}
 use Rattle.zeb_program.proofs.program.run.Goals as goal
 
 pub returns-then-is_empty-clause-script : goal.returns-then-is_empty-clause-script
 returns-then-is_empty-clause-script g c = λ none quiet.
     let fault_old = g.V.Write.contents c.args.fault_output.now.writer in
-    let fault_mid = g.V.Write.contents c.tell_starved-status.new.fault_output.writer in
+    let fault_mid = g.V.Write.contents c.tell_script-status.new.fault_output.writer in
     let fault_new = g.V.Write.contents c.finish.new.fault_output.writer in
-    let still = (c.finish.ensures.passed_fault quiet).0 in (
-      may_starve (λ sink. g.V.Write.contents sink.writer) c.args.fault_output.now c.tell_starved-status.new.fault_output c.tell_starved-status.result c.run_script-ended.result _ fault_new c.tell_starved-status.ensures.answered c.tell_starved-status.ensures.starved still
-          (c.finish.ensures.passed_fault quiet).2,
+    let still = (c.finish.ensures.passed_fault quiet).0 in
+    let fault_kept = (c.finish.ensures.passed_fault quiet).2 in (
+      tells_at_most fault_old fault_mid fault_new c.tell_script-status.result c.run_script-ended.result _ c.tell_script-status.ensures.answered c.tell_script-status.ensures.starved still fault_kept,
       λ read sound.
           let at = telling (g.P.Paths.tells c.args.files.now) (g.P.Paths.stands c.args.files.now) (g.P.Paths.lists c.args.files.now) in
           let left = g.R.Source.remaining c.args.input.now in
           let old = g.W.Write.contents c.args.output.now.writer in
-          let mid = g.W.Write.contents c.run_script-ended.new.output.writer in
+          let written = g.W.Write.contents c.run_script-ended.new.output.writer in
+          let mid = g.W.Write.contents c.tell_script-status.new.output.writer in
           let new = g.W.Write.contents c.finish.new.output.writer in
-          let told = ended_script at left old mid (λ sink. g.V.Write.contents sink.writer) c.args.fault_output.now c.tell_starved-status.new.fault_output _ _ _ c.tell_starved-status.result c.run_script-ended.result c.run_script-ended.ensures.answer c.run_script-ended.ensures.stopped
-          c.tell_starved-status.ensures.answered c.tell_starved-status.ensures.starved still read ((c.finish.ensures.passed sound).0) in
-          let kept : IfSome left (λ text. EndsScript at text old new fault_old fault_new c.finish.result) = rw (c.finish.ensures.status.1 sound quiet)
-          (kept_script at left old mid new fault_old fault_mid fault_new _ ((c.finish.ensures.passed sound).2) ((c.finish.ensures.passed_fault quiet).2) told) in
-          ends_with left (λ text. EndsScript at text old new fault_old fault_new) c.code.result c.finish.result c.code.ensures kept,
+          let passed = c.finish.ensures.passed sound in
+          let kept = c.tell_script-status.ensures.kept passed.0 in
+          let told = ended_script at left old written mid fault_old fault_mid _ _ _ c.tell_script-status.result c.run_script-ended.result c.run_script-ended.ensures.answer c.run_script-ended.ensures.stopped kept.1
+          c.tell_script-status.ensures.answered c.tell_script-status.ensures.starved still read kept.0 in
+          let ends : IfSome left (λ text. EndsScript at text old new fault_old fault_new c.finish.result) = rw (c.finish.ensures.status.1 sound quiet)
+          (kept_script at left old mid new fault_old fault_mid fault_new _ passed.2 fault_kept told) in
+          ends_with left (λ text. EndsScript at text old new fault_old fault_new) c.code.result c.finish.result c.code.ensures ends,
     )
 
 pub returns-then-is_empty-clause-store : goal.returns-then-is_empty-clause-store
@@ -43,7 +46,7 @@ returns-clause-store g c =
       λ _. (
         c.run_words-ended.result,
         c.run_words-ended.ensures.store,
-        starved_code c.run_words-ended.result c.tell_starved-status-2.result c.finish-2.result c.code-2.result _ c.tell_starved-status-2.ensures.starved c.finish-2.ensures.status.0 c.code-2.ensures,
+        starved_code c.run_words-ended.result c.tell_starved-status.result c.finish-2.result c.code-2.result _ c.tell_starved-status.ensures.starved c.finish-2.ensures.status.0 c.code-2.ensures,
       ),
     )
 
@@ -57,12 +60,12 @@ returns-clause-words g c = λ some sound quiet.
     let old = g.W.Write.contents c.args.output.now.writer in
     let mid = g.W.Write.contents c.run_words-ended.new.output.writer in
     let fault_old = g.V.Write.contents c.args.fault_output.now.writer in
-    let fault_mid = g.V.Write.contents c.tell_starved-status-2.new.fault_output.writer in
+    let fault_mid = g.V.Write.contents c.tell_starved-status.new.fault_output.writer in
     let new = g.W.Write.contents c.finish-2.new.output.writer in
     let fault_new = g.V.Write.contents c.finish-2.new.fault_output.writer in
     let still = (c.finish-2.ensures.passed_fault quiet).0 in
-    let told = ended_words at words given left unread old mid fault_old (λ sink. g.V.Write.contents sink.writer) c.run_words-ended.new.fault_output c.tell_starved-status-2.new.fault_output _ _ _ c.tell_starved-status-2.result c.run_words-ended.result
-    c.run_words-ended.ensures.answer c.run_words-ended.ensures.stopped c.tell_starved-status-2.ensures.answered c.tell_starved-status-2.ensures.starved ((c.finish-2.ensures.passed sound).0) (c.tell_starved-status-2.ensures.sound still) still in
+    let told = ended_words at words given left unread old mid fault_old (λ sink. g.V.Write.contents sink.writer) c.run_words-ended.new.fault_output c.tell_starved-status.new.fault_output _ _ _ c.tell_starved-status.result c.run_words-ended.result
+    c.run_words-ended.ensures.answer c.run_words-ended.ensures.stopped c.tell_starved-status.ensures.answered c.tell_starved-status.ensures.starved ((c.finish-2.ensures.passed sound).0) (c.tell_starved-status.ensures.sound still) still in
     let kept : EndsWords at words given left unread old new fault_old fault_new c.finish-2.result = rw (c.finish-2.ensures.status.1 sound quiet)
     (kept_words at words given left unread old mid new fault_old fault_mid fault_new _ ((c.finish-2.ensures.passed sound).2) ((c.finish-2.ensures.passed_fault quiet).2) told) in
     (c.finish-2.result, c.code-2.ensures, kept)
