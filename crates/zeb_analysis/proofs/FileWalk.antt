@@ -1,5 +1,5 @@
 -- A file that is read record by record: what stands in what is left of it.
-use Rattle.zeb_analysis.proofs.Cited.{◌≡◌, ◌≢◌, ◌∙◌, ℕ, ◌+◌, ◌≤◌, ◌<◌, List, [], ◌∷◌, ◌++◌, length, length-append, Option, Some, None, Result, Ok, Err, refl, sym, ap, subst, arith, option_or, map, map-append, MarcFault, Next, at_end, a_slice, a_fault, Gives, next_of, split_of, NextIs, next_view, split_of-next, SoundSlice-from_checks, AnalysisFault, Marc, Memory, Analysis, analysed, AreAnalysesOf, Place, Setting, Standing, at_place, first_refusal, standing_from, AnalysesNext, IsTaken, record_at, place_at}
+use Rattle.zeb_analysis.proofs.Cited.{◌≡◌, ◌≢◌, ◌∙◌, ℕ, ◌+◌, ◌≤◌, ◌<◌, List, [], ◌∷◌, ◌++◌, length, length-append, Some, None, Result, Ok, Err, refl, sym, ap, subst, arith, option_or, map, map-append, MarcFault, Next, at_end, a_slice, a_fault, Gives, next_of, split_of, NextIs, next_view, split_of-next, SoundSlice-from_checks, AnalysisFault, Marc, Memory, Analysis, analysed, AreAnalysesOf, Place, Setting, Standing, at_place, first_refusal, standing_from, AnalysesNext, IsTaken, place_at}
 use Rattle.zeb_analysis.specs.Analysing.{refusal_at, standing_in}
 use Rattle.zeb_analysis.proofs.WithinLimit.{within}
 use Rattle.zeb_analysis.proofs.SoFar.{SoFar, at_first, at_last, more_done, refused_here}
@@ -11,19 +11,6 @@ module _ (setting : Setting) (before : ℕ) (place : Place) where
   next_refused at_end fault kept left h = let no = h.0 in absurd (cc)
   next_refused (a_slice slice rest) fault kept left h = let no = h.0 in absurd (cc)
   next_refused (a_fault found) fault kept left h = let is = h.0 in let same : fault ≡ found = cc in ap (λ (f : MarcFault). Err (Marc place f)) same
-
-  pub none_next : (n : Next) (kept left : List ℕ) → Gives n (Ok None) kept (Some left) → AnalysesNext setting before place n (Ok None) left
-  none_next at_end kept left h = refl
-  none_next (a_slice slice rest) kept left h = let no = h.0 in absurd (cc)
-  none_next (a_fault found) kept left h = let no = h.0 in absurd (cc)
-
-  pub next_taken : (n : Next) (many : ℕ) (kept left bytes : List ℕ) (answer : Result (Option Analysis) AnalysisFault) → Gives n (Ok (Some many)) kept (Some left) → bytes ≡ kept
-      → IsTaken setting before (record_at place bytes) answer → AnalysesNext setting before place n answer left
-  next_taken at_end many kept left bytes answer h same taken = let no = h.0 in absurd (cc)
-  next_taken (a_slice slice rest) many kept left bytes answer h same taken =
-      let left_is = h.2 in
-      (cc, subst (λ these. IsTaken setting before (record_at place these) answer) (same ∙ h.1) taken)
-  next_taken (a_fault found) many kept left bytes answer h same taken = let no = h.0 in absurd (cc)
 
   -- ---- what was analysed tells it
 

@@ -1,7 +1,7 @@
 -- Files that are analysed one after the other: what stands in those that are left.
-use Rattle.zeb_analysis.proofs.Cited.{◌≡◌, ◌∙◌, ℕ, ◌+◌, ◌<◌, suc, List, ◌∷◌, ◌++◌, length, map, drop, get_or, Some, sym, ap, subst, arith, ◌≤◌, [], None, drop_all, length-map, Directive, AnalysisFault, Analysed, AreAnalysesOf, Standing, first_refusal, standing_in_all, Extends}
+use Rattle.zeb_analysis.proofs.Cited.{◌≡◌, ◌∙◌, ℕ, ◌+◌, ◌<◌, suc, List, ◌∷◌, ◌++◌, length, map, drop, get_or, Some, sym, ap, subst, arith, Directive, AnalysisFault, Analysed, Standing, first_refusal, standing_in_all, Extends}
 use Rattle.zeb_analysis.specs.Analysing.{standing_in}
-use Rattle.zeb_analysis.proofs.SoFar.{SoFar, at_last, more_done, refused_here, rest_at}
+use Rattle.zeb_analysis.proofs.SoFar.{SoFar, more_done, refused_here, rest_at}
 
 module _ {F : Type 0} (text_of : F → List ℕ) (files : List F) (index : ℕ) (file : F) (within : index < length files) (there : file ≡ get_or files index file)
     (profile : List Directive) (limit : ℕ) (whole : List Standing) (old : List Analysed)
@@ -32,10 +32,3 @@ module _ {F : Type 0} (text_of : F → List ℕ) (files : List F) (index : ℕ) 
       (ap (λ n. first_refusal profile limit n (standing_in (index + 1) (text_of file))) (sym from_none)
       ∙ ap (λ t. first_refusal profile limit (length old) (standing_in (index + 1) t)) (sym same)
       ∙ found)
-
--- no file is left
-pub all_done : {F : Type 0} (text_of : F → List ℕ) (files : List F) (index : ℕ) → length files ≤ index → (profile : List Directive) (limit : ℕ) (whole : List Standing) (done : List Analysed)
-    → SoFar profile limit 0 whole (standing_in_all (index + 1) (drop index (map text_of files))) done → (first_refusal profile limit 0 whole ≡ None) × AreAnalysesOf profile whole done
-all_done text_of files index past profile limit whole done far =
-    let none : drop index (map text_of files) ≡ [] = drop_all index (map text_of files) (omega (arith, length-map files text_of, past)) in
-    at_last profile limit 0 whole done (subst (λ texts. SoFar profile limit 0 whole (standing_in_all (index + 1) texts) done) none far)

@@ -1,5 +1,5 @@
 -- What is counted for the keys of records, one record after the other.
-use Rattle.zeb_change.proofs.Cited.{◌≡◌, ◌↔◌, ◌∙◌, ◌+◌, ℕ, List, [], Option, Some, None, Result, Ok, Err, OnOk, map, length, inl, inr, refl, sym, ap, subst, subst₂, arith, length-map, Contains, has_contained, contains_had, has_mapped, Row, Trees, Occurrence, Place, Work, Format, plain_rows, packed_blocks, packed_leaves, blocks_tree, works_both, works_for, works_none, same_list, ChangedKey, Directive, Elder, place_total, Base, kept_as, IsElderAs, elder_bytes, AreOccurrencesOf, IsRecordCost, bytes_of, newer_of, occurs_by, IsCostIn, Kind, ident_in, Pending, IsDueFor, IsNothingNoted, noted_count, AreInRange, occurrence_at, AreChangedKeys, key_in, new_in, old_in}
+use Rattle.zeb_change.proofs.Cited.{◌≡◌, ◌↔◌, ◌∙◌, ◌+◌, ℕ, List, [], Option, Some, None, Result, Ok, Err, OnOk, map, length, inl, inr, refl, sym, ap, subst, subst₂, arith, length-map, Contains, has_contained, contains_had, has_mapped, Row, Trees, Occurrence, Place, Work, Format, plain_rows, packed_blocks, packed_leaves, blocks_tree, works_both, works_for, works_none, same_list, ChangedKey, Directive, Elder, place_total, Base, kept_as, IsElderAs, elder_bytes, IsRecordCost, bytes_of, newer_of, occurs_by, IsCostIn, Kind, ident_in, Pending, IsDueFor, IsNothingNoted, noted_count, AreInRange, occurrence_at, AreChangedKeys, key_in, new_in, old_in}
 use Rattle.std.specs.List.Sorted.{IsStrictlySortedBy}
 use Rattle.zeb_change.proofs.NotedChanges.{nothing_count}
 use Rattle.zeb_change.proofs.ChangeKeysContent.{told_key}
@@ -107,9 +107,6 @@ cost_as elder newer elder' newer' n one two cost = record {
 
 -- the same of the records whose occurrences they are
 module _ (profile : List Directive) where
-  occurs_as : (bytes : List ℕ) (occurrences : List Occurrence) → AreOccurrencesOf profile bytes occurrences → (o : Occurrence) → Contains occurrences o ↔ occurs_by profile (Some bytes) o
-  occurs_as bytes occurrences are o = are.each o
-
   -- a record in its own place costs nothing, and no record in the place of none
   pub same_cost : (bytes : Option (List ℕ)) → IsRecordCost (occurs_by profile bytes) (occurs_by profile bytes) 0
   unfolding IsStrictlySortedBy

@@ -1,7 +1,7 @@
 -- A record that is replaced by the same bytes: it has the occurrences that it had, so no key is changed.
-use Rattle.zeb_change.proofs.Cited.{◌≡◌, ◌∙◌, ℕ, List, [], ◌∷◌, Option, Some, None, Ok, map, if◌then◌else◌, inl, inr, refl, sym, ap, subst, Contains, Has, has_contained, contains_had, Directive, Occurrence, Elder, same_list, place_total, ChangedKey, AreTheSame, occurrence_at, AreChangedKeys, key_in, new_in, old_in, Updated, Conditions, ident_in, updated, Base, Kept, kept_as, has_ident, IsBase, IsElderAs, elder_bytes}
+use Rattle.zeb_change.proofs.Cited.{◌≡◌, ◌∙◌, ℕ, List, [], ◌∷◌, Option, Some, None, Ok, map, if◌then◌else◌, inl, inr, refl, sym, ap, subst, Has, contains_had, Directive, Occurrence, Elder, same_list, place_total, ChangedKey, AreTheSame, occurrence_at, AreChangedKeys, key_in, new_in, old_in, Updated, Conditions, updated, Base, Kept, kept_as, has_ident, IsBase, IsElderAs, elder_bytes}
 use Rattle.zeb_change.proofs.BaseLemmas.{one_ident}
-use Rattle.zeb_change.proofs.KeptLemmas.{has_same, kept_found, one_found, tests}
+use Rattle.zeb_change.proofs.KeptLemmas.{has_same, kept_found, tests}
 
 -- no key is changed where the occurrences are the same
 pub none_changed : (elder newer : List Occurrence) (changed : List ChangedKey) → AreChangedKeys elder newer changed → AreTheSame elder newer → changed ≡ []
@@ -13,22 +13,6 @@ none_changed elder newer (c ∷ changed) are same =
     absurd (are.differ c there (same_list place_total (old_in c) (new_in c) old.rising new.rising
     (λ place h. (new.each place).1 ((same (occurrence_at (key_in c) place)).0 ((old.each place).0 h)))
     (λ place h. (old.each place).1 ((same (occurrence_at (key_in c) place)).1 ((new.each place).0 h)))))
-
-module _ (profile : List Directive) (base : Base) (is : IsBase profile base) (ident bytes : List ℕ) (named : ident_in profile bytes ≡ Ok ident)
-    (kept : Kept) (there : Contains base.records kept) (alike : kept.bytes ≡ bytes) where
-  same_ident : kept.ident ≡ ident
-  same_ident = let both : Ok kept.ident ≡ Ok ident = sym (is.sound kept there).named ∙ ap (ident_in profile) alike ∙ named in cc
-
-  kept_it : kept_as ident base ≡ Some kept
-  kept_it = one_found ident base kept (has_contained base.records kept there) same_ident (one_ident profile base is)
-
-  -- where the database keeps a record of these bytes, it is the elder
-  pub elder_alike : (found : Option Elder) → IsElderAs ident base found → (elder : Elder) × (found ≡ Some elder) × (elder.bytes.items ≡ bytes)
-  elder_alike None none = let e = sym none ∙ kept_it in absurd (cc)
-  elder_alike (Some elder) (found, is_found, number, its_bytes) =
-      let one : Some found ≡ Some kept = sym is_found ∙ kept_it in
-      let same : found ≡ kept = cc in
-      (elder, refl, sym its_bytes ∙ ap (λ (k : Kept). k.bytes) same ∙ alike)
 
 -- the same bytes in the place of a record's leave each record
 same_records : (ident bytes : List ℕ) (records : List Kept) → ((kept : Kept) → Has records kept → kept.ident ≡ ident → kept.bytes ≡ bytes)

@@ -1,5 +1,5 @@
 -- Why records of a change are refused, one behind the other, and what those before them lose.
-use Rattle.zeb_change.proofs.Cited.{◌≡◌, ◌⊎◌, ◌+◌, ◌<◌, ◌≤◌, ℕ, ℤ, List, [], ◌∷◌, ◌++◌, length-append, Option, None, inl, inr, arith, refl, ap, sym, subst, State, Trees, has_either, has_left, has_right, MarcFault, Directive, Elder, Format, IsElderOf, records_tree, Refusal, TooManyRecords, Unknown, Kind, Delete, Update, Limits, Fate, Inserted, Updated, Deleted, PassedOver, Tally, AreWholeBefore, IsWholeBefore, PassesOn, KeepsOtherRecords, IsDamageOrFailure, IsFullOrFails, IsRecordRefused, LosesJustNamed, TakesNamed, IsTallied, AreNamed, HasReasonAt, IsAllowed, IsAtFault, IsNamed, IsNewAt, NamesAny, why_of, IsFailing}
+use Rattle.zeb_change.proofs.Cited.{◌≡◌, ◌⊎◌, ◌+◌, ◌<◌, ◌≤◌, ℕ, ℤ, List, [], ◌∷◌, ◌++◌, length-append, Option, None, inl, inr, arith, refl, ap, sym, subst, State, Trees, has_either, has_left, has_right, MarcFault, Directive, Elder, Format, IsElderOf, records_tree, Refusal, TooManyRecords, Unknown, Kind, Delete, Update, Limits, Fate, Inserted, Tally, AreWholeBefore, IsWholeBefore, PassesOn, KeepsOtherRecords, IsDamageOrFailure, IsFullOrFails, IsRecordRefused, LosesJustNamed, TakesNamed, IsTallied, AreNamed, HasReasonAt, IsAllowed, IsAtFault, IsNamed, IsNewAt, NamesAny, why_of, IsFailing}
 use Rattle.zeb_change.proofs.KeptStill.{rows_same, same_ident, up_more, whole_before}
 
 -- ---- answers

@@ -1,11 +1,11 @@
 -- What follows from what a change does with one record: of tables that are an image, and of any tables of a store.
-use Rattle.zeb_change.proofs.Cited.{◌≡◌, ◌≢◌, ◌⊎◌, ◌↔◌, ◌∙◌, ◌+◌, ◌<◌, ◌≤◌, ℕ, ℤ, List, [], ◌∷◌, Option, Some, None, Result, Ok, Err, IfErr, IfOk, OnOk, IsUtf8, inl, inr, refl, sym, ap, subst, subst₂, arith, nat_le, true, Contains, nat_tests, Database, State, Trees, has_contained, Occurrence, Directive, Elder, Format, IsElderOf, Changes, IsStore, databases_tree, meta_tree, records_tree, registers_stay, store_same, first_fault, Pending, Refusal, Damaged, Kind, Update, Delete, Adelete, Setting, Fate, Updated, PassedOver, Base, Kept, kept_as, IsCostIn, IsRecordCost, newer_of, occurs_by, KeepsWhole, PassesOn, Changed, changed_by, deleted, ident_in, updated, noted_count, AreOccurrencesOf, identifier_refusal, KeepsOtherRecords, IsRecordRefused, LosesJustNamed, GoesBy, IsElderAs, IsNewer, IsWholeElder, elder_bytes, WillBe, WillBeTaken, standing, IsNamed, Accepts, ChangesRecord, HasOccurrences, IsSound, IsWithdrawn, NotesRecord, Point, RefusesTurn, Turns, WritesRecords, point, IsFailing, Meets, Why, unknown, why_of, conditions_of}
+use Rattle.zeb_change.proofs.Cited.{◌≡◌, ◌≢◌, ◌⊎◌, ◌↔◌, ◌∙◌, ◌+◌, ◌<◌, ◌≤◌, ℕ, ℤ, List, [], ◌∷◌, Option, Some, None, Result, Ok, Err, IfErr, OnOk, IsUtf8, inl, inr, refl, sym, ap, subst, subst₂, arith, nat_le, true, Contains, nat_tests, Database, State, Trees, has_contained, Occurrence, Directive, Elder, Format, IsElderOf, Changes, IsStore, databases_tree, meta_tree, records_tree, registers_stay, store_same, first_fault, Pending, Refusal, Damaged, Kind, Update, Delete, Adelete, Setting, Fate, Updated, PassedOver, Base, Kept, kept_as, IsCostIn, IsRecordCost, newer_of, occurs_by, KeepsWhole, PassesOn, Changed, changed_by, deleted, ident_in, updated, noted_count, AreOccurrencesOf, identifier_refusal, KeepsOtherRecords, IsRecordRefused, LosesJustNamed, GoesBy, IsElderAs, IsNewer, IsWholeElder, elder_bytes, WillBe, WillBeTaken, standing, IsNamed, Accepts, ChangesRecord, HasOccurrences, IsSound, IsWithdrawn, NotesRecord, Point, RefusesTurn, Turns, WritesRecords, point, IsFailing, Meets, Why, unknown, why_of, conditions_of}
 use Rattle.zeb_register.specs.Store.{blocks_tree, dict_tree, postings_tree}
 use Rattle.zeb_change.specs.Folding.{changed_record}
 use Rattle.zeb_change.proofs.BaseLemmas.{one_ident}
 use Rattle.zeb_change.proofs.CostLemmas.{cost_as, cost_in, same_cost}
 use Rattle.zeb_change.proofs.Elders.{failed_so, so_undamaged, whole_kept}
-use Rattle.zeb_change.proofs.EqualReplacements.{elder_alike, updated_alike}
+use Rattle.zeb_change.proofs.EqualReplacements.{updated_alike}
 use Rattle.zeb_change.proofs.FoldLemmas.{named_record, no_ident, no_record}
 use Rattle.zeb_change.proofs.KeptStill.{elder_owns, none_owns, passes_by, put_keeps, rows_same, take_keeps}
 use Rattle.zeb_change.proofs.Reasons.{fault_refuses, full_refuses, loses_own, unknown_refuses}
@@ -269,25 +269,3 @@ finds setting db file nth bytes old new before after last next store (Err refusa
       | inr new_one ↦ so_undamaged _ _ (whole_kept setting.profile.now old store db refuses.ident None new_one.0 tt)
           (λ is. new_undamaged setting file nth last refuses.ident setting.kind refusal new_one.1 (err_is (Err refusal) refusal Damaged refl is))
     ])
-
--- ---- a kept record of the same bytes is left
-
-turns_idle : (setting : Setting) (db : ℤ) (ident bytes : List ℕ) (old : State) (before : Pending) (last : ℕ) (new : Point) (kind : Kind) (elder : Option Elder) (fate : Fate) → kind ≡ Update
-    → (same : (found : Elder) × (elder ≡ Some found) × (found.bytes.items ≡ bytes)) → Turns setting db ident bytes kind elder (point old before last) new fate → (fate ≡ Updated) × (new ≡ point old before last)
-turns_idle setting db ident bytes old before last new Update None fate update same done = let is = same.1 in absurd (cc)
-turns_idle setting db ident bytes old before last new Update (Some elder) fate update same (inl rests) = (rests.1, rests.2)
-turns_idle setting db ident bytes old before last new Update (Some elder) fate update same (inr put) =
-    let one : Some elder ≡ Some same.0 = same.1 in
-    let it : elder ≡ same.0 = cc in
-    absurd (put.0 (ap (λ (e : Elder). e.bytes.items) it ∙ same.2))
-turns_idle setting db ident bytes old before last new Delete elder fate update same done = absurd (cc)
-turns_idle setting db ident bytes old before last new Adelete elder fate update same done = absurd (cc)
-
-pub idle : (setting : Setting) (db : ℤ) (records_of : ℤ → List Kept) (file nth : ℕ) (bytes : List ℕ) (old : State) (new : Point) (before : Pending) (last : ℕ) (base : Base) (format : Format)
-    → setting.kind ≡ Update → WillBe format setting.profile.now db records_of (standing old before) base → (kept : Kept) → Contains base.records kept → kept.bytes ≡ bytes
-    → (result : Result Fate Refusal) → ChangesRecord setting db file nth bytes (point old before last) new result → IfOk result (λ fate. (fate ≡ Updated) × (new ≡ point old before last))
-idle setting db records_of file nth bytes old new before last base format update under kept there alike (Err refusal) changes = tt
-idle setting db records_of file nth bytes old new before last base format update under kept there alike (Ok fate) accepts =
-    let elder = elder_is db records_of old.now.trees base under.1.kept accepts.ident (one_ident setting.profile.now base under.2) accepts.elder accepts.there in
-    turns_idle setting db accepts.ident bytes old before last new setting.kind accepts.elder fate update
-    (elder_alike setting.profile.now base under.2 accepts.ident bytes accepts.sound.named kept there alike accepts.elder elder) accepts.done

@@ -1,5 +1,5 @@
 -- Lists that differ in the order of values with different numbers alone, and what holds of the one and so of the other.
-use Rattle.zeb_change.proofs.Cited.{◌≡◌, ◌≢◌, ◌∙◌, ℕ, Bool, true, false, List, [], ◌∷◌, ◌++◌, filter, length, length-append, is_lt, refl, sym, ap, subst, arith, inl, inr, cond-true, cond-false, cases_Bool, nat_tests, filter-append, AllByRecursion, IsStableByKey, ties}
+use Rattle.zeb_change.proofs.Cited.{◌≡◌, ◌≢◌, ◌∙◌, ℕ, Bool, true, false, List, [], ◌∷◌, ◌++◌, filter, is_lt, refl, sym, ap, subst, arith, inl, inr, cond-true, cond-false, cases_Bool, nat_tests, filter-append, AllByRecursion, IsStableByKey, ties}
 use Rattle.std.proofs.Common.{nat_cmp}
 
 ties_at : (m n : ℕ) → (ties (λ x y. is_lt (nat_cmp x y)) m n ≡ true → m ≡ n) × (m ≡ n → ties (λ x y. is_lt (nat_cmp x y)) m n ≡ true)
@@ -77,10 +77,6 @@ module _ {X : Type 0} (number : X → ℕ) where
         let at = found x ys (filter (has_number_of x) xs) (stable x ∙ with_first (has_number_of x) x xs (itself x)) in
         let split : IsStableByKey number nat_cmp (x ∷ xs) (at.front ++ x ∷ at.back) = subst (IsStableByKey number nat_cmp (x ∷ xs)) at.is stable in
         subst (P (x ∷ xs)) (sym at.is) (more x xs at.front at.back at.apart (of_reordered xs (at.front ++ at.back) (taken_out x xs at.front at.back at.apart split)))
-
-  pub as_many : (xs ys : List X) → IsStableByKey number nat_cmp xs ys → length ys ≡ length xs
-  as_many = of_reordered (λ xs ys. length ys ≡ length xs) refl
-      (λ x xs front back apart same. omega (arith, same, length-append front back, length-append front (x ∷ back)))
 
   put_among : (P : X → Type 0) (x : X) (front back : List X) → P x → AllByRecursion P (front ++ back) → AllByRecursion P (front ++ x ∷ back)
   put_among P x [] back is all = (is, all)

@@ -192,7 +192,7 @@ pub use Rattle.zeb_register.specs.Occurring.{AreTermsBefore, AreTermsFrom, is_be
 pub use Rattle.zeb_register.specs.Sound.{KeepsBeside, KeepsRowsBeside, keeps_malformed}
 pub use Rattle.zeb_register.specs.Terms.{HidesBefore, HidesFrom, HidesSums, ListsBefore, ListsFrom, SumsUp}
 pub use Rattle.zeb_register.specs.Sql.{HasRow, Replaces, KeepsOthers, Loses}
-pub use Rattle.zeb_register.specs.Store.{IsStore, IsEmptyStore, Changes, LacksRegisters, meta_tree, entry, IsEntryOf, record_row, HasDatabase, HasRecord, blocks_tree, databases_tree, dict_tree, postings_tree, KeepsRegisters, IsRecordIn, TakesDatabase, IsValueOf, AreReadableTexts, KeepsLists}
+pub use Rattle.zeb_register.specs.Store.{IsStore, IsEmptyStore, Changes, LacksRegisters, meta_tree, entry, IsEntryOf, record_row, HasDatabase, HasRecord, blocks_tree, databases_tree, dict_tree, postings_tree, KeepsRegisters, IsOfDatabase, TakesDatabase, IsValueOf, AreReadableTexts, KeepsLists}
 pub use Rattle.zeb_register.specs.Tables.{store_schema, no_schema}
 pub use Rattle.zeb_register.specs.Tallies.{Works, works_for}
 pub use Rattle.zeb_register.specs.declared.RegFault.{RegFault}

@@ -1,5 +1,5 @@
 -- A database is taken away with its records and postings: the tables are then the image of one database less.
-use Rattle.zeb_engine.proofs.Cited.{◌≡◌, ◌≢◌, ◌↔◌, ◌∙◌, ℕ, ℤ, pos, cond, List, [], Some, sym, ap, subst, inl, inr, Contains, int_eq, Int, Trees, Has, has_contained, contains_had, Key, Directive, Content, HasRisingLists, IsWithout, posting_cmp, Posting, Loses, HasDatabase, IsRecordIn, TakesDatabase, record_row, Base, Kept, base_named, without_base, AreBases, AreListed, IsImageOf, AreKept, ArePosted, named_found, without_base_has, without_base_in_order, id_same, id_other, ids_told, Format, holds_in}
+use Rattle.zeb_engine.proofs.Cited.{◌≡◌, ◌≢◌, ◌↔◌, ◌∙◌, ℕ, ℤ, pos, cond, List, [], Some, sym, ap, subst, inl, inr, Contains, int_eq, Int, Trees, Has, has_contained, contains_had, Key, Directive, Content, HasRisingLists, IsWithout, posting_cmp, Posting, Loses, HasDatabase, IsOfDatabase, TakesDatabase, record_row, Base, Kept, base_named, without_base, AreBases, AreListed, IsImageOf, AreKept, ArePosted, named_found, without_base_has, without_base_in_order, id_same, id_other, ids_told, Format, holds_in}
 use Rattle.std.specs.List.Sorted.{IsStrictlySortedBy}
 
 pub without_bases : (profile : List Directive) (name : List ℕ) (bases : List Base) → AreBases profile bases → AreBases profile (without_base name bases)
@@ -45,7 +45,7 @@ module _ (id : ℤ) (content : Content) where
   is_without up = record { rising = without_rises up; left = without_has }
 
 module _ (format : Format) (profile : List Directive) (old new : Trees) (name : List ℕ) (bases : List Base) (base : Base) (image : IsImageOf format profile old bases) (are : AreBases profile bases)
-    (found : base_named name bases ≡ Some base) (id : ℤ) (row : HasDatabase old id base.name (pos base.last)) (databases : TakesDatabase id 2 old new) (records : Loses (IsRecordIn id) 4 old new)
+    (found : base_named name bases ≡ Some base) (id : ℤ) (row : HasDatabase old id base.name (pos base.last)) (databases : TakesDatabase id 2 old new) (records : Loses (IsOfDatabase id) 4 old new)
     (registers : (before after : Content) → holds_in format old before → IsWithout id before after → holds_in format new after) where
   its_id : id ≡ image.lists.id_of base.name
   its_id = let told = (image.lists.listed id base.name (pos base.last)).0 row in told.2 ∙ ap image.lists.id_of (sym told.3)

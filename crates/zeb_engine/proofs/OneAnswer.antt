@@ -1,7 +1,7 @@
 -- What the definition says that a command answers is one answer.
-use Rattle.zeb_engine.proofs.Cited.{◌≡◌, ◌∙◌, ℕ, List, [], ◌∷◌, map, length, Option, Some, None, Result, Ok, Err, refl, sym, ap, ap₂, subst, inl, inr, string_bytes, nat_cmp_total, Has, Directive, QueryValue, PlanValue, ScanValue, plan_of, scan_of, apart, one_fault, one_query, Occurrence, analyses_once, TermCount, one_terms, same_list, Command, Stat, Find, Scan, Analyse, IsAnalysed, analysis_answer, Answer, found, refused, scanned, Why, diagnostic, Conditions, TreeHolds, AreNumbers, IsAnswered, IsFound, IsNamed, IsPlanned, IsShown, asked_of, has_name, occurs, Base, Kept, Holdings, base_named, name_bytes, IsScanned, IsScanPlanned, around, AskedAmong, AskedFrom, AskedIn, FindAnswers, Outcome, ScanAnswers, Step, ready}
+use Rattle.zeb_engine.proofs.Cited.{◌≡◌, ◌∙◌, ℕ, List, [], ◌∷◌, map, length, Option, Some, None, Result, Ok, Err, refl, sym, ap, ap₂, subst, inl, inr, string_bytes, nat_cmp_total, Has, Directive, QueryValue, PlanValue, ScanValue, plan_of, scan_of, apart, one_fault, one_query, Occurrence, analyses_once, TermCount, one_terms, same_list, Command, Stat, Find, Scan, Analyse, IsAnalysed, analysis_answer, Answer, found, refused, scanned, Why, diagnostic, Conditions, TreeHolds, AreNumbers, IsAnswered, IsFound, IsNamed, IsPlanned, IsShown, asked_of, has_name, occurs, Base, Kept, Holdings, base_named, name_bytes, IsScanned, IsScanPlanned, around, AskedAmong, AskedFrom, AskedIn, FindAnswers, ScanAnswers, Step, ready}
 use Rattle.zeb_query.specs.Checks.{Refusal}
-use Rattle.zeb_engine.proofs.StepLemmas.{MayAnswer, IsTold, step_told}
+use Rattle.zeb_engine.proofs.StepLemmas.{MayAnswer, step_told}
 use Rattle.zeb_engine.proofs.OneCount.{counted_once}
 
 -- ---- finds
@@ -83,10 +83,6 @@ module _ (one other : Answer) where
       go (inr a) (inr b) =
           let same : (a.0 ≡ b.0) × (a.1 ≡ b.1) = one_fault query a.0 a.1 b.0 b.1 a.2 b.2 in
           a.3 ∙ ap₂ (λ (number place : ℕ). refused (diagnostic number place [])) same.0 same.1 ∙ sym b.3
-
-  told_once : (said : Option Outcome) → IsTold said one → IsTold said other → one ≡ other
-  told_once None x y = absurd x
-  told_once (Some told) x y = x ∙ sym y
 
 pub answers_once : (c : Conditions) (command : Command) (before : Holdings) (one other : Answer) → MayAnswer c command before one → MayAnswer c command before other → one ≡ other
 answers_once c (Find name query first count) before one other x y =

@@ -1,6 +1,5 @@
 -- What looks at texts come to, one after the other.
-use Rattle.zeb_engine.proofs.Cited.{◌≡◌, ◌⊎◌, ◌↔◌, ◌∙◌, ℕ, Bool, true, false, List, codes, Option, Some, None, Result, Ok, Err, MatchResult, OnOk, IfErr, IsTrue, IsUtf8, String, string_bytes, refl, sym, subst, inl, inr, Global, bytes_eq, bytes_eq-Decides, IsUtf8-string_bytes, option_map, Database, Trees, HasCleanDisk, Survives, State, Directive, canonical_text, pattern_text, identifier_pattern, RegFault, ChangesNothing, MayRefuse, may_after, IsStore, IsValueOf, AreReadableTexts, nothing_then, store_same, one_text, Refusal, register_refusal, why_of, Standing, StaysOpen, HasStoreCause, IsFailure, refused, IsLook, RefusesText, RefusesTexts, RefusesVersion, TellsStanding, TellsText, KeepsText, KeepsUpgradable, RefusesReindex, RefusesUpgrade, is_taken}
-use Rattle.zeb_register.specs.declared.RegFault.TheVariants as register
+use Rattle.zeb_engine.proofs.Cited.{◌≡◌, ◌⊎◌, ◌↔◌, ◌∙◌, ℕ, Bool, true, false, List, codes, Option, Some, None, Result, Ok, Err, MatchResult, OnOk, IfErr, IsTrue, IsUtf8, String, string_bytes, sym, subst, inr, Global, bytes_eq, bytes_eq-Decides, IsUtf8-string_bytes, option_map, Database, Trees, HasCleanDisk, Survives, State, Directive, canonical_text, pattern_text, identifier_pattern, ChangesNothing, may_after, IsStore, IsValueOf, AreReadableTexts, nothing_then, store_same, one_text, Refusal, why_of, Standing, StaysOpen, HasStoreCause, IsFailure, refused, IsLook, RefusesText, RefusesTexts, RefusesVersion, TellsStanding, TellsText, KeepsText, KeepsUpgradable, RefusesReindex, RefusesUpgrade, is_taken}
 use Rattle.zeb_change.specs.declared.refusals.Refusal.TheVariants as refusal
 use Rattle.zeb_engine.specs.declared.looks.Standing.TheVariants as standing
 use Rattle.zeb_engine.proofs.ReadyTexts.{text_found, text_missing}
@@ -17,15 +16,6 @@ any_err (Err e) P p = inr p
 -- ---- a look at one text
 
 module _ {T : Type 0} (Finds : Trees → T → Type 0) (Refuses : Trees → Refusal → Type 0) (name : List ℕ) (old new : State) (nothing : ChangesNothing old new) where
-  -- a text that can't be told
-  pub look_failed : (fault : RegFault) → (fault ≡ register.Damaged → IsTrue old.is_open) → (fault ≡ register.Damaged → IsStore old → ¬ AreReadableTexts old.now.trees name) → (fault ≡ register.Store → IsStore old → MayRefuse old new)
-      → ((¬ AreReadableTexts old.now.trees name) → Refuses old.now.trees refusal.Damaged) → Refuses old.now.trees refusal.Store → Refuses old.now.trees refusal.Memory
-      → IsLook Finds Refuses old new (Err (register_refusal fault))
-  look_failed register.Damaged opened unreadable reason damaged store memory =
-      record { same = nothing; found = tt; seen = inr (opened refl); caused = λ is_store is. absurd cc; told = λ is_store. damaged (unreadable refl is_store) }
-  look_failed register.Store opened unreadable reason damaged store memory = record { same = nothing; found = tt; seen = inl (inl refl); caused = λ is_store is. reason refl is_store; told = λ is_store. store }
-  look_failed register.Memory opened unreadable reason damaged store memory = record { same = nothing; found = tt; seen = inl (inr refl); caused = λ is_store is. absurd cc; told = λ is_store. memory }
-
   -- a text that was told, on an open connection
   pub look_told : (result : Result T Refusal) → HasStoreCause old new result → StaysOpen old new → (IsStore old → MatchResult result (Finds old.now.trees) (Refuses old.now.trees)) → IsLook Finds Refuses old new result
   look_told result caused opened told = record { same = nothing; found = any_ok result _ opened; seen = any_err result _ opened.0; caused = caused; told = told }

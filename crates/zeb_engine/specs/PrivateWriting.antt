@@ -16,7 +16,7 @@ use Rattle.zeb_register.specs.Catalog.{AreCountedDatabases, IsDatabaseOf}
 use Rattle.zeb_register.specs.Content.{Content, IsWithout}
 use Rattle.zeb_register.specs.Formats.{Format, holds_in, version_of}
 use Rattle.zeb_register.specs.Sql.{Loses, Replaces}
-use Rattle.zeb_register.specs.Store.{IsEntryOf, IsPostingIn, IsRecordIn, IsStore, TakesDatabase, blocks_tree, databases_tree, dict_tree, entry, meta_tree, postings_tree, records_tree}
+use Rattle.zeb_register.specs.Store.{IsEntryOf, IsOfDatabase, IsStore, TakesDatabase, blocks_tree, databases_tree, dict_tree, entry, meta_tree, postings_tree, records_tree}
 use Rattle.zeb_engine.specs.declared.writes.Write.{Write}
 use Rattle.zeb_engine.specs.declared.writes.Write.TheVariants as write
 use Rattle.zeb_change.specs.declared.refusals.Refusal.{Refusal}
@@ -68,10 +68,10 @@ MakesRow name old new = (id : ℤ) × PutsRow id name 0 old new
 pub record TakesRows (format : Format) (db : ℤ) (old new : Database) : Type 0 where
   pub store : AreStores new
   pub databases : TakesDatabase db databases_tree old.trees new.trees
-  pub records : Loses (IsRecordIn db) records_tree old.trees new.trees
-  pub postings : Loses (IsPostingIn db) postings_tree old.trees new.trees
-  pub blocks : Loses (IsPostingIn db) blocks_tree old.trees new.trees
-  pub dict : Loses (IsPostingIn db) dict_tree old.trees new.trees
+  pub records : Loses (IsOfDatabase db) records_tree old.trees new.trees
+  pub postings : Loses (IsOfDatabase db) postings_tree old.trees new.trees
+  pub blocks : Loses (IsOfDatabase db) blocks_tree old.trees new.trees
+  pub dict : Loses (IsOfDatabase db) dict_tree old.trees new.trees
   pub texts : new.trees meta_tree ≡ old.trees meta_tree
   pub contents : (before after : Content) → holds_in format old.trees before → IsWithout db before after → holds_in format new.trees after
 

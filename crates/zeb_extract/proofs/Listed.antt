@@ -1,5 +1,5 @@
 -- The members of the list that is found are the occurrences.
-use Rattle.zeb_extract.proofs.Cited.{◌≡◌, ℕ, ◌+◌, List, [], ◌∷◌, ◌++◌, length, map, refl, ap, sym, ◌∙◌, subst, ◌↔◌, arith, add-zero, append_assoc, true, false, ◌==◌, map-append, append-nil, Contains, enumerate_from, joined_text, eqb-true, UnitText, Register, Occurrence, Targets, joined, terms_of, text_of, IsOccurrence, occurrence_at, numbered_terms, listed_in, unit_listing, listing}
+use Rattle.zeb_extract.proofs.Cited.{◌≡◌, ℕ, ◌+◌, List, [], ◌∷◌, ◌++◌, length, map, refl, ap, sym, ◌∙◌, subst, ◌↔◌, arith, add-zero, append_assoc, false, ◌==◌, map-append, append-nil, Contains, enumerate_from, joined_text, UnitText, Register, Occurrence, Targets, joined, terms_of, text_of, IsOccurrence, occurrence_at, numbered_terms, listed_in, unit_listing, listing}
 use Rattle.zeb_extract.proofs.Members.{Contains-map, from_map, Contains-flat_map, from_flat_map}
 
 module _ (targets : Targets) (units : List UnitText) where
@@ -56,11 +56,6 @@ found_are_occurrences targets units left begun found ordered e none all same o =
     let here : Contains found o ↔ IsOccurrence targets units o =
     subst (λ l. Contains l o ↔ IsOccurrence targets units o) (sym is) (occurrences_are_listed targets units o) in
     (λ h. here.0 ((same o).0 h), λ h. (same o).1 (here.1 h))
-
--- the joined words of none, and of some
-pub joined-none : {X : Type 0} (f : X → List ℕ) (words : List X) → true ≡ (length words == 0) → joined (map f words) ≡ []
-joined-none f [] e = refl
-joined-none f (w ∷ ws) e = absurd (omega (arith, eqb-true (length (w ∷ ws)) 0 (sym e)))
 
 pub joined-some : {X : Type 0} (f : X → List ℕ) (words : List X) → false ≡ (length words == 0)
     → joined (map f words) ≡ joined_text (map f words) ∷ []

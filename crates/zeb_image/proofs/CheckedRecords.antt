@@ -9,14 +9,8 @@ one_more xs x z h P before here = elim (has_either xs (x ∷ []) z h) [
 ]
 
 module _ (profile : List Directive) where
-  pub none_kept : (last : ℕ) → CanKeepAll profile last []
-  none_kept last r there = absurd there
-
   pub one_kept : (last : ℕ) (before : List Record) (r : Record) → CanKeepAll profile last before → CanKeep profile last (kept_of r) → CanKeepAll profile last (before ++ r ∷ [])
   one_kept last before r all this z h = one_more before r z h (λ (x : Record). CanKeep profile last (kept_of x)) (all z) this
-
-  pub none_posted : AreRecordsPostings profile [] []
-  none_posted it = (λ there. absurd there, λ is. absurd (has_contained [] is.0 is.1))
 
   module _ (before : List Record) (r : Record) (postings after : List KeyPosting) (found : List Occurrence) (are : AreRecordsPostings profile before postings)
       (each : (o : Occurrence) → Contains found o ↔ OccursIn profile (kept_of r) o) (grown : after ≡ postings ++ map (posting_of r.sysno) found) where

@@ -2,7 +2,6 @@ pub mod Names
 pub mod NameOf
 pub mod Holdings
 pub mod Image
-pub mod PrivateImage
 pub mod Looking
 pub mod Rebuilding
 pub mod PrivateChecking

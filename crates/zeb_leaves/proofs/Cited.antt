@@ -31,7 +31,7 @@ pub use Rattle.zeb_leaf.specs.declared.entries.Entry.{Entry}
 pub use Rattle.zeb_register.specs.Covering.{Covers, HasEntriesAt, IsUpTo, LacksEntriesAt, ShowsEntries, leaf_key, own_key}
 pub use Rattle.zeb_register.specs.HeldLeaves.{AreAloneIn, HoldsLeaves, IsAnyLeaf, IsLeafAlone}
 pub use Rattle.zeb_register.specs.LeafUnits.{AreLeavesMiscounted, AreLeavesWhole, HasMalformedLeaf, IsLeafMalformed, IsLeafOf, LeavesCount, LeavesRead, LeavesReadBlock}
-pub use Rattle.zeb_leaves.specs.PrivateLeafReads.{HasBlockFrom, IsCovering, IsFirst, IsGreatest, IsLastOf, IsLeafAt, IsLeafIn, IsLeast, IsNextBehind, IsUncovered, ShowsFirst, ShowsGreatest, ShowsLast, ShowsLeast, ShowsSome, TellsSome}
+pub use Rattle.zeb_leaves.specs.PrivateLeafReads.{HasBlockFrom, IsCovering, IsFirst, IsGreatest, IsLastOf, IsLeafAt, IsLeafIn, IsLeast, IsNextBehind, IsUncovered, ShowsFirst, ShowsGreatest, ShowsLast, ShowsLeast, ShowsSome, TellsKey, TellsSome}
 pub use Rattle.zeb_register.specs.Readings.{HasRecordOf, IsAt, IsEntryOf, IsPartMalformed, LacksSum, PartReads, SayPart, SaysPart, SumsRecords}
 pub use Rattle.zeb_register.proofs.BlockUnits.{none_rises}
 pub use Rattle.zeb_register.proofs.ContentChanges.{integers_apart, posting_total}
@@ -47,7 +47,7 @@ pub use Rattle.zeb_register.specs.Occurring.{AreTermsOf, HasKey, IsCount, TermIn
 pub use Rattle.zeb_register.specs.PackedBlocks.{part_in}
 pub use Rattle.zeb_register.specs.PlainRows.{register_front}
 pub use Rattle.zeb_register.specs.Sql.{HasRow, Loses}
-pub use Rattle.zeb_register.specs.Store.{IsPostingIn, IsRest, IsStore, KeepsRegisters, LacksRegisters, blocks_tree, dict_tree, postings_tree}
+pub use Rattle.zeb_register.specs.Store.{IsOfDatabase, IsRest, IsStore, KeepsRegisters, LacksRegisters, blocks_tree, dict_tree, postings_tree}
 pub use Rattle.zeb_register.specs.Tables.{store_schema}
 pub use Rattle.zeb_register.specs.declared.registers.Place.{Place}
 pub use Rattle.zeb_register.specs.declared.registers.TermCount.{TermCount}

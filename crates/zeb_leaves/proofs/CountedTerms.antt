@@ -236,9 +236,6 @@ Counted = CountedBy (slice_cmp nat_cmp)
 pub all_counted : (own : List Entry) (counts : List TermCount) → IsStrictlySortedBy entry_cmp own → CountAll own [] counts → Counted own counts
 all_counted = counted_by (slice_cmp nat_cmp) nat_list_cmp_total entry_cmp entries_total lower_term
 
-pub counted_more : (done own : List Entry) (old new : List TermCount) → IsStrictlySortedBy entry_cmp (done ++ own) → Counted done old → CountAll own old new → Counted (done ++ own) new
-counted_more = more_counted_by (slice_cmp nat_cmp) nat_list_cmp_total entry_cmp entries_total lower_term
-
 -- ---- and the other way round
 
 abbrev pub falling : List ℕ → List ℕ → Ordering

@@ -1,5 +1,5 @@
 -- Which leaf covers a key, by what the statements show.
-use Rattle.zeb_leaves.proofs.Cited.{Row, column, row_cmp, Int, Text, Blob, ◌≡◌, ◌≢◌, ◌∙◌, ◌⊎◌, ◌<◌, ◌+◌, ◌≤◌, ◌++◌, ◌∷◌, ℕ, ℤ, Some, None, Option, subst, pos, true, false, List, [], refl, sym, ap, inl, inr, arith, Ordering, Less, Equal, Greater, nat_cmp, slice_cmp, ordering_then, value_cmp-Int, value_cmp-Text, less_is, is_less, Covers, IsCovering, IsLeafOf, IsUncovered, IsUpTo, HasBlockFrom, IsFirst, IsGreatest, IsLastOf, IsLeast, ShowsFirst, ShowsGreatest, ShowsLeast, ShowsSome, TellsSome, leaf_key, own_key, IsRest, IsStore, State, blocks_tree, key_in, Register, register_front, register_code, ints_order}
+use Rattle.zeb_leaves.proofs.Cited.{Row, column, row_cmp, Int, Text, Blob, ◌≡◌, ◌≢◌, ◌∙◌, ◌⊎◌, ◌<◌, ◌+◌, ◌≤◌, ◌++◌, ◌∷◌, ℕ, ℤ, Some, None, Option, subst, pos, true, false, List, [], refl, sym, ap, inl, inr, arith, Ordering, Less, Equal, Greater, nat_cmp, slice_cmp, ordering_then, value_cmp-Int, value_cmp-Text, less_is, is_less, Covers, IsCovering, IsLeafOf, IsUncovered, IsUpTo, HasBlockFrom, IsFirst, IsGreatest, IsLastOf, ShowsFirst, ShowsGreatest, ShowsSome, TellsSome, leaf_key, own_key, IsRest, IsStore, State, blocks_tree, key_in, Register, register_front, register_code, ints_order}
 use Rattle.std.proofs.Common.{Bool, negsuc}
 use Rattle.std.proofs.lemmas.Bool.{cases_lt}
 use Rattle.std.specs.Ordering.{is_lt}
@@ -170,7 +170,7 @@ module _ (s : State) (store : IsStore s) (db : ℤ) (index : ℕ) (register : Re
 
 -- ---- one row that is shown
 
-never_last : (row : Row) → IsLastOf [] (Some row) → ⊥
+pub never_last : (row : Row) → IsLastOf [] (Some row) → ⊥
 never_last row is = from is.0 is.1
   where
     from : (front : List Row) → [] ≡ front ++ row ∷ [] → ⊥
@@ -187,9 +187,6 @@ shown_first Before P (r ∷ rows) (Some row) is it =
 
 pub shown_greatest : (P : Row → Type 0) (rows : List Row) (found : Option Row) → IsLastOf rows found → ShowsGreatest P rows → IsGreatest P found
 shown_greatest = shown_first (λ row other. IsUpTo (own_key row) other)
-
-pub shown_least : (P : Row → Type 0) (rows : List Row) (found : Option Row) → IsLastOf rows found → ShowsLeast P rows → IsLeast P found
-shown_least = shown_first (λ row other. IsUpTo (own_key other) row)
 
 -- one of them, if there is one
 pub shown_some : (P Q : Row → Type 0) (rows : List Row) (found : Option Row) → ((row : Row) → P row → Q row) → ((row : Row) → Q row → P row) → IsLastOf rows found → ShowsSome P rows → TellsSome Q found

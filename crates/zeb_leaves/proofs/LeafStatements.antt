@@ -1,5 +1,5 @@
 -- The statements that find leaves, each with what it is compiled to.
-use Rattle.zeb_leaves.proofs.Cited.{Row, column, Trees, Int, Text, Has, all_has, ◌≡◌, ◌∙◌, ◌++◌, ◌∷◌, ℕ, ℤ, pos, true, false, List, [], length, map, codes, refl, sym, ap, subst, inl, inr, arith, length-map, IsUpTo, own_key, ShowsFirst, ShowsGreatest, ShowsLeast, ShowsSome, HasBlockFrom, IsRest, IsStore, State, Shown, blocks_tree, store_schema}
+use Rattle.zeb_leaves.proofs.Cited.{Row, column, Trees, Int, Text, Has, all_has, ◌≡◌, ◌∙◌, ◌⊎◌, ◌++◌, ◌∷◌, ℕ, ℤ, pos, true, false, List, [], length, map, codes, refl, sym, ap, subst, inl, inr, arith, length-map, IsUpTo, own_key, ShowsFirst, ShowsGreatest, ShowsLeast, ShowsSome, HasBlockFrom, IsRest, IsStore, State, Shown, blocks_tree, store_schema}
 use Rattle.std.proofs.Common.{Equal, Greater, Less, Ordering}
 use Rattle.std.specs.Ordering.{is_lt, ordering_then}
 use Rattle.sqlite.specs.Command.TheVariants.{Select}
@@ -37,10 +37,18 @@ falling_keys = (col 1 4, descending) ∷ (col 1 5, descending) ∷ []
 abbrev pub term_order : List ℕ
 term_order = 4 ∷ 5 ∷ []
 
--- a row before which no other comes is before it, by what they show
-abbrev IsOrderOf : List (Term × Order) → List Condition → Row → (Row → Row → Type 0) → Type 0
-IsOrderOf keys wheres params Before =
-    (r s : Row) → is_lt (output_cmp (reading_by 0 wheres (shows leaf_places) keys one_row) (shown_of (shows leaf_places) keys params s) (shown_of (shows leaf_places) keys params r)) ≡ false
+-- an own key is shown by these places, alone
+abbrev pub key_names : List (List ℕ)
+key_names = codes "term" ∷ codes "block" ∷ []
+
+-- they are the own keys of the rows that would show the least
+abbrev pub ShowsLeastKey : (Row → Type 0) → List Row → Type 0
+ShowsLeastKey P rows = (leaves : List Row) × (rows ≡ map own_key leaves) × ShowsLeast P leaves
+
+-- a row before which no other comes is before it, by what they are sorted by
+abbrev IsOrderOf : (places : List ℕ) → List (Term × Order) → List Condition → Row → (Row → Row → Type 0) → Type 0
+IsOrderOf places keys wheres params Before =
+    (r s : Row) → is_lt (output_cmp (reading_by 0 wheres (shows places) keys one_row) (shown_of (shows places) keys params s) (shown_of (shows places) keys params r)) ≡ false
     → Before (map (column r) leaf_places) (map (column s) leaf_places)
 
 module _ (old : State) (store : IsStore old) where
@@ -67,51 +75,58 @@ module _ (old : State) (store : IsStore old) where
     Found = IsAfter table key rest more
 
     module _ (fit : are_fit blocks params wheres ≡ true) where
-      -- the first of the rows that meet the conditions, in the order of the statement
-      first_of : (keys : List (Term × Order)) (Before : Row → Row → Type 0) → IsOrderOf keys wheres params Before → (text : List ℕ) → IsQuery text params 9 wheres (shows leaf_places) keys one_row leaf_names → (new : State) (rows : List Row) → Shown text params old new rows
-          → ShowsFirst Before Found rows
-      first_of keys Before order text q new rows shown =
-          let read = reads_as text params old new store_schema store.is (Select (alone (reading_by 9 wheres (shows leaf_places) keys one_row)) leaf_names) q.is q.plain q.unlisted rows shown in
-          let answer = reads old.now 9 wheres (shows leaf_places) keys one_row params rows read in
+      -- no row is shown, or the places of the first of those that meet the conditions, in the order of the statement
+      first_of : (places : List ℕ) (names : List (List ℕ)) (keys : List (Term × Order)) (Before : Row → Row → Type 0) → IsOrderOf places keys wheres params Before
+          → (text : List ℕ) → IsQuery text params 9 wheres (shows places) keys one_row names → (new : State) (rows : List Row) → Shown text params old new rows
+          → ((rows ≡ []) × ShowsFirst Before Found []) ⊎ ((r : Row) × (rows ≡ map (column r) places ∷ []) × ShowsFirst Before Found (map (column r) leaf_places ∷ []))
+      first_of places names keys Before order text q new rows shown =
+          let read = reads_as text params old new store_schema store.is (Select (alone (reading_by 9 wheres (shows places) keys one_row)) names) q.is q.plain q.unlisted rows shown in
+          let answer = reads old.now 9 wheres (shows places) keys one_row params rows read in
           let met = meets_there store_schema 4 blocks blocks_static old params wheres store fit in
-          elim (first_shown table wheres (shows leaf_places) keys params rows answer) [
-            | inl none ↦ subst (ShowsFirst Before Found) (sym none.0) (λ y found.
-                let s = (after_key table key rest more 3 y known).1 found in
-                none.1 s.0 s.1 ((met s.0 s.1).1 s.2))
+          elim (first_shown table wheres (shows places) keys params rows answer) [
+            | inl none ↦ inl (
+              none.0,
+              λ y found.
+                  let s = (after_key table key rest more 3 y known).1 found in
+                  none.1 s.0 s.1 ((met s.0 s.1).1 s.2),
+            )
             | inr first ↦
                 let r = first.0 in
                 let x : Row = map (column r) leaf_places in
-                let shows_x : rows ≡ x ∷ [] = first.1.2 ∙ ap (λ v. v ∷ []) (shown_places params r leaf_places) in
-                subst (ShowsFirst Before Found) (sym shows_x) (
-                  refl,
-                  (after_key table key rest more 3 x known).0 (r, first.1.0, (met r first.1.0).0 first.1.1, refl),
-                  λ y found.
-                      let s = (after_key table key rest more 3 y known).1 found in
-                      subst (Before x) (sym s.3) (order r s.0 (first.1.3 s.0 s.1 ((met s.0 s.1).1 s.2))),
+                inr (
+                  r,
+                  first.1.2 ∙ ap (λ v. v ∷ []) (shown_places params r places),
+                  (
+                    refl,
+                    (after_key table key rest more 3 x known).0 (r, first.1.0, (met r first.1.0).0 first.1.1, refl),
+                    λ y found.
+                        let s = (after_key table key rest more 3 y known).1 found in
+                        subst (Before x) (sym s.3) (order r s.0 (first.1.3 s.0 s.1 ((met s.0 s.1).1 s.2))),
+                  ),
                 )
           ]
 
-      -- the greatest; and the least
+      -- the greatest; and the own key of the least
       greatest_shown : (text : List ℕ) → IsQuery text params 9 wheres (shows leaf_places) falling_keys one_row leaf_names → (new : State) (rows : List Row) → Shown text params old new rows → ShowsGreatest Found rows
-      greatest_shown = first_of falling_keys (λ row other. IsUpTo (own_key row) other) (λ r s low. not_lower (own_key (map (column r) leaf_places)) (own_key (map (column s) leaf_places)) low)
+      greatest_shown text q new rows shown =
+          elim (first_of leaf_places leaf_names falling_keys (λ row other. IsUpTo (own_key row) other) (λ r s low. not_lower (own_key (map (column r) leaf_places)) (own_key (map (column s) leaf_places)) low) text q new rows shown) [
+            | inl none ↦ subst (ShowsGreatest Found) (sym none.0) none.1
+            | inr first ↦ subst (ShowsGreatest Found) (sym first.1) first.2
+          ]
 
-      pub least_shown : (text : List ℕ) → IsQuery text params 9 wheres (shows leaf_places) (rising term_order) one_row leaf_names → (new : State) (rows : List Row) → Shown text params old new rows → ShowsLeast Found rows
-      least_shown = first_of (rising term_order) (λ row other. IsUpTo (own_key other) row) (λ r s low. not_lower (own_key (map (column s) leaf_places)) (own_key (map (column r) leaf_places)) low)
+      pub least_key_shown : (text : List ℕ) → IsQuery text params 9 wheres (shows term_order) (rising term_order) one_row key_names → (new : State) (rows : List Row) → Shown text params old new rows → ShowsLeastKey Found rows
+      least_key_shown text q new rows shown =
+          elim (first_of term_order key_names (rising term_order) (λ row other. IsUpTo (own_key other) row) (λ r s low. not_lower (own_key (map (column s) leaf_places)) (own_key (map (column r) leaf_places)) low) text q new rows shown) [
+            | inl none ↦ ([], none.0, none.1)
+            | inr first ↦ (map (column first.0) leaf_places ∷ [], first.1, first.2)
+          ]
 
       -- one of them, if there is one
       some_shown : (text : List ℕ) → IsQuery text params 9 wheres (shows (5 ∷ [])) [] one_row (codes "block" ∷ []) → (new : State) (rows : List Row) → Shown text params old new rows → ShowsSome Found rows
       some_shown text q new rows shown =
-          let read = reads_as text params old new store_schema store.is (Select (alone (reading_by 9 wheres (shows (5 ∷ [])) [] one_row)) (codes "block" ∷ [])) q.is q.plain q.unlisted rows shown in
-          let answer = reads old.now 9 wheres (shows (5 ∷ [])) [] one_row params rows read in
-          let met = meets_there store_schema 4 blocks blocks_static old params wheres store fit in
-          elim (first_shown table wheres (shows (5 ∷ [])) [] params rows answer) [
-            | inl none ↦ subst (ShowsSome Found) (sym none.0) (λ y found.
-                let s = (after_key table key rest more 3 y known).1 found in
-                none.1 s.0 s.1 ((met s.0 s.1).1 s.2))
-            | inr first ↦
-                let r = first.0 in
-                let x : Row = map (column r) leaf_places in
-                subst (ShowsSome Found) (sym first.1.2) (x, (after_key table key rest more 3 x known).0 (r, first.1.0, (met r first.1.0).0 first.1.1, refl))
+          elim (first_of (5 ∷ []) (codes "block" ∷ []) [] (λ row other. Unit {0}) (λ r s low. tt) text q new rows shown) [
+            | inl none ↦ subst (ShowsSome Found) (sym none.0) none.1
+            | inr first ↦ subst (ShowsSome Found) (sym first.1) (map (column first.0) leaf_places, first.2.1)
           ]
 
 -- ---- what is shown of rows that are P is shown of those that are Q

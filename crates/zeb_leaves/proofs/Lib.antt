@@ -3,6 +3,7 @@ pub mod LeafStatements
 pub mod LeafShapes
 pub mod CoveringLeaves
 pub mod CoveringCalls
+pub mod KeysTold
 pub mod OnlyLeaf
 pub mod InsideCalls
 pub mod BehindStatements
@@ -46,7 +47,6 @@ pub mod SpotsSaid
 pub mod TermCalls
 pub mod CutPieces
 pub mod TurnedEntries
-pub mod LastPlaces
 pub mod SearchedEntries
 pub mod PiecesInTurn
 pub mod BlockTurns

@@ -1,5 +1,5 @@
 -- The leaf that is the greatest of those with terms up to a text, and covers keys of that text or all of neighbouring terms.
-use Rattle.zeb_leaves.proofs.Cited.{Row, column, row_cmp, Text, ◌≡◌, ◌≢◌, ◌∙◌, ◌++◌, ◌∷◌, ℕ, ℤ, true, false, List, [], Some, None, refl, sym, ap, arith, Ordering, Less, Equal, Greater, nat_cmp, nat_list_cmp_total, slice_cmp, ordering_then, value_cmp-Text, tied_itself, Covers, HasBlockFrom, IsCovering, IsGreatest, IsRest, IsStore, IsUpTo, State, blocks_tree, leaf_key, own_key, Register, register_front}
+use Rattle.zeb_leaves.proofs.Cited.{Row, column, row_cmp, Text, ◌≡◌, ◌≢◌, ◌∙◌, ◌++◌, ◌∷◌, ℕ, ℤ, true, false, List, [], Some, refl, sym, ap, arith, Ordering, Less, Equal, Greater, nat_cmp, nat_list_cmp_total, slice_cmp, ordering_then, value_cmp-Text, tied_itself, HasBlockFrom, IsGreatest, IsRest, IsStore, IsUpTo, State, blocks_tree, leaf_key, own_key, Register, register_front}
 use Rattle.std.specs.Ordering.{is_lt}
 use Rattle.std.specs.List.Sorted.{IsStrictlySortedBy}
 use Rattle.sqlite.specs.Order.{value_cmp}
@@ -54,18 +54,6 @@ module _ (s : State) (store : IsStore s) (db : ℤ) (index : ℕ) (register : Re
       let order : row_cmp (own_key leaf) (leaf_key first block) ≡ ordering_then (slice_cmp nat_cmp it.0 first) (nat_cmp it.1 block) =
       ap (λ (r : Row). row_cmp (own_key r) (leaf_key first block)) it.3 ∙ key_order it.0 first it.1 block in
       leaf_below end leaf there it.0 (ap (λ (r : Row). column r 0) it.3) (below_then it.0 first end (front_up (slice_cmp nat_cmp it.0 first) (nat_cmp it.1 block) (λ above. up (order ∙ above))) low)
-
-  -- the greatest of the terms up to a text covers each key of the text that it is up to
-  pub covers_up_to : (term : List ℕ) (block : ℕ) (leaf : Row) → IsGreatest (Below (term ++ 0 ∷ [])) (Some leaf) → IsUpTo (leaf_key term block) leaf → Covers These (leaf_key term block) leaf
-  covers_up_to term block leaf found up = record {
-    is = (below_up s store db index register (term ++ 0 ∷ []) 0 leaf found.0).0;
-    up_to = up;
-    greatest = λ other there up. found.1 other (up_below term (term ++ 0 ∷ []) block (below_above term) other there up);
-  }
-
-  -- and where there is none, no leaf is up to a key of the text
-  pub none_up_to : (term : List ℕ) (block : ℕ) → IsGreatest (Below (term ++ 0 ∷ [])) None → IsCovering These (leaf_key term block) None
-  none_up_to term block none leaf there up = none leaf (up_below term (term ++ 0 ∷ []) block (below_above term) leaf there up)
 
   module _ (first end : List ℕ) (low : is_lt (slice_cmp nat_cmp first end) ≡ true) (leaf : Row) (found : IsGreatest (Below end) (Some leaf)) (own : HasTermBelow first leaf) where
     lower : Below first leaf

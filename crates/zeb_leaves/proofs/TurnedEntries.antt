@@ -1,12 +1,11 @@
 -- What entries say of a block before and after a piece is changed, and the changes of several pieces.
 use Rattle.std.specs.Prelude.{IsUtf8}
-use Rattle.zeb_leaves.proofs.Cited.{Has, all_from, all_has, ◌≡◌, ◌∙◌, ◌*◌, ◌/◌, ◌+◌, ◌<◌, ◌≤◌, ◌∷◌, ℕ, Option, Some, None, List, [], length, drop, refl, sym, ap, subst, inl, inr, arith, Less, nat_cmp, slice_cmp, tied_itself, nat_cmp_total, ordering_then, AllByRecursion, BlockSpells, LiesIn, Posting, eqb_tells, register_code, Register, Entry, IsEntry, entry_cmp, IsAt, SayPart, SaysPart, HasRecordOf, IsCount, is_less, none_rises}
+use Rattle.zeb_leaves.proofs.Cited.{Has, all_has, ◌≡◌, ◌∙◌, ◌*◌, ◌/◌, ◌+◌, ◌<◌, ◌≤◌, ◌∷◌, ℕ, Option, Some, None, List, [], length, drop, refl, sym, ap, subst, inl, inr, arith, Less, nat_cmp, AllByRecursion, BlockSpells, LiesIn, Posting, eqb_tells, Entry, IsEntry, entry_cmp, IsAt, SayPart, SaysPart, HasRecordOf, IsCount, is_less, none_rises}
 use Rattle.std.proofs.Common.{get_or}
 use Rattle.std.proofs.lemmas.List.{drop_more}
 use Rattle.std.specs.List.Sorted.{IsStrictlySortedBy}
 use Rattle.std.specs.Prelude.{◌^◌}
-use Rattle.zeb_keys.specs.Order.{key_order}
-use Rattle.zeb_leaf.specs.Merging.{AreChanges, change_cmp, entry_with}
+use Rattle.zeb_leaf.specs.Merging.{entry_with}
 use Rattle.zeb_leaf.specs.declared.entries.Held.{Held}
 use Rattle.zeb_leaf.specs.declared.merging.BlockChange.{BlockChange}
 use Rattle.zeb_leaf.specs.declared.merging.NewBlock.{NewBlock}
@@ -18,7 +17,7 @@ use Rattle.zeb_register.specs.PrivateUnits.{units_of}
 use Rattle.zeb_register.specs.UnitChanges.{IsStorableChange, KeyUnits, TurnsPlaces, TurnsUnit, TurnsUnits}
 use Rattle.zeb_register.specs.declared.registers.KeyChanges.{KeyChanges}
 use Rattle.zeb_register.specs.declared.registers.RecordChange.{RecordChange}
-use Rattle.zeb_leaves.specs.PrivatePieces.{ArePieces, HasPostings, IsPiece, LacksTurn, TurnAllEntries, TurnsEntries, block_of, piece_cmp}
+use Rattle.zeb_leaves.specs.PrivatePieces.{HasPostings, IsPiece, LacksTurn, TurnAllEntries, TurnsEntries, block_of}
 use Rattle.zeb_leaves.specs.PrivateSaid.{Says}
 
 -- ---- what entries say of a block
@@ -28,12 +27,6 @@ says_held e held part block records bytes says = record {
   spelled = subst (λ (b : ℕ). BlockSpells b part e.bytes) block (subst (BlockSpells held.block part) bytes says.0);
   counted = subst (IsCount (HasRecordOf part)) records says.1;
 }
-
-pub held_says : (e : Entry) (held : Held) (part : List Posting) → held.block ≡ e.block → held.records ≡ e.records → held.bytes.now ≡ e.bytes → SaysPart e part → Says held part
-held_says e held part block records bytes says = (
-  subst (λ (b : ℕ). BlockSpells b part held.bytes.now) (sym block) (subst (BlockSpells e.block part) (sym bytes) says.spelled),
-  subst (IsCount (HasRecordOf part)) (sym records) says.counted,
-)
 
 pub said_by : (entries : List Entry) (term : List ℕ) (block : ℕ) (part : List Posting) (e : Entry) → IsStrictlySortedBy entry_cmp entries → Has entries e → IsAt term block e
     → SaysPart e part → SayPart entries term block part
@@ -155,16 +148,6 @@ lacks_turn entries piece part said never other also are turns =
 
 -- ---- several pieces
 
-pub turned_piece : (entries : List Entry) (pieces : List KeyChanges) (changes : List BlockChange) → TurnAllEntries entries pieces changes → (change : BlockChange)
-    → Has changes change → (piece : KeyChanges) × Has pieces piece × TurnsEntries entries piece change
-turned_piece entries [] changes turn change here = absurd (subst (λ l. Has l change) turn here)
-turned_piece entries (piece ∷ pieces) changes turn change here =
-    let more = turned_piece entries pieces turn.1 turn.4 change in
-    elim (subst (λ l. Has l change) turn.2 here) [
-      | inl same ↦ (piece, inl refl, subst (TurnsEntries entries piece) (sym same) turn.3)
-      | inr later ↦ let it = more later in (it.0, inr it.1, it.2)
-    ]
-
 -- the change of the next piece, and those of the pieces behind it
 pub turn_next : (entries : List Entry) (pieces : List KeyChanges) (i : ℕ) (piece : KeyChanges) (change : BlockChange) (more : List BlockChange) → i < length pieces
     → piece ≡ get_or pieces i piece → TurnsEntries entries piece change → TurnAllEntries entries (drop (i + 1) pieces) more
@@ -172,35 +155,3 @@ pub turn_next : (entries : List Entry) (pieces : List KeyChanges) (i : ℕ) (pie
 turn_next entries pieces i piece change more within is turns all =
     let here : drop i pieces ≡ piece ∷ drop (i + 1) pieces = drop_more pieces i piece within ∙ ap (λ x. x ∷ drop (i + 1) pieces) (sym is) in
     subst (λ l. TurnAllEntries entries l (change ∷ more)) (sym here) (change, more, refl, turns, all)
-
--- the keys are of one register
-abbrev pub AreOfRegister : ℕ → Register → List KeyChanges → Type 0
-AreOfRegister index register pieces = AllByRecursion (λ (piece : KeyChanges). (piece.key.now.index ≡ index) × (piece.key.now.register ≡ register)) pieces
-
--- under one register pieces rise by their terms
-cmp_by_term : (p q : KeyChanges) (c d : BlockChange) → p.key.now.index ≡ q.key.now.index → p.key.now.register ≡ q.key.now.register → c.term ≡ p.key.now.term
-    → c.block ≡ block_of p.changes.now → d.term ≡ q.key.now.term → d.block ≡ block_of q.changes.now → piece_cmp p q ≡ Less → change_cmp c d ≡ Less
-cmp_by_term p q c d index register ct cb dt db less =
-    let terms = slice_cmp nat_cmp p.key.now.term q.key.now.term in
-    let numbers = nat_cmp (block_of p.changes.now) (block_of q.changes.now) in
-    let tie = ap (nat_cmp p.key.now.index) (sym index) ∙ tied_itself nat_cmp_total p.key.now.index in
-    let tied = ap (λ r. nat_cmp (register_code p.key.now.register) (register_code r)) (sym register) ∙ tied_itself nat_cmp_total (register_code p.key.now.register) in
-    let keys : key_order p.key.now q.key.now ≡ terms = ap (λ o. ordering_then o (ordering_then (nat_cmp (register_code p.key.now.register) (register_code q.key.now.register)) terms)) tie ∙ ap (λ o. ordering_then o terms) tied in
-    rw (ct, cb, dt, db) (sym (ap (λ o. ordering_then o numbers) keys) ∙ less)
-
-pub changes_are : (entries : List Entry) (index : ℕ) (register : Register) (pieces : List KeyChanges) (changes : List BlockChange) → AreOfRegister index register pieces
-    → ArePieces pieces → TurnAllEntries entries pieces changes → AreChanges changes
-unfolding IsStrictlySortedBy
-changes_are entries index register [] changes of are turn = subst AreChanges (sym turn) (record { rising = tt; each = tt })
-changes_are entries index register (piece ∷ pieces) changes of are turn =
-    let more = changes_are entries index register pieces turn.1 of.1 (record { each = are.each.1; rising = are.rising.1 }) turn.4 in
-    subst AreChanges (sym turn.2) (record {
-      rising = (
-        all_from (λ d. change_cmp turn.0 d ≡ Less) turn.1 (λ d h.
-            let q = turned_piece entries pieces turn.1 turn.4 d h in
-            let its = all_has (λ (p : KeyChanges). (p.key.now.index ≡ index) × (p.key.now.register ≡ register)) pieces q.0 of.1 q.1 in
-            cmp_by_term piece q.0 turn.0 d (of.0.0 ∙ sym its.0) (of.0.1 ∙ sym its.1) turn.3.term turn.3.block q.2.term q.2.block (all_has (λ p. piece_cmp piece p ≡ Less) pieces q.0 are.rising.0 q.1)),
-        more.rising,
-      );
-      each = (turn.3.each, more.each);
-    })

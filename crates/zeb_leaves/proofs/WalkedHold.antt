@@ -230,9 +230,6 @@ module _ (Rests : Row → Type 0) (rows : List Row) (are : IsListOf Rests rows) 
           has = said.4;
         }
 
-    list : List Posting
-    list = list_under key postings
-
     part_up : (block : ℕ) → IsStrictlySortedBy posting_cmp (part_in block (list_under key postings))
     part_up block = kept_rises posting_total (λ (p : Posting). nat_eq (p.sysno / 256) block) (list_under key postings) (under_rises key postings up)
 

@@ -13,7 +13,7 @@ use Rattle.zeb_register.proofs.PostingStatements.{blocks, blocks_static}
 use Rattle.zeb_register.proofs.RowCounts.{gained_longer, remade_as_many}
 use Rattle.zeb_register.proofs.StatementForms.{Condition, alone, equals, no_limit, reading}
 use Rattle.zeb_register.proofs.Writes.{RemakesRows, changed_so, gains, inserts, updates}
-use Rattle.zeb_register.specs.PrivateKeyColumns.{IsBlockOf}
+use Rattle.zeb_register.specs.PrivateKeyColumns.{IsNumberedRow}
 use Rattle.zeb_register.specs.PrivateRowStatements.{Gains, Renews}
 use Rattle.zeb_register.specs.Store.{Changes}
 use Rattle.zeb_register.specs.Tallies.{HasMoreLeaves}
@@ -73,11 +73,11 @@ five_shown db idx reg term block bytes one two three four five a b c d e =
     ap₂ (λ x y. x ∷ y ∷ three ∷ four ∷ five ∷ Blob bytes ∷ []) a b ∙ ap₂ (λ x y. Int db ∷ Int idx ∷ x ∷ y ∷ five ∷ Blob bytes ∷ []) c d ∙ ap (λ x. Int db ∷ Int idx ∷ Int reg ∷ Text term ∷ x ∷ Blob bytes ∷ []) e
 
 pub sets_leaf : (db idx reg : ℤ) (term : List ℕ) (block : ℤ) (bytes : List ℕ) (old new : State) (count : ℕ) → IsStore old → Executes set_text (six db idx reg term block bytes) old new (Ok count)
-    → Changes blocks_tree (Renews (IsBlockOf db idx reg term block) (six db idx reg term block bytes)) old new
+    → Changes blocks_tree (Renews (IsNumberedRow db idx reg term block) (six db idx reg term block bytes)) old new
 sets_leaf db idx reg term block bytes old new count store ran =
     let row = six db idx reg term block bytes in
     let done = updates store_schema 4 blocks blocks_static set_text row set_wheres (col 1 0) set_terms set_is set_plain refl refl refl old new count store ran in
-    changed_so store_schema 9 (RemakesRows set_wheres (col 1 0 ∷ set_terms) row) (Renews (IsBlockOf db idx reg term block) row) old new (λ each there columns. (
+    changed_so store_schema 9 (RemakesRows set_wheres (col 1 0 ∷ set_terms) row) (Renews (IsNumberedRow db idx reg term block) row) old new (λ each there columns. (
       λ h. elim ((each (Int h.0 ∷ columns)).0 h.1) [
         | inl kept ↦ inl ((h.0, kept.0), λ p. kept.1 (p.0, (p.1, (p.2, (p.3, (p.4, tt))))))
         | inr made ↦

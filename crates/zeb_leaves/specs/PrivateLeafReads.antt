@@ -1,6 +1,7 @@
 -- What only the contracts of private functions speak of; no public clause reaches it: what statements show of leaves, and which leaf
 -- is found.
 use Rattle.std.specs.Prelude.{◌≡◌, ◌≢◌, ◌++◌, ◌∷◌, ℕ, ℤ, pos, true, false, List, [], Option, Some, None, MatchOption, Result, Err, IfOk}
+use Rattle.std.specs.Option.{option_map}
 use Rattle.std.specs.Ordering.{is_lt}
 use Rattle.sqlite.specs.declared.types.Value.TheVariants.{Int, Text}
 use Rattle.sqlite.specs.Order.{Row, column, value_cmp}
@@ -66,6 +67,10 @@ ShowsSome P (row ∷ rows) = (some : Row) × P some
 abbrev pub TellsSome : (Row → Type 0) → Option Row → Type 0
 TellsSome P (Some shown) = (some : Row) × P some
 TellsSome P None = (row : Row) → ¬ P row
+
+-- it tells the own key, alone, of a row that is Found, or that there is none
+abbrev pub TellsKey : (Option Row → Type 0) → Option Row → Type 0
+TellsKey Found told = (leaf : Option Row) × (told ≡ option_map own_key leaf) × Found leaf
 
 -- its block is this or above
 abbrev pub HasBlockFrom : ℕ → Row → Type 0

@@ -14,7 +14,7 @@ use Rattle.zeb_leaves.specs.LeafChanges.{ArePartedFrom}
 use Rattle.zeb_leaves.specs.PrivateSpans.{ShowsKey}
 use Rattle.zeb_leaves.specs.PrivateTermReads.{End}
 use Rattle.zeb_register.specs.Clauses.{InStore}
-use Rattle.zeb_register.specs.PrivateKeyColumns.{IsBlockOf, register_columns}
+use Rattle.zeb_register.specs.PrivateKeyColumns.{IsNumberedRow, register_columns}
 use Rattle.zeb_register.specs.Sql.{HasRow}
 use Rattle.zeb_register.specs.Tallies.{HasMoreLeaves}
 use Rattle.zeb_register.specs.UnitChanges.{IsTold}
@@ -26,7 +26,7 @@ leaf_columns at term number bytes = register_columns at ++ (Text term ∷ Int nu
 
 -- a row of this register with this key
 abbrev pub IsLeafWith : RegisterOf → List ℕ → ℤ → Row → Type 0
-IsLeafWith at = IsBlockOf at.db.0 (pos at.index) (pos (register_code at.register))
+IsLeafWith at = IsNumberedRow at.db.0 (pos at.index) (pos (register_code at.register))
 
 abbrev pub new_row : RegisterOf → NewLeaf → Row
 new_row at leaf = leaf_columns at leaf.term (pos leaf.block) leaf.bytes

@@ -112,13 +112,3 @@ TurnAllEntries entries (piece ∷ pieces) changes =
 
 abbrev pub LackTurn : List Entry → List KeyChanges → Type 0
 LackTurn entries pieces = (piece : KeyChanges) × Has pieces piece × LacksTurn entries piece
-
--- ---- a change behind all postings
-
--- the list ends with a posting of a record below this one
-abbrev pub EndsBelow : ℕ → List Posting → Type 0
-EndsBelow sysno list = (front : List Posting) × (last : Posting) × (list ≡ front ++ last ∷ []) × (last.sysno < sysno)
-
--- and the change puts places of a record that had none
-abbrev pub ComesLast : RecordChange → List Posting → Type 0
-ComesLast change list = (change.old.now ≡ []) × EndsBelow change.sysno list

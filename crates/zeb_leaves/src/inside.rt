@@ -1,11 +1,11 @@
-//! The leaf that covers a block of a term, and the one behind it, inside a transaction.
+//! The leaf that covers a block of a term, and where what it covers ends, inside a transaction.
 
 ghost use Rattle.std.specs.Prelude.{◌≡◌, ◌≢◌, ◌<◌, ◌++◌, ◌∷◌, ◌^◌, [], None, Some, Err, IfErr, IfOk, IsTrue};
 ghost use Rattle.std.specs.Option.{option_map};
 ghost use Rattle.sqlite.specs.Held.{state};
 ghost use Rattle.zeb_leaf.specs.declared.spans.BlockKey.{BlockKey as KeyOfBlock};
 ghost use Rattle.zeb_leaves.specs.PrivateLeafReads.{IsCovering, IsLeafAt, IsLeafIn, IsLeast};
-ghost use Rattle.zeb_leaves.specs.PrivateLeafReads.{IsNextBehind, IsUncovered};
+ghost use Rattle.zeb_leaves.specs.PrivateLeafReads.{IsNextBehind, IsUncovered, TellsKey};
 ghost use Rattle.zeb_leaves.specs.PrivateLeafWrites.{HidesEnd, IsEndAt};
 ghost use Rattle.zeb_leaves.specs.PrivateTermReads.{IsRowFrom};
 ghost use Rattle.zeb_register.specs.Answers.{Answers, IfDamaged};
@@ -16,7 +16,7 @@ ghost use Rattle.zeb_register.specs.Covering.{IsUpTo, leaf_key};
 use crate::own_entries::is_below;
 use crate::spans::own_key;
 use crate::statements_inside::{
-    leaf_of_term_from, leaf_of_term_inside, leaf_of_terms_below_inside, leaf_of_terms_from,
+    key_of_term_from, key_of_terms_from, leaf_of_term_inside, leaf_of_terms_below_inside,
     some_row_inside,
 };
 use sqlite::{Alter, Row, Transaction};
@@ -145,8 +145,8 @@ pub(crate) fn leaf_inside<S: Alter>(
     }
 }
 
-/// The least leaf of the terms above this one.
-fn leaf_of_terms_above<S: Alter>(
+/// The own key of the least leaf of the terms above this one.
+fn key_of_terms_above<S: Alter>(
     alloc: Global,
     tx: &mut Transaction<'_, S>,
     at: RegisterOf,
@@ -156,14 +156,15 @@ fn leaf_of_terms_above<S: Alter>(
     ensures call { Inside (state S.Store tx.old.conn.now) (state S.Store tx.new.conn.now) result
         (λ _. OnlyReads) }
     ensures finds { TellsInside (state S.Store tx.old.conn.now) (state S.Store tx.new.conn.now)
-        result (λ trees found. IsLeast (IsRowFrom at (term.now ++ 0 ∷ []) trees) found) }
+        result
+        (λ trees key. TellsKey (IsLeast (IsRowFrom at (term.now ++ 0 ∷ []) trees)) key) }
     ensures honest { result ≢ Err RegFault.Damaged }
 {
     let first = text_above(alloc, term)?;
-    leaf_of_terms_from(tx, at, first.as_str())
+    key_of_terms_from(tx, at, first.as_str())
 }
 
-/// The leaf with the least own key above a block of a term: it is looked for among those of the term, and then among those of the terms above.
+/// The least own key of a leaf above a block of a term: it is looked for among those of the term, and then among those of the terms above.
 /// `None` where no leaf is above the block.
 fn behind_by_term<S: Alter>(
     alloc: Global,
@@ -177,19 +178,20 @@ fn behind_by_term<S: Alter>(
     ensures call { Inside (state S.Store tx.old.conn.now) (state S.Store tx.new.conn.now) result
         (λ _. OnlyReads) }
     ensures finds { TellsInside (state S.Store tx.old.conn.now) (state S.Store tx.new.conn.now)
-        result
-        (λ trees found. IsNextBehind (IsLeafIn trees at) (leaf_key term.now block) found) }
+        result (λ trees key.
+        TellsKey (IsNextBehind (IsLeafIn trees at) (leaf_key term.now block)) key) }
     ensures honest { result ≢ Err RegFault.Damaged }
 {
     let first = block as i64 + 1;
-    match leaf_of_term_from(tx, at, term, first)? {
-        Some(leaf) => Ok(Some(leaf)),
-        None => leaf_of_terms_above(alloc, tx, at, term),
+    match key_of_term_from(tx, at, term, first)? {
+        Some(own) => Ok(Some(own)),
+        None => key_of_terms_above(alloc, tx, at, term),
     }
 }
 
-/// The leaf with the least own key above a block of a term; `None` where no leaf is above them. It is never refused as `Damaged`.
-pub(crate) fn leaf_behind<S: Alter>(
+/// The least own key of a leaf above a block of a term, without the leaf's bytes; `None` where no leaf is above them. It is never refused
+/// as `Damaged`.
+pub(crate) fn key_behind<S: Alter>(
     alloc: Global,
     tx: &mut Transaction<'_, S>,
     at: RegisterOf,
@@ -201,8 +203,8 @@ pub(crate) fn leaf_behind<S: Alter>(
     ensures call { Inside (state S.Store tx.old.conn.now) (state S.Store tx.new.conn.now) result
         (λ _. OnlyReads) }
     ensures finds { TellsInside (state S.Store tx.old.conn.now) (state S.Store tx.new.conn.now)
-        result
-        (λ trees found. IsNextBehind (IsLeafIn trees at) (leaf_key term.now block) found) }
+        result (λ trees key.
+        TellsKey (IsNextBehind (IsLeafIn trees at) (leaf_key term.now block)) key) }
     ensures honest { result ≢ Err RegFault.Damaged }
 {
     let key = BlockKey {
@@ -210,15 +212,15 @@ pub(crate) fn leaf_behind<S: Alter>(
         block,
     };
     // As in `covering_leaf`: the least leaf of the terms from this one on is mostly above the block.
-    let next = leaf_of_terms_from(tx, at, term)?;
+    let next = key_of_terms_from(tx, at, term)?;
     if is_above(&next, key) {
         return Ok(next);
     }
     behind_by_term(alloc, tx, at, term, block)
 }
 
-/// The own key of the leaf behind another one, where there is one: the end of the keys that the other covers. It takes no memory: it is refused
-/// as `Damaged` alone, where that leaf shows no key.
+/// The end of the keys that a leaf covers: the own key of the leaf behind it, which a row shows, where there is one. It takes no memory: it is
+/// refused as `Damaged` alone, where the row shows no key.
 pub(crate) fn end_at(next: Option<&Row>) -> Result<Option<BlockKey<'_>>, RegFault>
     ensures ok { IfOk result (λ end. IsEndAt (option_map (λ row. row.now) next.entry)
         (option_map (λ (k : KeyOfBlock). (k.term.now, k.block)) end)) }

@@ -1,10 +1,10 @@
-//! The statements that find a leaf inside a transaction.
+//! The statements that find a leaf inside a transaction, or its own key.
 
 ghost use Rattle.std.specs.Prelude.{◌≡◌, ◌≢◌, Err};
 ghost use Rattle.sqlite.specs.Held.{state};
 ghost use Rattle.sqlite.specs.Values.{bound};
-ghost use Rattle.zeb_leaves.specs.PrivateLeafReads.{IsGreatest, IsLeafIn, IsLeast, ShowsLast};
-ghost use Rattle.zeb_leaves.specs.PrivateLeafReads.{IsOfTermBelow, IsOfTermFrom, IsOfTermsBelow, TellsSome};
+ghost use Rattle.zeb_leaves.specs.PrivateLeafReads.{IsGreatest, IsLeafIn, IsLeast, ShowsLast, TellsKey, TellsSome};
+ghost use Rattle.zeb_leaves.specs.PrivateLeafReads.{IsOfTermBelow, IsOfTermFrom, IsOfTermsBelow};
 ghost use Rattle.zeb_leaves.specs.PrivateTermReads.{IsRowFrom};
 ghost use Rattle.zeb_register.specs.Calls.{Inside, OnlyReads};
 ghost use Rattle.zeb_register.specs.Clauses.{TellsInside};
@@ -16,12 +16,13 @@ use sqlite::types::ValueRef;
 use sqlite::{Alter, Row, Transaction, params};
 use zeb_register::{RegFault, RegisterOf};
 
+// The table's index has a row's own key: these two statements are answered from there, and no leaf is read.
 const OF_TERM_FROM: &str =
-    "SELECT term, block, data FROM blocks WHERE db = ?1 AND idx = ?2 AND reg = ?3 AND term = ?4 AND block >= ?5 ORDER BY term, block LIMIT 1";
+    "SELECT term, block FROM blocks WHERE db = ?1 AND idx = ?2 AND reg = ?3 AND term = ?4 AND block >= ?5 ORDER BY term, block LIMIT 1";
 
 // A block below 0 is no block's number, and so its row is no leaf.
 const OF_TERMS_FROM: &str =
-    "SELECT term, block, data FROM blocks WHERE db = ?1 AND idx = ?2 AND reg = ?3 AND term >= ?4 AND block >= ?5 ORDER BY term, block LIMIT 1";
+    "SELECT term, block FROM blocks WHERE db = ?1 AND idx = ?2 AND reg = ?3 AND term >= ?4 AND block >= ?5 ORDER BY term, block LIMIT 1";
 
 /// The last of the rows that a query shows inside a transaction. Nothing changes.
 fn last_shown<S: Alter>(
@@ -95,8 +96,8 @@ pub(crate) fn some_row_inside<S: Alter>(
     last_shown(tx, ANY, params![db, at.index, reg, least])
 }
 
-/// The least leaf of the term whose own block isn't below `first`.
-pub(crate) fn leaf_of_term_from<S: Alter>(
+/// The own key of the least leaf of the term whose own block isn't below `first`.
+pub(crate) fn key_of_term_from<S: Alter>(
     tx: &mut Transaction<'_, S>,
     at: RegisterOf,
     term: &str,
@@ -106,7 +107,7 @@ pub(crate) fn leaf_of_term_from<S: Alter>(
     ensures call { Inside (state S.Store tx.old.conn.now) (state S.Store tx.new.conn.now) result
         (λ _. OnlyReads) }
     ensures finds { TellsInside (state S.Store tx.old.conn.now) (state S.Store tx.new.conn.now)
-        result (λ trees found. IsLeast (IsOfTermFrom at term.now first trees) found) }
+        result (λ trees key. TellsKey (IsLeast (IsOfTermFrom at term.now first trees)) key) }
     ensures honest { result ≢ Err RegFault.Damaged }
 {
     let db = at.db.column();
@@ -114,8 +115,8 @@ pub(crate) fn leaf_of_term_from<S: Alter>(
     last_shown(tx, OF_TERM_FROM, params![db, at.index, reg, term, first])
 }
 
-/// The least leaf of the terms that aren't below `first`.
-pub(crate) fn leaf_of_terms_from<S: Alter>(
+/// The own key of the least leaf of the terms that aren't below `first`.
+pub(crate) fn key_of_terms_from<S: Alter>(
     tx: &mut Transaction<'_, S>,
     at: RegisterOf,
     first: &str,
@@ -124,7 +125,7 @@ pub(crate) fn leaf_of_terms_from<S: Alter>(
     ensures call { Inside (state S.Store tx.old.conn.now) (state S.Store tx.new.conn.now) result
         (λ _. OnlyReads) }
     ensures finds { TellsInside (state S.Store tx.old.conn.now) (state S.Store tx.new.conn.now)
-        result (λ trees found. IsLeast (IsRowFrom at first.now trees) found) }
+        result (λ trees key. TellsKey (IsLeast (IsRowFrom at first.now trees)) key) }
     ensures honest { result ≢ Err RegFault.Damaged }
 {
     let db = at.db.column();

@@ -1,6 +1,6 @@
 //! What becomes of the entries of a leaf where pieces of a run are changed: each piece's entry is read, turned and spelled anew.
 
-ghost use Rattle.std.specs.Prelude.{◌≡◌, ◌≢◌, ◌/◌, ◌++◌, ◌↔◌, List, IfOk, IsTrue, MatchOption, map};
+ghost use Rattle.std.specs.Prelude.{◌≡◌, ◌≢◌, List, IfOk, MatchOption};
 ghost use Rattle.std.specs.List.{AllByRecursion};
 ghost use Rattle.std.specs.List.Sorted.{IsStrictlySortedBy};
 ghost use Rattle.sqlite_rules.specs.Lists.{Has};
@@ -8,14 +8,13 @@ ghost use Rattle.zeb_blocks.specs.Blocks.{LiesIn};
 ghost use Rattle.zeb_leaf.specs.Order.{entry_cmp};
 ghost use Rattle.zeb_leaf.specs.Spans.{key_cmp};
 ghost use Rattle.zeb_leaf.specs.declared.entries.Entry.{Entry};
-ghost use Rattle.zeb_leaves.specs.PrivatePieces.{ComesLast, EndsBelow, HasPostings, IsPiece, LackTurn, LacksTurn, TurnAllEntries, TurnsEntries, block_of};
+ghost use Rattle.zeb_leaves.specs.PrivatePieces.{HasPostings, IsPiece, LackTurn, LacksTurn, TurnAllEntries, TurnsEntries, block_of};
 ghost use Rattle.zeb_register.specs.Answers.{Answers, IfDamaged};
-ghost use Rattle.zeb_register.specs.Content.{places_in, posting_at};
 ghost use Rattle.zeb_register.specs.Formats.{packed_leaves};
 ghost use Rattle.zeb_register.specs.PrivatePackedRows.{IsInBlock};
 ghost use Rattle.zeb_register.specs.PrivateUnits.{units_of};
 ghost use Rattle.zeb_register.specs.Readings.{IsAt, SayPart};
-ghost use Rattle.zeb_register.specs.UnitChanges.{IsStorableChange, KeyUnits, TurnsPlaces, TurnsUnits};
+ghost use Rattle.zeb_register.specs.UnitChanges.{IsStorableChange, KeyUnits, TurnsUnits};
 
 use crate::pieces::first_block;
 use crate::said_postings::{push_said, records_in};
@@ -24,7 +23,7 @@ use std::cmp::Ordering;
 use zeb_blocks::{Posting, spell};
 use zeb_leaf::{BlockChange, BlockKey, Bytes, Entry, Held, NewBlock};
 use zeb_register::for_layouts::postings_changed;
-use zeb_register::{KeyChanges, Place, RecordChange, RegFault};
+use zeb_register::{KeyChanges, RecordChange, RegFault};
 
 /// How an entry lies to a key.
 fn place(entry: &Entry, key: BlockKey) -> Ordering
@@ -71,59 +70,6 @@ fn postings_at(alloc: Global, entries: &[Entry], key: BlockKey) -> Result<Vec<Po
     Ok(postings)
 }
 
-/// Whether a list ends with a posting of a record below this one.
-fn ends_below(list: &[Posting], sysno: u64) -> bool
-    ensures { IsTrue result ↔ EndsBelow sysno list.now }
-{
-    match list.last() {
-        Some(last) => last.sysno < sysno,
-        None => false,
-    }
-}
-
-/// Whether a change puts places of a record that had none behind all postings of a list that has some.
-fn comes_last(list: &[Posting], change: &RecordChange<'_>) -> bool
-    ensures { IsTrue result → ComesLast change.now list.now }
-{
-    change.old.is_empty() && ends_below(list, change.sysno)
-}
-
-/// A list with the places of a record behind it.
-fn with_places(list: Vec<Posting>, sysno: u64, places: &[Place]) -> Result<Vec<Posting>, RegFault>
-    ensures { Answers (λ fault. fault ≡ RegFault.Memory)
-        (λ next. next.items ≡ list.items ++ map (posting_at sysno) places.now) result }
-{
-    let mut list = list;
-    for place in places {
-        list.push(Posting {
-            sysno,
-            seq: place.seq,
-            pos: place.pos,
-        })?;
-    }
-    Ok(list)
-}
-
-/// The postings of a block after a change of a record, as of [`postings_changed`]. New records mostly come behind all others: then no posting is
-/// copied.
-fn list_changed(
-    alloc: Global,
-    list: Vec<Posting>,
-    change: &RecordChange<'_>,
-) -> Result<Vec<Posting>, RegFault>
-    requires lies { LiesIn (change.now.sysno / 256) list.items }
-    requires stored { IsStorableChange change.now }
-    ensures turned { Answers (λ fault. (fault ≢ RegFault.Store)
-        × IfDamaged (places_in change.now.sysno list.items ≢ change.now.old.now) fault)
-        (λ next. TurnsPlaces change.now list.items next.items) result }
-    ensures lies { IfOk result (λ next. LiesIn (change.now.sysno / 256) next.items) }
-{
-    if comes_last(&list, change) {
-        return with_places(list, change.sysno, change.new);
-    }
-    postings_changed(alloc, &list, change)
-}
-
 /// The postings of a block after changes of its records, one after the other. `Damaged` where a record has other places than its change says.
 fn postings_after(
     alloc: Global,
@@ -142,7 +88,7 @@ fn postings_after(
 {
     let mut list = list;
     for change in changes {
-        list = list_changed(alloc, list, change)?;
+        list = postings_changed(alloc, list, change)?;
     }
     Ok(list)
 }

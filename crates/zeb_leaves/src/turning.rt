@@ -15,7 +15,7 @@ ghost use Rattle.zeb_register.specs.RunChanges.{ChangesKeys, IsRun, changes_in};
 ghost use Rattle.zeb_register.specs.Tallies.{WorksOnLeaves};
 ghost use Rattle.zeb_register.specs.UnitChanges.{ChangesKey, NumbersRise};
 
-use crate::inside::{end_at, leaf_behind, leaf_inside};
+use crate::inside::{end_at, key_behind, leaf_inside};
 use crate::own_entries::{is_below, own_entries};
 use crate::pieces::{first_block, pieces_of};
 use crate::spans::own_key;
@@ -185,7 +185,7 @@ fn front_turned<S: Alter>(
     let Some(leaf) = leaf_inside(alloc, tx, at, term, block)? else {
         return register_begun(alloc, tx, work, at, pieces);
     };
-    let behind = leaf_behind(alloc, tx, at, term, block)?;
+    let behind = key_behind(alloc, tx, at, term, block)?;
     let end = end_at(behind.as_ref())?;
     leaf_turned(alloc, tx, work, at, &leaf, end, pieces)
 }

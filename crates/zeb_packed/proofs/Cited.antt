@@ -55,7 +55,7 @@ pub use Rattle.zeb_register.proofs.Answered.{refused_so, told_or}
 pub use Rattle.zeb_register.proofs.BlockUnits.{held_block, held_units, malformed_block, none_rises, one_block_read, one_reading, read_rises}
 pub use Rattle.zeb_register.proofs.BetweenLemmas.{up_to, blocks_many, spelled_by, spelled_row, spelled_too}
 pub use Rattle.zeb_register.proofs.BetweenStatements.{between, more}
-pub use Rattle.zeb_register.proofs.Calls.{IsSilent, alters_so, changes_after, changes_none, reads_goes, store_same, inside_so, on_ok_both, on_ok_so, nothing_then, goes_keeps, on_err, goes_then, on_err_so, changes_so, changes_then, stays_then, Stays, lists, nothing, quiet, read_so, alters, refused_keeps, lists_inside, query_keeps}
+pub use Rattle.zeb_register.proofs.Calls.{IsSilent, alters_so, changes_after, changes_none, reads_goes, store_same, inside_so, on_ok_so, nothing_then, goes_keeps, on_err, goes_then, on_err_so, changes_so, changes_then, stays_then, Stays, lists, nothing, quiet, read_so, alters, refused_keeps, lists_inside, query_keeps}
 pub use Rattle.zeb_register.proofs.CallsInTurn.{quiet_then, violated}
 pub use Rattle.zeb_register.proofs.Causes.{reasoned_after}
 pub use Rattle.zeb_register.proofs.Columns.{column_is, numbered_rows}
@@ -94,7 +94,7 @@ pub use Rattle.zeb_register.specs.PackedBlocks.{SpellsPart, IsRecordNumber, Hold
 pub use Rattle.zeb_register.specs.PackedUnits.{BlockReads, CountsAs, HasMalformed, IsBlockMalformed, IsOfBlock, IsOfKey, ReadsAs}
 pub use Rattle.zeb_register.specs.PlainRows.{key_row, register_front}
 pub use Rattle.zeb_register.specs.PrivateBetweenRows.{IsRestBetween, two_behind}
-pub use Rattle.zeb_register.specs.PrivateKeyColumns.{IsBlockOf, IsDictIn, IsOfNumbered, numbered_columns, IsRowOf, register_columns}
+pub use Rattle.zeb_register.specs.PrivateKeyColumns.{IsNumberedRow, IsDictIn, IsOfNumbered, numbered_columns, IsRowOf, register_columns}
 pub use Rattle.zeb_register.specs.PrivatePackedRows.{HoldsBlockRows, AreSpelled, IsInBlock}
 pub use Rattle.zeb_register.specs.PrivateRowStatements.{Gains, Renews}
 pub use Rattle.zeb_register.specs.PrivateRowTerms.{IsInRecord}

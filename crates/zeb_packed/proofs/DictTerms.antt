@@ -1,5 +1,5 @@
 -- Rows of `dict` as the terms of a register, whatever the rows hold.
-use Rattle.zeb_packed.proofs.Cited.{◌≡◌, ◌≢◌, ◌↔◌, ◌⊎◌, ◌∙◌, ◌+◌, ◌<◌, ◌≤◌, ◌^◌, ℕ, ℤ, pos, FitsSigned, w64, to_z, of_z, zero, suc, true, false, List, [], ◌∷◌, ◌++◌, length, get_or, map, take, drop, reverse, refl, sym, ap, ap₂, subst, inl, inr, Ordering, Less, Equal, Greater, nat_cmp, arith, length-map, length-reverse, map-append, take-append-drop, take_more, to_z-of_z, is_lt, ordering_then, slice_cmp, nat_list_cmp_total, IsUtf8, Int, Text, Row, column, row_cmp, State, as_count, limited, Has, all_from, all_has, has_either, has_mapped, mapped_has, row_cmp_total, value_cmp-Text, Register, TermCount, key_in, term_cmp, IsRestBefore, IsRestFrom, CountsTerm, count_row, first_two, IsFallingListOf, register_front, packed_blocks, IsListOf, IsRest, IsStore, store_schema, dict, dict_static, dict_tree, codes_there, code, spread, never_itself, has_at, has_taken, term_total}
+use Rattle.zeb_packed.proofs.Cited.{◌≡◌, ◌↔◌, ◌⊎◌, ◌∙◌, ◌+◌, ◌<◌, ◌≤◌, ◌^◌, ℕ, ℤ, pos, FitsSigned, w64, to_z, of_z, zero, suc, true, false, List, [], ◌∷◌, ◌++◌, length, get_or, map, take, drop, reverse, refl, sym, ap, ap₂, subst, inl, inr, Ordering, Less, Equal, Greater, nat_cmp, arith, length-map, length-reverse, map-append, take-append-drop, take_more, to_z-of_z, is_lt, ordering_then, slice_cmp, nat_list_cmp_total, IsUtf8, Int, Text, Row, column, row_cmp, State, as_count, limited, Has, all_from, all_has, has_either, has_mapped, mapped_has, row_cmp_total, value_cmp-Text, Register, TermCount, key_in, term_cmp, IsRestBefore, IsRestFrom, CountsTerm, count_row, first_two, IsFallingListOf, register_front, packed_blocks, IsListOf, IsRest, IsStore, store_schema, dict, dict_static, dict_tree, codes_there, never_itself, has_at, has_taken, term_total}
 use Rattle.sqlite.specs.Order.{value_cmp}
 use Rattle.std.specs.Cmp.{IsTotalOrder}
 use Rattle.std.specs.List.Sorted.{IsStrictlySortedBy}

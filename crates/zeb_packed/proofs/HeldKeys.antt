@@ -1,5 +1,5 @@
 -- A key that is changed beside rows of other keys, which are held.
-use Rattle.zeb_packed.proofs.Cited.{packed_blocks, ◌≡◌, ◌≢◌, ◌∙◌, ◌++◌, ℕ, ℤ, List, [], ◌∷◌, map, refl, sym, ap, subst, inl, inr, Has, Row, Trees, HasRow, blocks_tree, dict_tree, Key, Int, Blob, pos, key_row, IsDictIn, IsBlockAmong, IsBlockIn, LacksBlock, PutsUnits, RecordChange}
+use Rattle.zeb_packed.proofs.Cited.{packed_blocks, ◌≢◌, ◌∙◌, ◌++◌, ℤ, List, [], ◌∷◌, map, refl, sym, inl, inr, Has, Row, Trees, Key, Int, Blob, pos, key_row, IsDictIn, IsBlockIn, LacksBlock, PutsUnits, RecordChange}
 use Rattle.zeb_packed.proofs.HeldTables.{block_of, count_of, key_is}
 use Rattle.zeb_packed.specs.PrivateNewRows.{GainsRows, new_block_row, new_count_row}
 use Rattle.zeb_packed.specs.declared.new_rows.NewBlock.{NewBlock}

@@ -1,5 +1,5 @@
 -- Keys of a run that are changed one after the other, where the rows of some are held.
-use Rattle.zeb_packed.proofs.Cited.{packed_blocks, Answers, IfDamaged, IsStore, Ok, Err, Result, State, ◌≡◌, ◌≢◌, ◌∙◌, ◌++◌, ◌+◌, ◌<◌, ℕ, zero, suc, ℤ, List, [], ◌∷◌, ◌⊎◌, map, refl, sym, ap, subst, inl, inr, Has, has_either, has_left, has_right, Row, Trees, HasRow, blocks_tree, dict_tree, Key, RegFault, Damaged, AllByRecursion, all_from, all_has, CountsAs, IsStorableChange, IsRefusedAs, LacksBlock, PutsAny, PutsUnits, RecordChange}
+use Rattle.zeb_packed.proofs.Cited.{packed_blocks, Answers, IfDamaged, IsStore, Ok, Err, Result, State, ◌≡◌, ◌≢◌, ◌∙◌, ℤ, List, [], ◌∷◌, ◌⊎◌, map, refl, sym, subst, inl, inr, Has, has_either, has_left, has_right, Row, Trees, HasRow, blocks_tree, dict_tree, Key, RegFault, Damaged, all_from, all_has, CountsAs, IsRefusedAs, LacksBlock, PutsAny, PutsUnits, RecordChange}
 use Rattle.zeb_packed.proofs.BegunKeys.{apart_joined}
 use Rattle.zeb_packed.proofs.HeldKeys.{AreBeside, alike, lacks_before, lacks_then, puts_beside}
 use Rattle.zeb_packed.proofs.HeldTables.{block_of, count_of, gained_more, rows_are_gained, with_rows}
@@ -12,7 +12,6 @@ use Rattle.zeb_register.proofs.AlikeRows.{turns_from, alike_back}
 use Rattle.zeb_register.proofs.BlockContents.{one_key_count}
 use Rattle.zeb_register.proofs.RunTurns.{none_put, put_more, refused_first, refused_later, stands_once}
 use Rattle.zeb_register.specs.RunChanges.{IsRunRefusedAs, KeysRise, LacksLeave, PutsKeys, TurnsAny}
-use Rattle.zeb_register.specs.UnitChanges.{KeyUnits}
 use Rattle.zeb_register.specs.declared.registers.KeyChanges.{KeyChanges}
 
 -- The keys before this one are changed, or their rows held. What is left leads on as all keys do from the start.

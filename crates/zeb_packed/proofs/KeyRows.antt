@@ -1,11 +1,11 @@
 -- Which row a key has for a block, and what it spells.
-use Rattle.zeb_packed.proofs.Cited.{◌≡◌, ◌==◌, ℕ, ℤ, pos, false, not, List, [], ◌∷◌, ◌++◌, length, slice_get, None, sym, subst, Int, Text, Database, Row, Trees, Posting, Key, register_code, KeyOf, IsOfNumbered, numbered_columns, IsBlockOf, IsBlockIn, IsTold, block_key, HasRow, IsListOf, IsRest, blocks_tree, none_is}
+use Rattle.zeb_packed.proofs.Cited.{◌≡◌, ◌==◌, ℕ, ℤ, pos, false, not, List, [], ◌∷◌, ◌++◌, length, slice_get, None, sym, subst, Int, Text, Database, Row, Trees, Posting, Key, register_code, KeyOf, IsOfNumbered, numbered_columns, IsNumberedRow, IsBlockIn, IsTold, block_key, HasRow, IsListOf, IsRest, blocks_tree, none_is}
 use Rattle.zeb_packed.proofs.PackedReads.{block_front}
 
 -- ---- what a row of the key is
 
 -- a row of a block follows the key and the block
-after_block : (db idx reg : ℤ) (term : List ℕ) (block : ℤ) (row : Row) → IsBlockOf db idx reg term block row → (rest : Row) × (row ≡ block_key db idx reg term block ++ rest)
+after_block : (db idx reg : ℤ) (term : List ℕ) (block : ℤ) (row : Row) → IsNumberedRow db idx reg term block row → (rest : Row) × (row ≡ block_key db idx reg term block ++ rest)
 after_block db idx reg term block [] is = absurd (let e = is.0 in cc)
 after_block db idx reg term block (a ∷ []) is = absurd (let e = is.1 in cc)
 after_block db idx reg term block (a ∷ b ∷ []) is = absurd (let e = is.2 in cc)
@@ -36,8 +36,8 @@ absent_shown trees at stored number is rows listed none = λ row here in_it.
     none_is (IsRest blocks_tree (numbered_columns at stored) trees) rows it.0 listed none
     (subst (λ n. HasRow trees blocks_tree (numbered_columns at n ++ it.0)) (sym is) (subst (HasRow trees blocks_tree) it.1 here))
 
-pub absent_told : (db : ℤ) (key : Key) (block : ℕ) (number : ℤ) (a b : Database) → number ≡ pos block → b ≡ a → IsTold false (IsBlockOf db (pos key.index) (pos (register_code key.register)) key.term number) blocks_tree b.trees
+pub absent_told : (db : ℤ) (key : Key) (block : ℕ) (number : ℤ) (a b : Database) → number ≡ pos block → b ≡ a → IsTold false (IsNumberedRow db (pos key.index) (pos (register_code key.register)) key.term number) blocks_tree b.trees
     → IsTold false (IsBlockIn db key block) blocks_tree a.trees
 absent_told db key block number a b is same told =
-    let P = λ (n : ℤ). IsBlockOf db (pos key.index) (pos (register_code key.register)) key.term n in
+    let P = λ (n : ℤ). IsNumberedRow db (pos key.index) (pos (register_code key.register)) key.term n in
     subst (λ n. IsTold false (P n) blocks_tree a.trees) is (subst (λ (d : Database). IsTold false (P number) blocks_tree d.trees) same told)

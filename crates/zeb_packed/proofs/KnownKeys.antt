@@ -1,5 +1,5 @@
 -- A key that is changed behind a look at its count, told of the tables before the look.
-use Rattle.zeb_packed.proofs.Cited.{packed_blocks, ◌≡◌, ◌≢◌, ℕ, ℤ, Result, Ok, Err, List, [], ◌∷◌, inl, inr, refl, sym, ap, subst, Database, State, Trees, Key, RegFault, Damaged, RecordChange, AllByRecursion, IsStorableChange, OnOk, Answers, CountsAs, IsRefusedAs, IsStore, PutsUnits}
+use Rattle.zeb_packed.proofs.Cited.{packed_blocks, ◌≡◌, ◌≢◌, ℕ, ℤ, Result, Ok, Err, List, [], ◌∷◌, inr, refl, sym, ap, subst, Database, State, Trees, Key, RegFault, Damaged, RecordChange, AllByRecursion, IsStorableChange, OnOk, Answers, CountsAs, IsRefusedAs, IsStore, PutsUnits}
 use Rattle.zeb_packed.specs.PrivateNewRows.{AreBehind, BeginsKey, TurnsKey}
 use Rattle.zeb_packed.specs.declared.new_rows.NewRows.{NewRows}
 
@@ -18,12 +18,6 @@ pub known_turns : (db : ℤ) (key : Key) (changes : List RecordChange) (records 
     → (CountsAs mid.now.trees db key records → Turned db key changes mid.now.trees new before after result) → Turned db key changes old.now.trees new before after result
 known_turns db key changes records old mid new before after result same counts answers =
     subst (λ (d : Database). Turned db key changes d.trees new before after result) same (answers (subst (λ (d : Database). CountsAs d.trees db key records) (sym same) counts))
-
--- a key that was changed at once
-pub changed_turns : (db : ℤ) (key : Key) (changes : List RecordChange) (trees : Trees) (new : State) (before after : NewRows) (result : Result (Unit {0}) RegFault) → changes ≢ [] → after ≡ before → Changed db key changes trees new result → Turned db key changes trees new before after result
-changed_turns db key [] trees new before after result some same answers = absurd (some refl)
-changed_turns db key (change ∷ changes) trees new before after (Ok done) some same answers = (answers.0, inl (answers.1, same))
-changed_turns db key (change ∷ changes) trees new before after (Err fault) some same answers = answers
 
 -- a key whose rows are held
 pub held_turns : (db : ℤ) (key : Key) (changes : List RecordChange) (old new : State) (made before after : NewRows) → changes ≢ [] → new.now ≡ old.now → IsStore new → CountsAs old.now.trees db key 0 → BeginsKey key changes made → AreBehind before made after

@@ -1,5 +1,5 @@
 -- Rows of `blocks` that are put at once, each of which is the first of its block.
-use Rattle.zeb_packed.proofs.Cited.{◌≡◌, ◌∙◌, ℕ, ℤ, true, Ok, List, [], ◌∷◌, length, map, refl, sym, ap, inl, inr, AllByRecursion, Has, mapped_has, tied_itself, is_eq, Int, Insert, Values, Term, Row, column, Executes, State, rowid, value_cmp_total, command_of, IsPlain, IsStore, Changes, blocks_tree, store_schema, blocks, blocks_keys, blocks_static, single}
+use Rattle.zeb_packed.proofs.Cited.{◌≡◌, ◌∙◌, ℕ, ℤ, true, Ok, List, [], ◌∷◌, length, map, refl, sym, ap, inl, inr, AllByRecursion, mapped_has, tied_itself, is_eq, Int, Insert, Values, Term, Row, column, Executes, State, value_cmp_total, command_of, IsPlain, IsStore, Changes, blocks_tree, store_schema, blocks, blocks_keys, blocks_static, single}
 use Rattle.sqlite.specs.Listing.{understood}
 use Rattle.sqlite.specs.Order.{value_cmp}
 use Rattle.sqlite_tied.specs.Compute.{everything}

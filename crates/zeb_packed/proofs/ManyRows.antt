@@ -1,5 +1,5 @@
 -- INSERT of many rows at once, as what it makes of a table's rows.
-use Rattle.zeb_packed.proofs.Cited.{◌≡◌, ◌⊎◌, ◌↔◌, ◌∙◌, ◌/◌, ◌++◌, ◌+◌, ◌&&◌, ℕ, ℤ, zero, suc, true, false, List, [], ◌∷◌, length, map, drop, take, slice_get, Ok, Err, Result, IfOk, Some, None, inl, inr, refl, sym, ap, ap₂, subst, AllByRecursion, arith, length-append, length-map, Has, Row, column, rowid, Int, Null, Value, Schema, Table, State, Trees, Executes, ExecutesInside, Error, Database, Insert, Values, Term, lit, col, next_rowid, Chosen, command_of, IsPlain, some_from, is_eq, both_ways, HasLayout, HasRow, Changes, GoesOn, IsPlainTable, keyed_there, changed_so}
+use Rattle.zeb_packed.proofs.Cited.{◌≡◌, ◌⊎◌, ◌↔◌, ◌∙◌, ◌/◌, ◌++◌, ◌+◌, ◌&&◌, ℕ, ℤ, zero, suc, true, false, List, [], ◌∷◌, length, map, drop, take, slice_get, Ok, Err, Result, IfOk, Some, None, inl, inr, refl, sym, ap, ap₂, subst, AllByRecursion, arith, length-append, length-map, Has, Row, column, rowid, Int, Null, Value, Schema, Table, State, Trees, Executes, ExecutesInside, Error, Database, Insert, Values, Term, lit, col, next_rowid, Chosen, command_of, IsPlain, some_from, is_eq, both_ways, HasLayout, GoesOn, IsPlainTable, keyed_there}
 use Rattle.sqlite.proofs.Callers.{one_step, runs_as, statement_of}
 use Rattle.sqlite.specs.Cast.{cast_row}
 use Rattle.sqlite.specs.Does.{Does, Tally}

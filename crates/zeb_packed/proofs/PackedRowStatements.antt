@@ -1,5 +1,5 @@
 -- The statements on one row of the packed tables, each with what it is compiled to.
-use Rattle.zeb_packed.proofs.Cited.{◌≡◌, ◌∙◌, ℕ, ℤ, false, List, [], ◌∷◌, ap, ap₂, codes, drop, inl, inr, refl, sym, subst, Ok, Value, Null, Int, Text, Blob, Row, State, Executes, Shown, Select, Delete, Insert, Update, Values, Term, lit, col, reads_listing, IsPlain, command_of, block_columns, block_key, dict_columns, IsBlockOf, IsRowOf, Gains, Renews, IsListOf, Loses, Changes, IsRest, IsStore, blocks_tree, dict_tree, key_of, store_schema, IsSilent, blocks_keys, dict_keys, blocks, blocks_static, dict, dict_static, IsAfter, lists_after, list_so, Condition, alone, equals, keyed_from, no_limit, reading, shows, RemakesRows, changed_so, deletes, gains, inserts, loses, updates}
+use Rattle.zeb_packed.proofs.Cited.{◌≡◌, ◌∙◌, ℕ, ℤ, false, List, [], ◌∷◌, ap, ap₂, codes, drop, inl, inr, refl, sym, subst, Ok, Value, Null, Int, Text, Blob, Row, State, Executes, Shown, Select, Delete, Insert, Update, Values, Term, lit, col, reads_listing, IsPlain, command_of, block_columns, block_key, dict_columns, IsNumberedRow, IsRowOf, Gains, Renews, IsListOf, Loses, Changes, IsRest, IsStore, blocks_tree, dict_tree, key_of, store_schema, IsSilent, blocks_keys, dict_keys, blocks, blocks_static, dict, dict_static, IsAfter, lists_after, list_so, Condition, alone, equals, keyed_from, no_limit, reading, shows, RemakesRows, changed_so, deletes, gains, inserts, loses, updates}
 use Rattle.sqlite.specs.Listing.{understood}
 use Rattle.sqlite_tied.specs.Compute.{everything}
 
@@ -110,10 +110,10 @@ unfolding understood everything
 remove_block_plain = (refl, refl)
 
 pub removes_block : (db idx reg : ℤ) (term : List ℕ) (block : ℤ) (old new : State) (count : ℕ) → IsStore old → Executes remove_block_text (block_key db idx reg term block) old new (Ok count)
-    → Changes blocks_tree (Loses (IsBlockOf db idx reg term block)) old new
+    → Changes blocks_tree (Loses (IsNumberedRow db idx reg term block)) old new
 removes_block db idx reg term block old new count store ran =
     let key = block_key db idx reg term block in
-    loses store_schema 9 old new key block_wheres (IsBlockOf db idx reg term block) (λ id columns. (
+    loses store_schema 9 old new key block_wheres (IsNumberedRow db idx reg term block) (λ id columns. (
       λ m. (m.0, m.1.0, m.1.1.0, m.1.1.1.0, m.1.1.1.1.0),
       λ m. (m.0, (m.1, (m.2, (m.3, (m.4, tt))))),
     )) (deletes store_schema 4 blocks blocks_static remove_block_text key block_wheres remove_block_is remove_block_plain refl old new count store ran)
@@ -163,11 +163,11 @@ five_shown db idx reg term block bytes one two three four five a b c d e =
     ap₂ (λ x y. x ∷ y ∷ three ∷ four ∷ five ∷ Blob bytes ∷ []) a b ∙ ap₂ (λ x y. Int db ∷ Int idx ∷ x ∷ y ∷ five ∷ Blob bytes ∷ []) c d ∙ ap (λ x. Int db ∷ Int idx ∷ Int reg ∷ Text term ∷ x ∷ Blob bytes ∷ []) e
 
 pub sets_block : (db idx reg : ℤ) (term : List ℕ) (block : ℤ) (bytes : List ℕ) (old new : State) (count : ℕ) → IsStore old → Executes set_block_text (block_columns db idx reg term block bytes) old new (Ok count)
-    → Changes blocks_tree (Renews (IsBlockOf db idx reg term block) (block_columns db idx reg term block bytes)) old new
+    → Changes blocks_tree (Renews (IsNumberedRow db idx reg term block) (block_columns db idx reg term block bytes)) old new
 sets_block db idx reg term block bytes old new count store ran =
     let row = block_columns db idx reg term block bytes in
     let done = updates store_schema 4 blocks blocks_static set_block_text row block_wheres (col 1 0) set_block set_block_is set_block_plain refl refl refl old new count store ran in
-    changed_so store_schema 9 (RemakesRows block_wheres (col 1 0 ∷ set_block) row) (Renews (IsBlockOf db idx reg term block) row) old new (λ each there columns. (
+    changed_so store_schema 9 (RemakesRows block_wheres (col 1 0 ∷ set_block) row) (Renews (IsNumberedRow db idx reg term block) row) old new (λ each there columns. (
       λ h. elim ((each (Int h.0 ∷ columns)).0 h.1) [
         | inl kept ↦ inl ((h.0, kept.0), λ p. kept.1 (p.0, (p.1, (p.2, (p.3, (p.4, tt))))))
         | inr made ↦

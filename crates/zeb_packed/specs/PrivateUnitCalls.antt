@@ -15,7 +15,6 @@ use Rattle.zeb_blocks.specs.declared.postings.Posting.{Posting}
 use Rattle.zeb_register.specs.declared.registers.Place.{Place}
 use Rattle.zeb_register.specs.Store.{IsStore}
 use Rattle.zeb_register.specs.Answers.{Answers}
-use Rattle.zeb_register.specs.Content.{places_in}
 use Rattle.zeb_packed.specs.PrivatePackedChanges.{PutsBlock}
 use Rattle.zeb_register.specs.PackedUnits.{BlockReads, CountsAs, ReadsAs}
 use Rattle.zeb_register.specs.Formats.{packed_blocks}

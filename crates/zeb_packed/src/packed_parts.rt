@@ -48,23 +48,24 @@ impl Held {
     }
 
     /// What is held after a change of a record of the block. `Damaged` as of several.
-    fn changed(&self, change: &RecordChange<'_>) -> Result<Held, RegFault>
-        requires lies { LiesIn self.now.block self.now.list.items }
-        requires inside { IsInBlock self.now.block change.now }
+    fn changed(self, change: &RecordChange<'_>) -> Result<Held, RegFault>
+        requires lies { LiesIn self.block self.list.items }
+        requires inside { IsInBlock self.block change.now }
         requires stored { IsStorableChange change.now }
-        requires few { self.now.records ≤ 999999999 }
+        requires few { self.records ≤ 999999999 }
         ensures turned { Answers
             (IfDamaged ((are : KeyUnits)
-            → ¬ TurnsUnit packed_blocks change.now (units_of self.now.list.items self.now.records)
-            are))
-            (λ held. TurnsUnit packed_blocks change.now
-            (units_of self.now.list.items self.now.records)
+            → ¬ TurnsUnit packed_blocks change.now (units_of self.list.items self.records) are))
+            (λ held. TurnsUnit packed_blocks change.now (units_of self.list.items self.records)
             (units_of held.list.items held.records))
             result }
-        ensures lies { IfOk result (λ held. LiesIn self.now.block held.list.items) }
-        ensures block { IfOk result (λ held. held.block ≡ self.now.block) }
+        ensures lies { IfOk result (λ held. LiesIn self.block held.list.items) }
+        ensures block { IfOk result (λ held. held.block ≡ self.block) }
     {
-        let list = postings_changed(*self.list.allocator(), &self.list, change)?;
+        if self.lacks_records() {
+            return Err(RegFault::Damaged);
+        }
+        let list = postings_changed(*self.list.allocator(), self.list, change)?;
         let Some(records) = records_after(self.records, change.old, change.new) else {
             return Err(RegFault::Damaged);
         };
@@ -73,7 +74,7 @@ impl Held {
             list,
             records,
         };
-        if self.lacks_records() || held.lacks_records() {
+        if held.lacks_records() {
             return Err(RegFault::Damaged);
         }
         Ok(held)

@@ -1,5 +1,5 @@
 -- What a walk has left, where steps are put behind the others, turned round, and taken off.
-use Rattle.std.proofs.Common.{◌≡◌, ◌≢◌, ◌≤◌, ◌<◌, ◌+◌, ◌-◌, ◌*◌, ◌^◌, ℕ, Bool, true, false, List, [], ◌∷◌, ◌++◌, arith, inl, inr, map, nat_eq, reverse, suc, refl, ap, sym, subst, ◌∙◌}
+use Rattle.std.proofs.Common.{◌≡◌, ◌≤◌, ◌<◌, ◌+◌, ◌-◌, ◌*◌, ◌^◌, ℕ, Bool, true, false, List, [], ◌∷◌, ◌++◌, arith, inl, inr, map, nat_eq, reverse, suc, refl, ap, sym, subst, ◌∙◌}
 use Rattle.std.specs.Prelude.{◌⊎◌, Contains, IfErr, IfOk, IfSome, Option, None, Some, Result, Ok, Err, String, codes, string_bytes}
 use Rattle.std.specs.List.{ends_with}
 use Rattle.std.specs.declared.alloc.Global.{Global}
@@ -54,9 +54,6 @@ paths_of_dues steps = map_reversed due_path (map due_of steps) ∙ ap reverse (p
 
 parts : (a b : List ℕ) (xs ys : List (List ℕ)) → a ∷ xs ≡ b ∷ ys → (a ≡ b) × (xs ≡ ys)
 parts a b xs ys e = (cc, cc)
-
-some_is_not_none : (a : List ℕ) (xs : List (List ℕ)) → a ∷ xs ≢ []
-some_is_not_none a xs e = absurd (cc)
 
 -- what stands below a folder's path stands below what the folder stands below
 slashed_on : (folder behind : List ℕ) → (more : List ℕ) × (slashed folder ++ behind ≡ folder ++ more)
@@ -225,12 +222,6 @@ under_dues at named left result later (at_folder {here = here} {rest = others} {
     under_dues at named (dues_in here names ++ others) result later on (names_under named here names others all.0 all.1)
 under_dues at named left result later (at_fault given why refused same met) all =
     (subst (IsFaultUnder named) (sym met) (fault_under named given why (subst (IsUnder named) (sym same) all.0)), tt)
-
--- what a walk gives, and what it leaves, stands below what its paths stand below
-pub stays_under : (at : Tells) (named : List (List ℕ)) (left later : List Due) (result : Result (Option (String Global)) WalkFault) → WalksOn at left result later → AreUnder named (map (λ here. here.path) left)
-    → GivesUnder named result × IfOk result (λ _. AreUnder named (map (λ here. here.path) later))
-unfolding due_path
-stays_under at named left later result on all = under_dues at named left result later on all
 
 -- what a walk gives, and what it leaves, stands below the paths that it is of
 pub walks_under : (at : Tells) (steps later : List Step) (result : Result (Option (String Global)) WalkFault) → WalksOn at (dues_left steps) result (dues_left later) → (named : List (List ℕ)) → AreUnder named (paths_left steps)

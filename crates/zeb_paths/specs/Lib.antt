@@ -8,4 +8,5 @@ pub mod PrivateCauses
 pub mod PrivateClosings
 pub mod PrivateNames
 pub mod PrivateOpenings
+pub mod PrivateReads
 pub mod PrivateWalks

@@ -12,6 +12,7 @@ ghost use Rattle.zeb_paths.specs.Causes.{path_cause_of};
 ghost use Rattle.zeb_paths.specs.Closing.{HasReason, IsCauseMet, IsLeft};
 ghost use Rattle.zeb_paths.specs.Opened.{IsPlainPath, IsWellOpened};
 ghost use Rattle.zeb_paths.specs.PrivateClosings.{IsClosedBy};
+ghost use Rattle.zeb_paths.specs.PrivateReads.{AsksOpen};
 ghost use Rattle.zeb_paths.specs.Unread.{IsUnreadBy};
 ghost use Rattle.zeb_paths.specs.declared.disk.Progress.TheVariants.{Ended};
 
@@ -26,8 +27,8 @@ use sqlite_trees::error::StoreError;
 use sqlite_trees::store::Store;
 use std::alloc::Global;
 use std::fs::{self, Metadata};
-use std::io::{self, BufReader, Read};
-use zeb_marc::{ReadFailed, Source, passed_on};
+use std::io::{self, BufReader};
+use zeb_marc::{Ask, ReadFailed, Source};
 
 /// The file system, with paths relative to the working folder.
 #[derive(Clone, Copy)]
@@ -194,12 +195,38 @@ impl<'a> Paths for Disk<'a> {
     }
 }
 
-/// How far a file has been read.
+/// How far a file has been read, and by what where it is open.
 #[derive(Drop)]
-enum Progress {
+enum Progress<R> {
     Unopened,
-    Open(BufReader<fs::File>),
+    Open(R),
     Ended,
+}
+
+/// A file that is to be read from its beginning. Where it can't be opened it stays unopened, and its read fails.
+fn opened(rt: &HostRuntime, path: &str) -> Progress<BufReader<fs::File>>
+    ensures { result ≢ Ended }
+{
+    let Ok(file) = fs::open(rt, path) else {
+        return Progress::Unopened;
+    };
+    match BufReader::new(rt.alloc(), file) {
+        Ok(reader) => Progress::Open(reader),
+        Err(_) => Progress::Unopened,
+    }
+}
+
+/// Asks what is open for bytes once, and passes on what it answers: an error of it is a failed read, and no file's end.
+fn read_in<R: Ask>(progress: &mut Progress<R>, buffer: &mut [u8]) -> Result<usize, ReadFailed>
+    ensures bound { ReadsAtMost result buffer.new }
+    ensures asked { AsksOpen R.asks progress.old result buffer.new progress.new }
+    ensures ended { progress.old ≡ Ended → (result ≡ Ok 0) × (progress.new ≡ Ended) }
+{
+    match progress {
+        Progress::Unopened => Err(ReadFailed),
+        Progress::Open(reader) => reader.ask(buffer),
+        Progress::Ended => Ok(0),
+    }
 }
 
 /// The bytes of a file, which is opened at the first read and closed at its end or where a read fails. The line of its tally ends where
@@ -208,7 +235,7 @@ pub struct FileReader<'a> {
     rt: &'a HostRuntime,
     tally: Option<&'a Tally<'a>>,
     path: String,
-    progress: Progress,
+    progress: Progress<BufReader<fs::File>>,
     failed: bool,
 }
 
@@ -230,20 +257,16 @@ impl Drop for FileReader<'_> {
 impl FileReader<'_> {
     /// Reads into the buffer, from the file's beginning at the first call. Behind its end the file isn't opened anew: no byte of it is
     /// given twice.
-    fn read_on(&mut self, buffer: &mut [u8]) -> io::Result<usize>
+    fn read_on(&mut self, buffer: &mut [u8]) -> Result<usize, ReadFailed>
         ensures bound { ReadsAtMost result buffer.new }
         ensures failed { self.new.failed ≡ self.old.failed }
         ensures end { result ≡ Ok 0 → buffer.new ≢ [] → self.new.progress ≡ Ended }
         ensures ended { self.old.progress ≡ Ended → (result ≡ Ok 0) × (self.new ≡ self.old) }
     {
         if let Progress::Unopened = self.progress {
-            let file = fs::open(self.rt, self.path.as_str())?;
-            self.progress = Progress::Open(BufReader::new(self.rt.alloc(), file)?);
+            self.progress = opened(self.rt, self.path.as_str());
         }
-        let count = match &mut self.progress {
-            Progress::Open(reader) => reader.read(buffer)?,
-            _ => 0,
-        };
+        let count = read_in(&mut self.progress, buffer)?;
         if count == 0 && !buffer.is_empty() {
             self.progress = Progress::Ended;
         }
@@ -262,7 +285,7 @@ impl Source for FileReader<'_> {
         if self.failed {
             return Err(ReadFailed);
         }
-        match passed_on(self.read_on(buffer)) {
+        match self.read_on(buffer) {
             Ok(count) => {
                 if let Some(tally) = self.tally {
                     tally.pass(&buffer[..count]);

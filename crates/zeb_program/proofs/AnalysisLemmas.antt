@@ -57,12 +57,12 @@ module _ (tells : List ℕ → Option (List ℕ)) (profile : List Directive) (li
 
   module _ (walked : List (List ℕ)) (next : ℕ) (lines : Result AnalysedLines Refusal) (unmarked : List Place) (left later : List (List ℕ)) (read : IsRead tells profile limit named walked next lines unmarked left) where
     -- one file more
-    pub goes_on : (path : String Global) (content : Vec ℕ Global) (text marked : List ℕ) (newer : Result AnalysedLines Refusal) (others : List Place)
+    pub goes_on : (path : String Global) (content : Vec ℕ Global) (text marked : List ℕ) (newer : Result AnalysedLines Refusal) (others : List Place) (behind : ℕ)
         → GivesNext tells left later (Ok (Some path)) → Ends left (Ok (Some path)) → ReadsContent (tells (string_bytes path)) path (Ok content) → text ≡ content.items → marked ≡ content.items
         → ((texts : List (List ℕ)) → next ≡ length texts + 1 → HasLines profile limit texts lines → HasLines profile limit (texts ++ text ∷ []) newer)
-        → others ≡ unmarked ++ unmarked_from next 1 (split_of marked).slices
-        → IsRead tells profile limit named (walked ++ string_bytes path ∷ []) (next + 1) newer others later
-    goes_on path content text marked newer others gives ended reads same alike adds noted =
+        → others ≡ unmarked ++ unmarked_from next 1 (split_of marked).slices → behind ≡ next + 1
+        → IsRead tells profile limit named (walked ++ string_bytes path ∷ []) behind newer others later
+    goes_on path content text marked newer others behind gives ended reads same alike adds noted counted =
         let contents = read.contents ++ content ∷ [] in
         let texts = texts_of read.contents in
         let count : next ≡ length texts + 1 = omega (arith, read.number, length-map read.contents (λ (content : Vec ℕ Global). content.items)) in
@@ -70,7 +70,7 @@ module _ (tells : List ℕ → Option (List ℕ)) (profile : List Directive) (li
         let all : texts ++ text ∷ [] ≡ texts_of contents = ap (λ it. texts ++ it ∷ []) same ∙ sym (map-append (λ (content : Vec ℕ Global). content.items) read.contents (content ∷ [])) in
         record {
           contents = contents;
-          number = omega (arith, read.number, length-append read.contents (content ∷ []));
+          number = omega (arith, read.number, counted, length-append read.contents (content ∷ []));
           short = more_short read.contents contents content read.short reads.0 refl;
           lines_are = subst (λ these. HasLines profile limit these newer) all (adds texts count read.lines_are);
           unmarked_are =

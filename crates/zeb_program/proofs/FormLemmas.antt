@@ -1,5 +1,5 @@
 -- The form of a file, by its first three bytes.
-use Rattle.zeb_program.proofs.Cited.{◌≡◌, ◌≤◌, ◌∙◌, ℕ, Bool, true, false, List, [], ◌∷◌, ◌++◌, Option, Some, None, Result, Ok, Err, IfOk, length, refl, ap, subst, sym, arith, Consumes, IsAtEnd, AllocError}
+use Rattle.zeb_program.proofs.Cited.{◌≡◌, ◌≤◌, ◌∙◌, ℕ, Bool, false, List, [], ◌∷◌, ◌++◌, Option, Some, None, Result, Ok, Err, IfOk, length, refl, ap, subst, sym, arith, Consumes, IsAtEnd, AllocError}
 use Rattle.zeb_program.specs.Forms.{IsFormOf, form_of}
 use Rattle.zeb_program.specs.declared.forms.Form.{Form}
 

@@ -30,9 +30,11 @@ pub mod ShellTextLemmas
 pub mod StatusLemmas
 pub mod StopLemmas
 pub mod TaskLemmas
+pub mod ToldLemmas
 pub mod WarningLemmas
 pub mod WholeLineLemmas
 pub mod WordAnswerLemmas
 pub mod WordRunLemmas
 pub mod WordLemmas
+pub mod WrittenLemmas
 pub mod ResultValues

@@ -1,5 +1,5 @@
 -- What is written for a command, a change by a path and a line is their answer on any tables.
-use Rattle.zeb_program.proofs.Cited.{◌≡◌, arith, inl, inr, ℕ, Bool, false, List, [], ◌∷◌, ◌++◌, Vec, ap, map, refl, subst, sym, ◌≢◌, Option, Some, Result, Ok, Err, IfErr, IfOk, OnErr, OnOk, String, string_bytes, AllocError, Global, Appends, Held, state, State, Survives, Ghosts, Trees, Directive, ChangesNothing, Format, version_of, Conditions, Refusal, Damaged, Store, Kind, Limits, Holdings, name_bytes, HasLines, IsAnalysed, answer_of, CommandLasts, CommitsBy, Endures, refusal_text, reply_text, TakesFiles, ServesBy, ServesCommand, Command, Reply, Fault, Line, PathChange, ChangesBy, Writes, AreShort, AnalysesOver, CommandOver, LeavesAlone, LineOver, PathOver, PathsLast, PathsLeave, PathsOver, SaysOver, ServesOver, TaskOver, AreTold, Says, Status, Answered, refusal_status}
+use Rattle.zeb_program.proofs.Cited.{◌≡◌, arith, inl, inr, ℕ, Bool, false, List, [], ◌∷◌, ◌++◌, Vec, ap, map, refl, subst, sym, ◌≢◌, Option, Some, Result, Ok, Err, IfErr, IfOk, OnErr, OnOk, String, string_bytes, AllocError, Global, Appends, Held, state, State, Survives, Ghosts, Trees, Directive, ChangesNothing, Format, version_of, Conditions, Refusal, Damaged, Store, Kind, Limits, Holdings, name_bytes, HasLines, IsAnalysed, answer_of, CommandLasts, CommitsBy, Endures, refusal_text, reply_text, TakesFiles, ServesBy, ServesCommand, Command, Reply, Fault, Line, PathChange, ChangesBy, Writes, AnalysesOver, CommandOver, LeavesAlone, LineOver, PathOver, PathsLast, PathsLeave, PathsOver, SaysOver, ServesOver, TaskOver, AreTold, Says, Status, Answered, refusal_status}
 use Rattle.sqlite.proofs.StateLemmas.{survives_weaker}
 use Rattle.zeb_change.specs.Reading.{NoneFailed}
 use Rattle.zeb_image.specs.Image.{Keeps}
@@ -14,13 +14,13 @@ use Rattle.zeb_program.specs.declared.tasks.Task.TheVariants.{Ask, Change, Analy
 use Rattle.zeb_program.specs.FaultLines.{TellsFault}
 use Rattle.zeb_program.specs.PrivateFaults.{IsUnread, IsUnreadAt}
 use Rattle.zeb_program.specs.FaultAnswers.{GivesAnswer, IsUnreadable, NamesUntold, Reaches}
-use Rattle.zeb_program.specs.OverTables.{AreFilesOf, ChangesOver, IsAnalysisOver}
+use Rattle.zeb_program.specs.OverTables.{AreFilesOf, ChangesOver, IsAnalysisOver, IsUntoldNth}
 use Rattle.zeb_program.specs.PrivateAnalyses.{ReadsFiles}
-use Rattle.zeb_program.specs.WalkedFiles.{FindsFiles}
+use Rattle.zeb_program.specs.WalkedFiles.{FindsAll, FindsFiles}
 use Rattle.zeb_program.specs.declared.analyses.AnalysedFiles.{AnalysedFiles}
-use Rattle.zeb_change.specs.declared.refusals.Refusal.TheVariants.{Memory as OutOfMemory}
+use Rattle.zeb_change.specs.declared.refusals.Refusal.TheVariants.{Memory as OutOfMemory, ReadFault}
 use Rattle.zeb_paths.specs.Walks.{Tells}
-use Rattle.std.specs.Prelude.{◌⊎◌}
+use Rattle.std.specs.Prelude.{◌⊎◌, MatchResult}
 
 -- where nothing is done nothing changes
 pub still : (s : State) → ChangesNothing s s
@@ -56,11 +56,32 @@ abbrev pub given : Result Reply Refusal → Result Reply Fault
 given (Ok reply) = Ok reply
 given (Err refusal) = Err (fault.Refused refusal)
 
-gives : (P : Result Reply Refusal → Type 0) (r : Result Reply Refusal) → P r → GivesAnswer P (given r)
+pub gives : (P : Result Reply Refusal → Type 0) (r : Result Reply Refusal) → P r → GivesAnswer P (given r)
 gives P (Ok reply) p = p
 gives P (Err refusal) p = p
 
-given_refused : (P : Type 0) (r : Result Reply Refusal) → OnErr r P → OnErr (given r) P
+-- an answer that is passed on as it is
+passed : (r : Result Reply Refusal) (told : Result Reply Fault) → MatchResult r (λ reply. told ≡ Ok reply) (λ refusal. told ≡ Err (fault.Refused refusal)) → told ≡ given r
+passed (Ok reply) told is = is
+passed (Err refusal) told is = is
+
+pub as_given : (P : Result Reply Fault → Type 0) (r : Result Reply Refusal) (told : Result Reply Fault) → MatchResult r (λ reply. told ≡ Ok reply) (λ refusal. told ≡ Err (fault.Refused refusal)) → P (given r) → P told
+as_given P r told is so = subst P (sym (passed r told is)) so
+
+-- it tells of no path
+pub given_read : (r : Result Reply Refusal) → IfErr (given r) (λ why. ¬ IsUnread why)
+given_read (Ok reply) = tt
+given_read (Err refusal) = λ unread. unread
+
+pub given_still : (P : Type 0) (r : Result Reply Refusal) → IfErr (given r) (λ why. IsUnread why → P)
+given_still P (Ok reply) = tt
+given_still P (Err refusal) = λ unread. absurd unread
+
+pub given_reaches : (at : Tells) (Whole : Type 0) (named : List (List ℕ)) (r : Result Reply Refusal) → FindsAll at named → Reaches at Whole named (given r)
+given_reaches at Whole named (Ok reply) found = found
+given_reaches at Whole named (Err refusal) found = tt
+
+pub given_refused : (P : Type 0) (r : Result Reply Refusal) → OnErr r P → OnErr (given r) P
 given_refused P (Ok reply) p = p
 given_refused P (Err refusal) p = p
 
@@ -80,6 +101,10 @@ damaged : (r : Result Reply Refusal) → given r ≡ Err (fault.Refused Damaged)
 damaged (Ok reply) is = absurd (cc is)
 damaged (Err refusal) is = cc is
 
+blamed : (r : Result Reply Refusal) (file : ℕ) → given r ≡ Err (fault.Refused (ReadFault file)) → r ≡ Err (ReadFault file)
+blamed (Ok reply) file is = absurd (cc is)
+blamed (Err refusal) file is = cc is
+
 -- files that are told, where a walk gives just the named paths
 pub told_either : (at : Tells) (paths files : List (List ℕ)) → AreFilesOf at paths paths files → AreTold at.bytes paths files
 told_either at paths files (inl known) = known
@@ -92,18 +117,20 @@ module _ (at : Tells) (format : Format) (profile : List Directive) (kind : Kind)
       → GoesByTexts (version_of format) profile s r
       → ((texts : List (List ℕ)) → map remaining before ≡ map Some texts → NoneFailed has_failed after → ChangesReady (version_of format) profile kind limits name texts s r)
       → (r ≡ Err Damaged → (held : Holdings) → ¬ Keeps s held)
+      → ((file : ℕ) → r ≡ Err (ReadFault file) → IsUntoldNth at.bytes walked file)
       → PathsOver at format profile kind limits name paths walked s (given r)
-  changed_over remaining has_failed before after r all ready elder honest = record {
+  changed_over remaining has_failed before after r all ready elder honest blames = record {
     ready = inr (gives (GoesByTexts (version_of format) profile s) r ready);
     changes = λ files known. let tell = all files known in gives (ChangesReady (version_of format) profile kind limits name files s) r (elder files tell.0 tell.1);
     untold = given_untold at.bytes r;
     honest = λ is. honest (damaged r is);
+    blames = λ file is. blames file (blamed r file is);
   }
 
   -- a path couldn't be read, or memory ran out in the program itself
   unread_over : (why : Fault) → IsUnread why → NamesUntold at.bytes why → ((files : List (List ℕ)) → AreFilesOf at paths walked files → why ≡ fault.Memory) → PathsOver at format profile kind limits name paths walked s (Err why)
-  unread_over (fault.Unreadable path) unread untold memory = record { ready = inl tt; untold = untold; changes = λ files known. absurd (cc (memory files known)); honest = λ is. absurd (cc is) }
-  unread_over fault.Memory unread untold memory = record { ready = inr tt; untold = tt; changes = λ files known. tt; honest = λ is. absurd (cc is) }
+  unread_over (fault.Unreadable path) unread untold memory = record { ready = inl tt; untold = untold; changes = λ files known. absurd (cc (memory files known)); honest = λ is. absurd (cc is); blames = λ file is. absurd (cc is) }
+  unread_over fault.Memory unread untold memory = record { ready = inr tt; untold = tt; changes = λ files known. tt; honest = λ is. absurd (cc is); blames = λ file is. absurd (cc is) }
   unread_over _ unread untold memory = absurd unread
 
 -- what is left of the tables

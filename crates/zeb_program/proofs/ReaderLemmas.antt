@@ -1,11 +1,13 @@
 -- How far the files at some paths have come, of which readers or contents are made.
-use Rattle.std.proofs.Common.{◌≡◌, ◌≢◌, ◌≤◌, ◌∙◌, ◌-◌, ◌+◌, inl, inr, Bool, true, false, ℕ, List, [], ◌∷◌, ◌++◌, Vec, ap, append_assoc, arith, length, map, refl, subst, sym}
-use Rattle.std.specs.Prelude.{◌⊎◌, ◌||◌, IfErr, IfOk, IfSome, Option, Some, None, Result, Ok, Err, String, if◌then◌else◌, string_bytes}
+use Rattle.std.proofs.Common.{◌≡◌, ◌≢◌, ◌<◌, ◌≤◌, ◌∙◌, ◌-◌, ◌+◌, inl, inr, Bool, true, false, ℕ, zero, suc, List, [], ◌∷◌, ◌++◌, Vec, ap, append_assoc, arith, length, map, refl, subst, sym}
+use Rattle.std.specs.Prelude.{◌⊎◌, ◌||◌, IfErr, IfOk, IfSome, slice_index_or, Option, Some, None, Result, Ok, Err, String, if◌then◌else◌, string_bytes}
 use Rattle.std.specs.declared.alloc.AllocError.{AllocError}
 use Rattle.std.specs.declared.alloc.Global.{Global}
 use Rattle.std.proofs.lemmas.List.{append-nil, map-append}
-use Rattle.zeb_change.specs.Reading.{NoneFailed, StayAble}
-use Rattle.zeb_program.specs.OverTables.{AreFilesOf}
+use Rattle.zeb_change.specs.Reading.{BlamesFailed, NoneFailed, StayAble}
+use Rattle.zeb_change.specs.declared.refusals.Refusal.{Refusal}
+use Rattle.zeb_change.specs.declared.refusals.Refusal.TheVariants.{ReadFault}
+use Rattle.zeb_program.specs.OverTables.{AreFilesOf, IsUntoldNth}
 use Rattle.zeb_program.specs.PrivateFiles.{IsGiven, ReadsBelow, ReadsContent, sure_bytes}
 use Rattle.zeb_program.specs.TaskAnswers.{AreTold}
 use Rattle.zeb_program.specs.WalkedFiles.{FindsNthFile, WalksFrom, WalksOver}
@@ -169,6 +171,38 @@ module _ {R : Type 0} (remaining : R → Option (List ℕ)) (may_fail has_failed
       let behind : map remaining xs ≡ map Some files = more.0 in
       (cc, ((able.0 is.0).1 ∙ is.1, more.1))
 
+  -- one that has failed at the end is the reader of a file whose bytes aren't told
+  nth_untold : (told : List ℕ → Option (List ℕ)) (before after : List R) (walked : List (List ℕ)) (index : ℕ) (reader : R) → map (sure_bytes remaining may_fail has_failed) before ≡ map told walked
+      → StayAble may_fail has_failed before after → index < length after → reader ≡ slice_index_or after index reader → has_failed reader ≡ true → IsUntoldNth told walked (index + 1)
+  nth_untold told [] [] walked index reader e able within there broken = absurd (omega (arith, within))
+  nth_untold told [] (y ∷ ys) walked index reader e able within there broken = absurd able
+  nth_untold told (x ∷ xs) [] walked index reader e able within there broken = absurd able
+  nth_untold told (x ∷ xs) (y ∷ ys) [] index reader e able within there broken = absurd cc
+  nth_untold told (x ∷ xs) (y ∷ ys) (path ∷ walked) zero reader e able within there broken = (
+    [],
+    walked,
+    path,
+    refl,
+    refl,
+    λ bytes known.
+        let first : sure_bytes remaining may_fail has_failed x ≡ told path = cc in
+        let is = one_sure (may_fail x) (has_failed x) (remaining x) bytes (first ∙ known) in
+        let sound : has_failed y ≡ false = (able.0 is.0).1 ∙ is.1 in
+        let same : has_failed reader ≡ has_failed y = ap has_failed there in
+        let bad : true ≡ false = sym broken ∙ same ∙ sound in
+        cc,
+  )
+  nth_untold told (x ∷ xs) (y ∷ ys) (path ∷ walked) (suc index) reader e able within there broken =
+      let rest : map (sure_bytes remaining may_fail has_failed) xs ≡ map told walked = cc in
+      let more = nth_untold told xs ys walked index reader rest able.1 (omega (arith, within)) there broken in
+      (path ∷ more.0, more.1, more.2, ap (λ behind. path ∷ behind) more.3, omega (arith, more.4), more.5)
+
+  pub blamed_untold : {T : Type 0} (told : List ℕ → Option (List ℕ)) (before after : List R) (walked : List (List ℕ)) (r : Result T Refusal) → map (sure_bytes remaining may_fail has_failed) before ≡ map told walked
+      → StayAble may_fail has_failed before after → BlamesFailed has_failed after r → (file : ℕ) → r ≡ Err (ReadFault file) → IsUntoldNth told walked file
+  blamed_untold told before after walked r e able blames file is =
+      let at = blames file is in
+      subst (IsUntoldNth told walked) (sym at.numbered) (nth_untold told before after walked at.index at.reader e able at.within at.there at.failed)
+
 -- contents that have the bytes of files are these
 pub same_contents : (contents : List (Vec ℕ Global)) (files : List (List ℕ)) → map (λ content. Some content.items) contents ≡ map Some files → map (λ content. content.items) contents ≡ files
 same_contents [] [] e = refl
@@ -181,9 +215,6 @@ same_contents (one ∷ contents) (file ∷ files) e =
     cc
 
 -- ---- contents that aren't too long
-
-pub none_short : (contents : List (Vec ℕ Global)) → contents ≡ [] → AreShort (map (λ content. content.items) contents)
-none_short contents none = subst (λ all. AreShort (map (λ content. content.items) all)) (sym none) tt
 
 short_behind : (contents : List (Vec ℕ Global)) (one : Vec ℕ Global) → AreShort (map (λ content. content.items) contents) → length one.items ≤ 16777216 → AreShort (map (λ content. content.items) (contents ++ one ∷ []))
 short_behind [] one all short = (short, tt)

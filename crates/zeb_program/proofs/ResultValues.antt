@@ -1,9 +1,5 @@
 -- A result of which the value is taken, or another one in its place; and what is made of a value.
-use Rattle.zeb_program.proofs.Cited.{◌≡◌, ◌∙◌, ap, refl, subst, sym, Option, Some, Result, Ok, Err, IfErr, IfOk, IsErrAnd, MatchResult, OnErr, result_unwrap_or}
-
-pub unwrapped : {T E : Type 0} (r : Result T E) (P : T → Type 0) (other : T) → IfOk r P → OnErr r (P other) → P (result_unwrap_or r other)
-unwrapped (Ok value) P other ok err = ok
-unwrapped (Err fault) P other ok err = err
+use Rattle.zeb_program.proofs.Cited.{◌≡◌, ◌∙◌, ap, refl, subst, sym, Option, Some, Result, Ok, Err, IfErr, IfOk, IsErrAnd, MatchResult}
 
 -- what is said of a value, and of one that is made of it
 pub made_of : {T E V F : Type 0} (from : Result T E) (to : Result V F) (P : T → Type 0) (Q : T → V → Type 0) (R : V → Type 0) (why : E → F)

@@ -1,5 +1,5 @@
 -- The answers of a script, at each of its ends.
-use Rattle.zeb_program.proofs.Cited.{◌≡◌, ◌≤◌, ◌+◌, ◌<◌, length, ℕ, Bool, false, true, List, [], ◌∷◌, ◌++◌, inl, inr, refl, sym, ap, subst, ◌∙◌, arith, Option, Some, None, Result, Ok, Err, IfOk, IfNone, IfSome, IsOk, OnErr, string_bytes, string_len, IsUtf8-string_bytes, AllocError, Appends, Keeps, Held, Ghosts, State, Line, Remark, Order, Path, Mark, Bad, Conditions, Holdings, nothing_yet, Refusal, refusal_text, Directive, IsInput, DividesAt, HasNoDivider, Writes, AnswersBatch, AnswersPart, EachLine, no_lines, more, after_first_line, Format, LineOver, LinesOver, LeadsOn, Status, EndsWith, fault_status, refusal_status, status_code, Answered, Failed}
+use Rattle.zeb_program.proofs.Cited.{◌≡◌, ◌≤◌, ◌<◌, length, ℕ, Bool, false, true, List, [], ◌∷◌, ◌++◌, inl, inr, refl, sym, ap, subst, ◌∙◌, arith, Option, Some, None, Result, Ok, Err, IfOk, IfNone, IfSome, IsOk, OnErr, string_bytes, string_len, IsUtf8-string_bytes, AllocError, Appends, Keeps, Held, file_state, over_files, Ghosts, Conditions, Holdings, nothing_yet, Refusal, refusal_text, Directive, IsInput, DividesAt, HasNoDivider, Writes, AnswersBatch, AnswersPart, EachLine, Format, LineOver, LinesOver, LeadsOn, Status, EndsWith, fault_status, refusal_status, status_code, Answered, Failed}
 use Rattle.std.specs.Prelude.{◌⊎◌, ◌==◌}
 use Rattle.std.specs.declared.string.String.{String}
 use Rattle.zeb_program.specs.declared.input.TheConstants.{GREATEST_INPUT}
@@ -11,11 +11,9 @@ use Rattle.zeb_program.specs.declared.program.ScriptEnd.{ScriptEnd}
 use Rattle.zeb_program.specs.PrivateEnding.{AnswersAs}
 use Rattle.zeb_program.specs.FaultAnswers.{IsOpeningFailure}
 use Rattle.zeb_paths.specs.Walks.{Tells}
-use Rattle.sqlite.specs.Held.{state}
+use Rattle.zeb_register.specs.Formats.{packed_blocks}
 use Rattle.zeb_program.specs.Doing.{RunsText, StopsPart}
-use Rattle.zeb_program.specs.ScriptAnswers.{AnswersScript, EndsEarly, EndsScript, unreadable, faulty, alone, ran, stopped, silent, AreScriptConditions, AnswersOpened, AnswersStopped, PartFromNothing, RunsFromNothing, IsUnopened, IsProfileOf, TellsAtMost, fault_line, hint_of}
-use Rattle.zeb_program.specs.OverTables.{LinesWritten, SaysOver, SaysWritten}
-use Rattle.zeb_program.specs.PrivateServing.{HoldsNothing}
+use Rattle.zeb_program.specs.ScriptAnswers.{AnswersScript, EndsEarly, EndsScript, unreadable, faulty, alone, ran, stopped, silent, AreScriptConditions, AnswersOpened, AnswersStopped, HoldsNothing, MemoryConnection, PartFromNothing, RunsFromNothing, IsUnopened, IsProfileOf, TellsAtMost, fault_line, hint_of}
 use Rattle.zeb_program.specs.FixedLines.{expected_line, starved_line, unreadable_line, refusal_line}
 use Rattle.zeb_program.proofs.AnswerLemmas.{Appends-nil}
 use Rattle.std.proofs.lemmas.Str.{IsUtf8-nil}
@@ -30,35 +28,22 @@ pub refused_opening : (at : Tells) (failed : Bool) (old new : Option (List ℕ))
 refused_opening at failed old new directives n batch refusal (Err e) is h = h
 refused_opening at failed old new directives n batch refusal (Ok status) is h = λ sound. let w = h sound in inr (w.0, unopened refusal w.0 status is w.1, w.2)
 
--- what is written for a line
-written_line : (at : Tells) (format : Format) (c : Conditions) (number : ℕ) (line : Line) (old : State) (bytes : List ℕ) (status : Status) (new : State) → SaysOver at format c number line old bytes status new → SaysWritten at number line bytes status
-written_line at format c number Remark old bytes status new over = (over.0, over.1)
-written_line at format c number (Order command) old bytes status new over = (over.0, over.1, over.2)
-written_line at format c number (Path change) old bytes status new over = (over.0, over.1, over.2)
-written_line at format c number (Mark text) old bytes status new over = (over.0, over.1)
-written_line at format c number Bad old bytes status new over = (over.0, over.1)
-
-lines_written : {S : Type 0} (g : Ghosts S) (at : Tells) (format : Format) (c : Conditions) (n : ℕ) (text : List ℕ) (old : Held S) (bytes : List ℕ) (status : Status) (rest : List ℕ) (new : Held S)
-    → EachLine (LineOver g at format c) n text old bytes status rest new → LinesWritten at n text bytes status rest
-lines_written g at format c n text old bytes status rest new no_lines = no_lines
-lines_written g at format c n text old bytes status rest new (more {here = here} {there = there} {status = top} {greatest = greatest} {next = next} some answer later) =
-    more {next = tt} some (answer.0, answer.1, written_line at format c (n + 1) answer.0 (state g old) here top (state g next) answer.2)
-    (lines_written g at format c (n + 1) (after_first_line text) next there greatest rest new later)
-
 -- a register that holds nothing yet answers the lines
-pub run_from_nothing : {S : Type 0} (g : Ghosts S) (at : Tells) (format : Format) (c : Conditions) (directives : List Directive) (old new : Held S) (wrote writes : Option (List ℕ)) (n : ℕ) (batch : List ℕ) (failed : Bool) (Clean : Type 0) (r : Result Status AllocError)
-    → AreScriptConditions directives c → HoldsNothing (state g old) → Clean
-    → IfOk r (λ status. failed ≡ false → Clean → LeadsOn (state g old) (state g new) wrote writes (λ before bytes last. AnswersBatch at.bytes c n batch before bytes status last))
-    → IfOk r (λ status. failed ≡ false → Clean → Writes wrote writes (λ bytes. LinesOver g at format c n batch old bytes status new))
+pub run_from_nothing : (at : Tells) (c : Conditions) (directives : List Directive) (first last : MemoryConnection) (wrote writes : Option (List ℕ)) (n : ℕ) (batch : List ℕ) (failed : Bool) (Clean : Type 0) (r : Result Status AllocError)
+    → AreScriptConditions directives c → HoldsNothing (file_state first) → Clean
+    → IfOk r (λ status. failed ≡ false → Clean → LeadsOn (file_state first) (file_state last) wrote writes (λ before bytes held. AnswersBatch at.bytes c n batch before bytes status held))
+    → IfOk r (λ status. failed ≡ false → Clean → Writes wrote writes (λ bytes. LinesOver over_files at packed_blocks c n batch first bytes status last))
     → IfOk r (λ status. failed ≡ false → RunsFromNothing at directives n batch wrote writes status)
-run_from_nothing g at format c directives old new wrote writes n batch failed Clean (Err e) under empty clean h over = h
-run_from_nothing g at format c directives old new wrote writes n batch failed Clean (Ok status) under empty clean h over = λ sound.
+run_from_nothing at c directives first last wrote writes n batch failed Clean (Err e) under empty clean h over = h
+run_from_nothing at c directives first last wrote writes n batch failed Clean (Ok status) under empty clean h over = λ sound.
     let w = h sound clean (Some nothing_yet) empty.1 in
-    let o = over sound clean in
     record {
       c = c;
       under = under;
-      each = (o.0, lines_written g at format c n batch old o.0 status [] new o.1, o.2);
+      first = first;
+      last = last;
+      empty = empty;
+      each = over sound clean;
       answers = (w.2.0, (w.0, w.2.1), w.2.2);
     }
 
@@ -68,19 +53,22 @@ pub opened_batch : (at : Tells) (directives : List Directive) (wrote writes : Op
 opened_batch at directives wrote writes n batch failed (Err e) h = h
 opened_batch at directives wrote writes n batch failed (Ok status) h = λ sound. inl (h sound)
 
-pub stopped_batch : {S : Type 0} (g : Ghosts S) (at : Tells) (format : Format) (c : Conditions) (directives : List Directive) (old new : Held S) (wrote writes : Option (List ℕ)) (n : ℕ) (batch : List ℕ) (failed : Bool) (Clean : Type 0) (r : Result Status AllocError)
-    → AreScriptConditions directives c → HoldsNothing (state g old) → Clean
-    → OnErr r (failed ≡ false → Clean → StopsPart g at format c n batch wrote writes old new)
+pub stopped_batch : (at : Tells) (c : Conditions) (directives : List Directive) (first last : MemoryConnection) (wrote writes : Option (List ℕ)) (n : ℕ) (batch : List ℕ) (failed : Bool) (Clean : Type 0) (r : Result Status AllocError)
+    → AreScriptConditions directives c → HoldsNothing (file_state first) → Clean
+    → OnErr r (failed ≡ false → Clean → StopsPart over_files at packed_blocks c n batch wrote writes first last)
     → OnErr r (failed ≡ false → AnswersStopped at directives n batch wrote writes)
-stopped_batch g at format c directives old new wrote writes n batch failed Clean (Ok status) under empty clean h = tt
-stopped_batch g at format c directives old new wrote writes n batch failed Clean (Err e) under empty clean h = λ sound.
+stopped_batch at c directives first last wrote writes n batch failed Clean (Ok status) under empty clean h = tt
+stopped_batch at c directives first last wrote writes n batch failed Clean (Err e) under empty clean h = λ sound.
     let part = h sound clean in
     let w = part.first.answers (Some nothing_yet) empty.1 in
     let o = part.first.over in
     inl (record {
       c = c;
       under = under;
-      each = (o.0, (o.1.0, part.rest, part.some, lines_written g at format c n batch old o.0 o.1.0 part.rest part.last o.1.1), o.2);
+      first = first;
+      last = part.last;
+      empty = empty;
+      each = (o.0, (o.1.0, part.rest, part.some, o.1.1), o.2);
       answers = (w.0, (w.1.0, part.rest, w.1.1, part.some, w.1.2), w.2);
     })
 
@@ -128,11 +116,6 @@ pub stopped_script : (at : Tells) (old new : Option (List ℕ)) (text profile ba
 stopped_script at old new text profile batch directives n failed (Ok status) input divides given answer = answer
 stopped_script at old new text profile batch directives n failed (Err e) input divides given answer = λ sound. stopped input divides given (answer sound)
 
--- what is so of the text that was read is so of the one that is told
-pub told_text : (told : Option (List ℕ)) (read : List ℕ) (P : List ℕ → Type 0) → IfSome told (λ text. read ≡ text) → P read → IfSome told P
-told_text None read P is so = tt
-told_text (Some text) read P is so = subst P is so
-
 -- an input that is too long or no text has a byte
 unread_is_long : (text : List ℕ) → ¬ IsInput text → false ≡ (length text == 0)
 unread_is_long [] long = absurd (long (omega arith, IsUtf8-nil))
@@ -171,15 +154,21 @@ pub RunsFromNothing-kept : (at : Tells) (directives : List Directive) (n : ℕ) 
 RunsFromNothing-kept at directives n batch old mid new status kept w = record {
   c = w.c;
   under = w.under;
-  each = Writes-kept old mid new (λ bytes. LinesWritten at n batch bytes status []) kept w.each;
-  answers = Writes-kept old mid new (λ bytes. (last : Option Holdings) × AnswersBatch at.bytes w.c n batch (Some nothing_yet) bytes status last) kept w.answers;
+  first = w.first;
+  last = w.last;
+  empty = w.empty;
+  each = Writes-kept old mid new (λ bytes. LinesOver over_files at packed_blocks w.c n batch w.first bytes status w.last) kept w.each;
+  answers = Writes-kept old mid new (λ bytes. (held : Option Holdings) × AnswersBatch at.bytes w.c n batch (Some nothing_yet) bytes status held) kept w.answers;
 }
 
 PartFromNothing-kept : (at : Tells) (directives : List Directive) (n : ℕ) (batch : List ℕ) (old mid new : Option (List ℕ)) → Keeps mid new → PartFromNothing at directives n batch old mid → PartFromNothing at directives n batch old new
 PartFromNothing-kept at directives n batch old mid new kept w = record {
   c = w.c;
   under = w.under;
-  each = Writes-kept old mid new (λ bytes. (status : Status) × (rest : List ℕ) × (0 < length rest) × LinesWritten at n batch bytes status rest) kept w.each;
+  first = w.first;
+  last = w.last;
+  empty = w.empty;
+  each = Writes-kept old mid new (λ bytes. (status : Status) × (rest : List ℕ) × (0 < length rest) × EachLine (LineOver over_files at packed_blocks w.c) n batch w.first bytes status rest w.last) kept w.each;
   answers = Writes-kept old mid new (AnswersPart at.bytes w.c n batch (Some nothing_yet)) kept w.answers;
 }
 

@@ -1,30 +1,32 @@
 -- What a task is answered.
-use Rattle.std.proofs.Common.{◌≡◌, ◌⊎◌, [], inl, inr, ℕ, List, map, refl, subst, sym, Vec}
+use Rattle.std.proofs.Common.{◌≡◌, ◌⊎◌, [], ap, inl, inr, ℕ, List, map, refl, subst, sym, Vec}
 use Rattle.std.specs.Prelude.{⊤, codes, IfErr, Option, Result, Ok, Err, String, string_bytes}
 use Rattle.std.specs.declared.alloc.Global.{Global}
 use Rattle.sqlite.specs.State.{State}
 use Rattle.zeb_change.specs.Conditions.{Conditions}
 use Rattle.zeb_change.specs.declared.refusals.Refusal.{Refusal}
-use Rattle.zeb_change.specs.declared.refusals.Refusal.TheVariants.{Memory as OutOfMemory}
+use Rattle.zeb_change.specs.declared.refusals.Refusal.TheVariants.{Damaged, Memory as OutOfMemory, NotInitialised, OldFormat, ProfileChanged, ReadFault, Store}
 use Rattle.zeb_change.specs.declared.settings.Kind.{Kind}
 use Rattle.zeb_engine.specs.Analysed.{IsAnalysed}
 use Rattle.zeb_engine.specs.Answers.{IsFailure, answer_of}
 use Rattle.zeb_engine.specs.Works.{ServesCommand}
 use Rattle.zeb_engine.specs.declared.commands.Command.{Command}
 use Rattle.zeb_engine.specs.declared.replies.Reply.{Reply}
-use Rattle.zeb_image.specs.Holdings.{Holdings}
+use Rattle.zeb_image.specs.Holdings.{Holdings, nothing_yet}
+use Rattle.zeb_image.specs.Image.{Keeps}
 use Rattle.zeb_paths.specs.Walks.{Tells, at_end}
-use Rattle.zeb_program.specs.WalkedFiles.{FindsAll}
+use Rattle.zeb_program.specs.WalkedFiles.{FindsAll, FindsFiles}
 use Rattle.zeb_image.specs.NameOf.{name_bytes}
 use Rattle.zeb_image.specs.declared.names.DbName.{DbName}
 use Rattle.zeb_program.specs.Answers.{ChangesBy}
 use Rattle.zeb_program.specs.PrivateFaults.{IsUnread}
 use Rattle.zeb_engine.proofs.Ready.{none_there}
-use Rattle.zeb_engine.specs.Readiness.{GoesByTexts}
+use Rattle.zeb_engine.specs.Readiness.{GoesByTexts, IsReadyFor, IsRefusedOver, KeepsText}
 use Rattle.zeb_register.specs.Formats.{Format, version_of}
-use Rattle.zeb_program.specs.PrivateServing.{HoldsNothing}
+use Rattle.zeb_program.specs.ScriptAnswers.{HoldsNothing}
+use Rattle.zeb_program.proofs.OverLemmas.{given}
 use Rattle.zeb_program.specs.FaultAnswers.{GivesAnswer, IsUnreadWhole, IsUnreadable, NamesMet, Reaches}
-use Rattle.zeb_program.specs.OverTables.{AnalysesOver, IsAnalysisOver, OverNothing, TaskOver}
+use Rattle.zeb_program.specs.OverTables.{AnalysesOver, IsAnalysisOver, IsRefusedUnbegun, IsUntoldNth, OverNothing, TaskOver}
 use Rattle.zeb_program.specs.Serving.{AnswersFrom, ServesTask}
 use Rattle.zeb_program.specs.TaskAnswers.{AnalysesFiles, AnswersCommand, AreTold, ReadsWhole, paths_of}
 use Rattle.zeb_program.specs.declared.faults.Fault.{Fault}
@@ -35,12 +37,9 @@ use Rattle.zeb_program.specs.declared.tasks.Task.TheVariants.{Ask, Change, Analy
 
 -- ---- one command
 
-pub replied_command : (c : Conditions) (order : Command) (old new : State) (reply : Reply) → ServesCommand c order old new (Ok reply) → AnswersFrom old new (Ok reply) (AnswersCommand c order)
-replied_command c order old new reply serves before keeps = let served = serves before keeps in (served.0, (served.0, served.1, refl), served.2)
-
-pub refused_command : (c : Conditions) (order : Command) (old new : State) (refusal : Refusal) → ServesCommand c order old new (Err refusal)
-    → AnswersFrom old new (Err (fault.Refused refusal)) (AnswersCommand c order)
-refused_command c order old new refusal serves before keeps = let served = serves before keeps in (served.0, (served.0, served.1, refl), served.2)
+pub given_command : (c : Conditions) (order : Command) (old new : State) (r : Result Reply Refusal) → ServesCommand c order old new r → AnswersFrom old new (given r) (AnswersCommand c order)
+given_command c order old new (Ok reply) serves before keeps = let served = serves before keeps in (served.0, (served.0, served.1, refl), served.2)
+given_command c order old new (Err refusal) serves before keeps = let served = serves before keeps in (served.0, (served.0, served.1, refl), served.2)
 
 -- ---- an analysis
 
@@ -76,11 +75,11 @@ module _ (told : List ℕ → Option (List ℕ)) (c : Conditions) (task : Task) 
   pub analysed_task : (paths : Vec (String Global) Global) (named : List (String Global)) → task ≡ Analyse paths → named ≡ paths.items
       → ((files : List (List ℕ)) → AreTold told (map string_bytes named) files → AnswersFrom old new r (AnalysesFiles c files) ⊎ IsUnreadWhole told r) → ServesTask told c task old new r
   analysed_task paths named is same gives = subst (λ t. ServesTask told c t old new r) (sym is)
-      (λ files known. given files (gives files (subst (λ items. AreTold told (map string_bytes items) files) (sym same) known)))
+      (λ files known. or_unread files (gives files (subst (λ items. AreTold told (map string_bytes items) files) (sym same) known)))
     where
-      given : (files : List (List ℕ)) → AnswersFrom old new r (AnalysesFiles c files) ⊎ IsUnreadWhole told r → AnswersFrom old new r (AnalysesFiles c files) ⊎ (Unit {0} × IsUnreadWhole told r)
-      given files (inl h) = inl h
-      given files (inr h) = inr (tt, h)
+      or_unread : (files : List (List ℕ)) → AnswersFrom old new r (AnalysesFiles c files) ⊎ IsUnreadWhole told r → AnswersFrom old new r (AnalysesFiles c files) ⊎ (Unit {0} × IsUnreadWhole told r)
+      or_unread files (inl h) = inl h
+      or_unread files (inr h) = inr (tt, h)
 
 -- ---- the path that can't be read
 
@@ -107,15 +106,45 @@ analysis_reaches at task paths named r is same h = subst (λ t. Reaches at (Read
 
 -- ---- on a register that holds nothing yet
 
--- the texts of such a register tell that it isn't ready
-none_ready : (format : Format) (c : Conditions) (s : State) (reply : Reply) → HoldsNothing s → IsUnreadable (Ok reply) ⊎ GivesAnswer (GoesByTexts (version_of format) c.profile s) (Ok reply) → ⊥
-none_ready format c s reply empty (inl unread) = unread
-none_ready format c s reply empty (inr goes) =
-    let kept = empty.1 empty.0 in
-    none_there s.now.trees (codes "version") (version_of format) kept.0.1.0.0 (goes kept.0.0).has_version
+-- such a register keeps no text, and so it isn't ready
+no_version : (s : State) (text : List ℕ) → HoldsNothing s → KeepsText s.now.trees (codes "version") text → ⊥
+no_version s text empty there = none_there s.now.trees (codes "version") text (empty.1 empty.0).0.1.0.0 there
+
+-- a refusal, as the program tells it
+abbrev told_refusal : Refusal → Result Reply Fault
+told_refusal why = Err (fault.Refused why)
+
+-- so a change by the files that a walk gives is refused
+module _ (at : Tells) (format : Format) (c : Conditions) (paths walked : List (List ℕ)) (s : State) (empty : HoldsNothing s) where
+  unready : IsReadyFor (version_of format) c.profile s.now.trees → ⊥
+  unready ready = no_version s (version_of format) empty ready.has_version
+
+  unbegun : (why : Refusal) → IsRefusedOver (version_of format) c.profile s.now.trees why → (why ≡ Damaged → ⊥) → FindsFiles at paths walked → ((file : ℕ) → why ≡ ReadFault file → IsUntoldNth at.bytes walked file)
+      → IsRefusedUnbegun at paths (Err why)
+  unbegun NotInitialised over whole found blames = tt
+  unbegun OldFormat over whole found blames = absurd (no_version s over.0.0 empty over.0.1)
+  unbegun ProfileChanged over whole found blames = absurd (no_version s (version_of format) empty over.0)
+  unbegun Damaged over whole found blames = absurd (whole refl)
+  unbegun (ReadFault file) over whole found blames = (walked, found, blames file refl)
+  unbegun Store over whole found blames = tt
+  unbegun OutOfMemory over whole found blames = tt
+  unbegun _ over whole found blames = absurd (unready over)
+
+  none_begun : (result : Result Reply Fault) → IsUnreadable result ⊎ GivesAnswer (GoesByTexts (version_of format) c.profile s) result → IsUnreadable result ⊎ GivesAnswer (λ answer. FindsFiles at paths walked) result
+      → (result ≡ Err (fault.Refused Damaged) → (before : Holdings) → ¬ Keeps s before) → ((file : ℕ) → result ≡ Err (fault.Refused (ReadFault file)) → IsUntoldNth at.bytes walked file)
+      → IsUnreadable result ⊎ GivesAnswer (IsRefusedUnbegun at paths) result
+  none_begun result (inl unread) found honest blames = inl unread
+  none_begun (Ok reply) (inr goes) found honest blames = absurd (unready (goes (empty.1 empty.0).0.0))
+  none_begun (Err (fault.Refused why)) (inr goes) (inl gap) honest blames = absurd gap
+  none_begun (Err (fault.Refused why)) (inr goes) (inr found) honest blames = inr (unbegun why (goes (empty.1 empty.0).0.0) (λ is. honest (ap told_refusal is) nothing_yet empty.1) found
+      (λ file is. blames file (ap told_refusal is)))
+  none_begun (Err fault.Memory) (inr goes) found honest blames = inr tt
+  none_begun (Err (fault.Profile file why)) (inr goes) found honest blames = absurd goes
+  none_begun (Err (fault.Unreadable path)) (inr goes) found honest blames = absurd goes
 
 pub over_nothing : (at : Tells) (format : Format) (c : Conditions) (task : Task) (old new : State) (result : Result Reply Fault) → HoldsNothing old → TaskOver at format c task old new result → OverNothing at c task result
 over_nothing at format c (Ask command) old new result empty over = tt
-over_nothing at format c (Change kind database paths) old new (Ok reply) empty over = none_ready format c old reply empty over.answer.over.ready
-over_nothing at format c (Change kind database paths) old new (Err why) empty over = tt
+over_nothing at format c (Change kind database paths) old new result empty over =
+    let told = over.answer.over in
+    none_begun at format c (map string_bytes paths.items) over.answer.walked old empty result told.ready over.answer.found told.honest told.blames
 over_nothing at format c (Analyse paths) old new result empty over = over.answer

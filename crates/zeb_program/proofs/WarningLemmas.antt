@@ -1,10 +1,12 @@
 -- Records that don't say that they are in Unicode: what is left of a file.
-use Rattle.zeb_program.proofs.Cited.{◌≡◌, ◌∙◌, ◌+◌, ℕ, ◌<◌, true, false, List, [], ◌∷◌, ◌++◌, Vec, length, length-map, map, refl, ap, subst, sym, arith, Option, None, Some, Result, Ok, Err, IfOk, is_some, Global, length-append, AnalysedLines, Gives, Next, at_end, a_slice, a_fault, next_of, split_of, Directive, ReadsWhole, IsServedFor, MayWarn, WarnsOf, unmarked_by, warned_in, warning_of, records_in, Fault, Place, string_bytes}
+use Rattle.zeb_program.proofs.Cited.{◌≡◌, ◌∙◌, ◌+◌, ℕ, ◌<◌, true, false, List, [], ◌∷◌, ◌++◌, Vec, length, length-map, map, refl, ap, subst, sym, arith, Option, None, Some, Result, Ok, Err, IfOk, is_some, Global, length-append, AnalysedLines, Gives, Next, at_end, a_slice, a_fault, next_of, split_of, Directive, ReadsWhole, IsServedFor, MayWarn, WarnsOf, unmarked_by, warned_in, warning_of, records_in, Fault, Place, String, string_bytes}
 use Rattle.std.specs.Option.{option_map}
 use Rattle.std.specs.Result.{IsOkAnd}
 use Rattle.zeb_analysis.specs.Analysing.{Analysed, AreAnalysesOf, Standing, analysed, standing_from, standing_in, standing_in_all}
 use Rattle.zeb_analysis.specs.Lines.{AreLines}
+use Rattle.zeb_paths.specs.Walks.{Tells}
 use Rattle.zeb_program.specs.TaskAnswers.{AreTold, paths_of}
+use Rattle.zeb_program.specs.Warnings.{WarnsBelow}
 use Rattle.zeb_program.specs.declared.failures.Failure.{Failure}
 use Rattle.zeb_program.specs.declared.performing.Told.{Told}
 use Rattle.zeb_marc.specs.declared.faults.MarcFault.{MarcFault}
@@ -12,6 +14,7 @@ use Rattle.zeb_marc.proofs.SplitLaws.{NextIs, SoundSlice-from_checks, next_view,
 use Rattle.zeb_program.specs.declared.tasks.Served.{Served}
 use Rattle.zeb_program.specs.declared.tasks.Served.TheVariants.{Replied, Shown}
 use Rattle.zeb_program.specs.declared.tasks.Task.{Task}
+use Rattle.zeb_program.specs.declared.tasks.Task.TheVariants.{Analyse}
 
 -- ---- what was read tells what stood next
 
@@ -74,14 +77,21 @@ pub shown_warned : (served : Result Served Fault) (lines : AnalysedLines) (unmar
 shown_warned served lines unmarked told places records is same count said =
     subst (λ it. IsOkAnd it (λ one. told ≡ warned_in one)) (sym is) (said ∙ ap (λ these. warning_of these records) same ∙ ap (warning_of unmarked.items) count)
 
-pub warns_of : (tells : List ℕ → Option (List ℕ)) (task : Task) (served : Result Served Fault) (result : Result Told Failure) → IfOk result (λ told. MayWarn task (option_map string_bytes told.warning))
+pub warns_of : (tells : List ℕ → Option (List ℕ)) (at : Tells) (task : Task) (served : Result Served Fault) (result : Result Told Failure) → IfOk result (λ told. MayWarn task (option_map string_bytes told.warning))
     → IfOk result (λ told. IsOkAnd served (λ one. option_map string_bytes told.warning ≡ warned_in one))
     → ((files : List (List ℕ)) → AreTold tells (paths_of task) files → IfOk served (λ one. warned_in one ≡ warning_of (unmarked_by task files) (records_in files)))
-    → IfOk result (λ told. WarnsOf tells task (option_map string_bytes told.warning))
-warns_of tells task served (Err failure) may is unmarked = tt
-warns_of tells task (Err fault) (Ok told) may is unmarked = absurd is
-warns_of tells task (Ok one) (Ok told) may is unmarked =
-    record { line = may; places = λ files known. is ∙ unmarked files known }
+    → (ReadsWhole task → IfOk served (λ one. WarnsBelow at (paths_of task) (warned_in one)))
+    → IfOk result (λ told. WarnsOf tells at task (option_map string_bytes told.warning))
+warns_of tells at task served (Err failure) may is unmarked below = tt
+warns_of tells at task (Err fault) (Ok told) may is unmarked below = absurd is
+warns_of tells at task (Ok one) (Ok told) may is unmarked below =
+    record { line = may; places = λ files known. is ∙ unmarked files known; below = λ reads. subst (WarnsBelow at (paths_of task)) (sym is) (below reads) }
+
+-- an analysis by paths as a slice warns as one by those of the task
+pub below_task : (at : Tells) (task : Task) (paths : Vec (String Global) Global) (named : List (String Global)) (r : Result Served Fault) → task ≡ Analyse paths → named ≡ paths.items
+    → IfOk r (λ served. WarnsBelow at (map string_bytes named) (warned_in served)) → IfOk r (λ served. WarnsBelow at (paths_of task) (warned_in served))
+below_task at task paths named r is same h =
+    subst (λ t. IfOk r (λ served. WarnsBelow at (paths_of t) (warned_in served))) (sym is) (subst (λ items. IfOk r (λ served. WarnsBelow at (map string_bytes items) (warned_in served))) same h)
 
 -- an analysis may be answered by lines
 pub served_whole : (task : Task) (r : Result Served Fault) → ReadsWhole task → IfOk r (IsServedFor task)

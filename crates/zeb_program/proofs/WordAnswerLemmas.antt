@@ -1,5 +1,5 @@
 -- What is written for words, at each end.
-use Rattle.zeb_program.proofs.Cited.{◌≡◌, ◌⊎◌, ℕ, Bool, false, List, inl, inr, refl, subst, sym, ◌≢◌, Option, None, Some, Result, Ok, Err, IfOk, OnErr, String, string_bytes, AllocError, Global, Appends, IsAtEnd, Keeps, Appends-kept, Keeps-refl, Keeps-trans, Status, Failed, warning_bytes}
+use Rattle.zeb_program.proofs.Cited.{◌≡◌, ◌⊎◌, ℕ, Bool, false, List, inl, inr, subst, sym, ◌≢◌, Option, None, Some, Result, Ok, Err, IfOk, OnErr, String, string_bytes, AllocError, Global, Appends, IsAtEnd, Keeps, Appends-kept, Keeps-refl, Keeps-trans, Status, Failed, warning_bytes}
 use Rattle.std.proofs.KnownBytes.{Appends-nil}
 use Rattle.std.specs.Option.{option_map}
 use Rattle.zeb_words.specs.declared.words.Usage.{Usage}

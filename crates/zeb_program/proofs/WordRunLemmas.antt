@@ -37,11 +37,11 @@ use Rattle.zeb_program.specs.FaultAnswers.{GivesAnswer, IsOpeningFailure, IsUnre
 use Rattle.zeb_program.specs.FaultLines.{TellsCaused, left_lines, unclosed_lines}
 use Rattle.zeb_program.specs.Explanations.{Explains, ExplainsUnread, NamesRegister, refusal_cause}
 use Rattle.zeb_program.specs.PrivateFaults.{IsOpeningFault}
-use Rattle.zeb_program.specs.PrivateServing.{CarriesOut, HoldsNothing, StandsFor}
+use Rattle.zeb_program.specs.PrivateServing.{CarriesOut, StandsFor}
 use Rattle.zeb_program.specs.Serving.{AnswersFrom, ServesTask}
 use Rattle.zeb_program.specs.PrivateWordRuns.{ExplainsRun, GivesClosed, GivesFor, OpensUnder, RunsIn, RunsOnNothing, ServesHeld, ServesIn, ServesOnNothing, TakesIn}
 use Rattle.zeb_program.specs.Registers.{ClosesStore, FromStore, HasStore, LacksStore, kept, none, Places, nothing_met}
-use Rattle.zeb_program.specs.ScriptAnswers.{AnswersStopped, AreConditionsIn, AreScriptConditions, RunsFromNothing}
+use Rattle.zeb_program.specs.ScriptAnswers.{AnswersStopped, AreConditionsIn, AreScriptConditions, HoldsNothing, RunsFromNothing}
 use Rattle.zeb_program.specs.TaskAnswers.{AnswersOn, AnswersTask, ReadsWhole, paths_of}
 use Rattle.zeb_program.specs.WordAnswers.{TellsApart, WarnsClosed}
 use Rattle.zeb_program.specs.WordRuns.{IsText, Performs, ReadsAt, RunsBatch, batch_stopped, batch_ran, RunsLines, on_store, in_memory, no_memory, no_register, RunsShell, shell_stopped, shell_ran}
@@ -264,15 +264,15 @@ served_nothing tells at profile task c held last own answer under empty clean do
 
 -- of one that is answered
 pub told_done : {S : Type 0} (at : Places S) (choice : LayoutChoice) (config : String Global) (task : Task) (old new fault_old fault_new : Option (List ℕ)) (status : Status) (r : Performed) (told : Told) (Why : Option StoreCause → Failure → Type 0)
-    → r.told ≡ Ok told → GivesClosed r (Performs at choice config task) Why → status ≡ closing_status r.closed → Appends old new told.text.items → WarnsClosed at.tells task r.closed fault_old fault_new
+    → r.told ≡ Ok told → GivesClosed r (Performs at choice config task) Why → status ≡ closing_status r.closed → Appends old new told.text.items → WarnsClosed at.tells at.sees task r.closed fault_old fault_new
     → TellsApart at choice config task old new fault_old fault_new status
 told_done at choice config task old new fault_old fault_new status r told Why is gives closing wrote warns =
     let comes = subst (λ it. GivesFor it (Performs at choice config task r.closed)) is gives.0 in
     inl (r.closed, closing, (comes.0, comes.2, subst (Appends old new) comes.1 wrote), warns)
 
 -- it warns as is said of what is told
-pub told_warns : (tells : List ℕ → Option (List ℕ)) (task : Task) (r : Result Told Failure) (told : Told) → r ≡ Ok told → IfOk r (λ it. WarnsOf tells task (option_map string_bytes it.warning)) → WarnsOf tells task (option_map string_bytes told.warning)
-told_warns tells task r told is warns = subst (λ it. IfOk it (λ that. WarnsOf tells task (option_map string_bytes that.warning))) is warns
+pub told_warns : (tells : List ℕ → Option (List ℕ)) (at : Tells) (task : Task) (r : Result Told Failure) (told : Told) → r ≡ Ok told → IfOk r (λ it. WarnsOf tells at task (option_map string_bytes it.warning)) → WarnsOf tells at task (option_map string_bytes told.warning)
+told_warns tells at task r told is warns = subst (λ it. IfOk it (λ that. WarnsOf tells at task (option_map string_bytes that.warning))) is warns
 
 -- the path of the register in the profile at a path of the same bytes
 renamed : (told : Option (List ℕ)) (config named : String Global) (why : Fault) → why ≢ fault.Memory → ReadsProfile told named (Err why) → (other : Fault) × (other ≢ fault.Memory) × ReadsProfile told config (Err other)

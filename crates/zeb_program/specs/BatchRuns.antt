@@ -1,6 +1,8 @@
--- A batch as one run: the commands that its lines name, in their order, with the answer to each (this program's own).
+-- A batch as one run: the commands that its lines name, in their order, with the answer to each; and what is written without the tables (this
+-- program's own).
 use Rattle.std.specs.Prelude.{◌≡◌, ◌⊎◌, ◌↔◌, ◌<◌, ◌+◌, ◌^◌, ℕ, map, IsSome, Option, Some, Result, List, [], ◌∷◌, ◌++◌, length, String, string_bytes}
 use Rattle.std.specs.declared.alloc.Global.{Global}
+use Rattle.sqlite.specs.Files.{over_files}
 use Rattle.zeb_change.specs.Conditions.{Conditions}
 use Rattle.zeb_change.specs.declared.refusals.Refusal.{Refusal}
 use Rattle.zeb_engine.specs.Answers.{answer_of}
@@ -9,11 +11,15 @@ use Rattle.zeb_engine.specs.declared.commands.Command.{Command}
 use Rattle.zeb_engine.specs.declared.replies.Reply.{Reply}
 use Rattle.zeb_image.specs.Holdings.{Holdings}
 use Rattle.zeb_image.specs.NameOf.{name_bytes}
-use Rattle.zeb_program.specs.Answers.{AnswersBatch, answer_status, answer_text, bad_line, mark_line}
+use Rattle.zeb_paths.specs.Walks.{Tells}
+use Rattle.zeb_register.specs.Formats.{packed_blocks}
+use Rattle.zeb_program.specs.Answers.{AnswersBatch, EachLine, answer_status, answer_text, bad_line, mark_line}
 use Rattle.zeb_program.specs.Batches.{IsChangeOf}
 use Rattle.zeb_program.specs.Lines.{first_line, after_first_line}
+use Rattle.zeb_program.specs.OverTables.{LineOver, LinesWritten}
 use Rattle.zeb_program.specs.PathChanges.{AreFilesTold}
 use Rattle.zeb_program.specs.Says.{Says}
+use Rattle.zeb_program.specs.ScriptAnswers.{MemoryConnection}
 use Rattle.zeb_program.specs.Statuses.{greater}
 use Rattle.zeb_program.specs.declared.statuses.Status.{Status}
 use Rattle.zeb_program.specs.declared.statuses.Status.TheVariants.{Answered, Misused}
@@ -70,3 +76,8 @@ BatchIsOneRun = (told : List ℕ → Option (List ℕ)) (c : Conditions) (n : �
 abbrev pub ToldIsKnown : Type 0
 ToldIsKnown = (told : List ℕ → Option (List ℕ)) (c : Conditions) (n : ℕ) (text : List ℕ) (before : Holdings) (bytes : List ℕ) (status : Status) (last : Option Holdings)
     → AreFilesTold told text → AnswersBatch told c n text (Some before) bytes status last → IsSome last
+
+-- What is written for lines on a register in memory, which are answered as on any tables, is what is written for such lines without the tables.
+abbrev pub OverIsWritten : Type 0
+OverIsWritten = (at : Tells) (c : Conditions) (n : ℕ) (text : List ℕ) (first last : MemoryConnection) (bytes : List ℕ) (status : Status) (rest : List ℕ)
+    → EachLine (LineOver over_files at packed_blocks c) n text first bytes status rest last → LinesWritten at n text bytes status rest

@@ -38,13 +38,14 @@ pub record DoesTask {S : Type 0} (g : Ghosts S) (told : List ℕ → Option (Lis
   -- from tables that keep what a register holds to such that keep what it holds then
   pub serves : ServesTask told c task (state g old) (state g new) result
 
--- a task is answered on a register in memory that holds nothing yet: no change is accepted, and an accepted analysis
--- is that of the files which a walk gives; what is accepted has found all files at and below its paths, and a path
+-- a task is answered on a register in memory that holds nothing yet: of a change a path can't be read, or it is refused
+-- as of a register that isn't initialised or by a failure, and an accepted analysis is that of the files which a walk
+-- gives; what is accepted has found all files at and below its paths, and a path
 -- that can't be read is one that a walk over these comes to; and where the bytes of the files at its paths are told it
 -- is the answer by these, unless memory ran out in the program, or an analysis can't read a file whole
 pub record DoesOnNothing (told : List ℕ → Option (List ℕ)) (at : Tells) (c : Conditions) (task : Task) (result : Result Reply Fault) : Type 0 where
-  -- whatever stands at its paths, no change is accepted, and an analysis is that of the files which a walk gives, unless a path can't be read, or memory
-  -- ran out
+  -- whatever stands at its paths: a change is refused as of a register that isn't initialised or by a failure, and an analysis is that of the files which a
+  -- walk gives, unless a path can't be read, or memory ran out
   pub over : OverNothing at c task result
   -- it is accepted only where all files at and below its paths are found, and a path that can't be read is one that a walk over these comes to
   pub reaches : Reaches at (ReadsWhole task) (paths_of task) result

@@ -1,5 +1,5 @@
 -- What a command or a change by paths is answered on any tables, whatever these hold, where words or a line name it (this program's own).
-use Rattle.std.specs.Prelude.{◌≡◌, ◌≢◌, ◌⊎◌, ⊤, ℕ, Option, Result, Ok, Err, IfErr, OnErr, OnOk, List, [], ◌∷◌, map, string_bytes}
+use Rattle.std.specs.Prelude.{◌≡◌, ◌≢◌, ◌⊎◌, ⊤, ◌+◌, ◌++◌, ℕ, Option, Result, Ok, Err, IfErr, OnErr, OnOk, List, [], ◌∷◌, length, map, string_bytes}
 use Rattle.sqlite.specs.Held.{Held, state}
 use Rattle.sqlite.specs.State.{State, Survives}
 use Rattle.sqlite.specs.Store.{Ghosts}
@@ -10,7 +10,7 @@ use Rattle.zeb_change.specs.Conditions.{Conditions}
 use Rattle.zeb_change.specs.declared.settings.Kind.{Kind}
 use Rattle.zeb_change.specs.declared.settings.Limits.{Limits}
 use Rattle.zeb_change.specs.declared.refusals.Refusal.{Refusal}
-use Rattle.zeb_change.specs.declared.refusals.Refusal.TheVariants.{Damaged, Memory as OutOfMemory, Store}
+use Rattle.zeb_change.specs.declared.refusals.Refusal.TheVariants.{Damaged, Memory as OutOfMemory, NotInitialised, ReadFault, Store}
 use Rattle.zeb_image.specs.Holdings.{Holdings}
 use Rattle.zeb_image.specs.Image.{Keeps}
 use Rattle.zeb_image.specs.NameOf.{name_bytes}
@@ -35,7 +35,7 @@ use Rattle.zeb_program.specs.declared.tasks.Task.TheVariants.{Ask, Change, Analy
 use Rattle.zeb_program.specs.Answers.{ChangesBy, EachLine, answer_status, answer_text, bad_line, mark_line}
 use Rattle.zeb_program.specs.Inputs.{AreShort}
 use Rattle.zeb_program.specs.FaultLines.{TellsFault}
-use Rattle.zeb_paths.specs.Walks.{Tells}
+use Rattle.zeb_paths.specs.Walks.{IsUntold, Tells}
 use Rattle.zeb_program.specs.FaultAnswers.{GivesAnswer, IsUnreadWhole, IsUnreadable, NamesUntold, Reaches}
 use Rattle.zeb_program.specs.WalkedFiles.{AreTexts, FindsFiles}
 use Rattle.zeb_program.specs.Serving.{AnswersFrom}
@@ -55,10 +55,15 @@ LeavesAlone old new = ChangesNothing old new × LeavesNoMore old new
 abbrev pub AreFilesOf : Tells → List (List ℕ) → List (List ℕ) → List (List ℕ) → Type 0
 AreFilesOf at paths walked files = AreTold at.bytes paths files ⊎ AreTold at.bytes walked files
 
+-- the file of this number, from 1, is one of these, and no bytes of it are told
+abbrev pub IsUntoldNth : (List ℕ → Option (List ℕ)) → List (List ℕ) → ℕ → Type 0
+IsUntoldNth told files number = (before behind : List (List ℕ)) × (path : List ℕ) × (files ≡ before ++ path ∷ behind) × (number ≡ length before + 1) × IsUntold told path
+
 -- what is said of the answer to a change by paths, on any tables: the texts of the store tell whether the register was
 -- ready (`GoesByTexts`), unless a path can't be read, at which then no file's bytes are told, or memory ran out in the
 -- program; where the bytes of a file at each path are told, or of each file that a walk gives, it is as `ChangesReady`
--- says of a change by these, or memory ran out in the program; and damage is told only of tables that are no image
+-- says of a change by these, or memory ran out in the program; damage is told only of tables that are no image; and a
+-- failed read only of a file that a walk gives whose bytes aren't told
 pub record PathsOver (at : Tells) (format : Format) (profile : List Directive) (kind : Kind) (limits : Limits) (name : List ℕ) (paths walked : List (List ℕ)) (s : State) (result : Result Reply Fault) : Type 0 where
   -- a path can't be read, or the texts of the store tell whether the register was ready
   pub ready : IsUnreadable result ⊎ GivesAnswer (GoesByTexts (version_of format) profile s) result
@@ -69,6 +74,8 @@ pub record PathsOver (at : Tells) (format : Format) (profile : List Directive) (
   pub untold : IfErr result (NamesUntold at.bytes)
   -- damage is told only of tables that are the image of no holding
   pub honest : result ≡ Err (Refused Damaged) → (before : Holdings) → ¬ Keeps s before
+  -- a failed read is that of a file that a walk gives, by its number, whose bytes aren't told
+  pub blames : (file : ℕ) → result ≡ Err (Refused (ReadFault file)) → IsUntoldNth at.bytes walked file
 
 -- What is said of the answer to an analysis of the files at and below these paths, of at most so many records.
 pub record IsAnalysisOver (at : Tells) (profile : List Directive) (limit : ℕ) (paths : List (List ℕ)) (answer : Result Reply Refusal) : Type 0 where
@@ -187,14 +194,28 @@ LineOver g at format c number text old bytes status new =
 abbrev pub LinesOver : {S : Type 0} → Ghosts S → Tells → Format → Conditions → ℕ → List ℕ → Held S → List ℕ → Status → Held S → Type 0
 LinesOver g at format c n text old bytes status new = EachLine (LineOver g at format c) n text old bytes status [] new
 
--- ---- what is said of these without the tables, of a register that is in memory
+-- ---- a task on a register in memory
 
--- of a task on a register that holds nothing yet, whatever stands at its paths: no change is accepted, and an analysis
--- is answered as `AnalysesOver` says; of a command nothing is said
+-- A change by the files at and below these paths is refused on a register that holds nothing yet: it isn't initialised, the store or the memory
+-- failed, or a read of a file that a walk gives, whose bytes aren't told.
+abbrev pub IsRefusedUnbegun : Tells → List (List ℕ) → Result Reply Refusal → Type 0
+IsRefusedUnbegun at paths (Ok reply) = ⊥
+IsRefusedUnbegun at paths (Err NotInitialised) = ⊤
+IsRefusedUnbegun at paths (Err Store) = ⊤
+IsRefusedUnbegun at paths (Err OutOfMemory) = ⊤
+IsRefusedUnbegun at paths (Err (ReadFault file)) = (walked : List (List ℕ)) × FindsFiles at paths walked × IsUntoldNth at.bytes walked file
+IsRefusedUnbegun at paths (Err other) = ⊥
+
+-- of a task on a register that holds nothing yet, whatever stands at its paths: of a change a path can't be read, or it
+-- is refused as one that isn't initialised or by a failure (`IsRefusedUnbegun`), and an analysis is answered as
+-- `AnalysesOver` says; a command names no path, so what it is answered, `answers` of `DoesOnNothing` says whatever the
+-- paths tell
 abbrev pub OverNothing : Tells → Conditions → Task → Result Reply Fault → Type 0
 OverNothing at c (Ask command) result = ⊤
-OverNothing at c (Change kind database paths) result = OnOk result ⊥
+OverNothing at c (Change kind database paths) result = IsUnreadable result ⊎ GivesAnswer (IsRefusedUnbegun at (map string_bytes paths.items)) result
 OverNothing at c (Analyse paths) result = AnalysesOver at c.profile c.limits.records (map string_bytes paths.items) result
+
+-- ---- what is written for lines, without the tables
 
 -- what is written for a line that says this, and its status: for a command those of some answer; for a change by a
 -- path those of a reply, only where all files at and below it are found, or of a fault, and a path that can't be read

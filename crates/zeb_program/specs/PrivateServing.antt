@@ -1,11 +1,11 @@
 -- What only the contracts of private functions speak of; no public clause reaches it.
-use Rattle.std.specs.Prelude.{◌≡◌, ℕ, IsTrue, List, length, Option, Result, Ok, Err, string_bytes}
+use Rattle.std.specs.Prelude.{◌≡◌, ℕ, List, length, Option, Result, Ok, Err, string_bytes}
 use Rattle.sqlite.specs.State.{HasCleanDisk, State}
 use Rattle.zeb_change.specs.Conditions.{Conditions}
 use Rattle.zeb_engine.specs.Replies.{reply_text}
 use Rattle.zeb_engine.specs.declared.replies.Reply.{Reply}
 use Rattle.zeb_engine.specs.declared.replies.Reply.TheVariants.{Analysed}
-use Rattle.zeb_image.specs.Holdings.{Holdings, nothing_yet}
+use Rattle.zeb_image.specs.Holdings.{Holdings}
 use Rattle.zeb_image.specs.Image.{Keeps}
 use Rattle.zeb_program.specs.Answers.{Writes}
 use Rattle.zeb_program.specs.declared.faults.Fault.{Fault}
@@ -29,10 +29,6 @@ Leads old new wrote writes P =
 -- A change by a path is done as is said of it on any tables, whatever is written of its answer.
 abbrev pub DoesPath : Tells → Format → Conditions → PathChange → State → State → Type 0
 DoesPath at format c change old new = (bytes : List ℕ) × (status : Status) × PathOver at format c change old bytes status new
-
--- a connection is open, and its tables keep nothing yet
-abbrev pub HoldsNothing : State → Type 0
-HoldsNothing s = IsTrue s.is_open × Keeps s nothing_yet
 
 -- how many records a reply has analysed
 abbrev pub analyses_in : Reply → ℕ

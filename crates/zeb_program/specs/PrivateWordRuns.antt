@@ -24,7 +24,7 @@ use Rattle.zeb_program.specs.declared.opening.UsedLayout.{UsedLayout}
 use Rattle.zeb_program.specs.declared.opening.UsedLayout.TheVariants.{Blocks, Leaves}
 use Rattle.zeb_program.specs.declared.failures.Failure.{Failure}
 use Rattle.zeb_program.specs.declared.faults.Fault.{Fault}
-use Rattle.zeb_program.specs.declared.faults.Fault.TheVariants.{Refused, Memory}
+use Rattle.zeb_program.specs.declared.faults.Fault.TheVariants.{Refused}
 use Rattle.zeb_program.specs.declared.line_input.LineFault.TheVariants.{Memory as Starved}
 use Rattle.zeb_program.specs.declared.performing.Performed.{Performed}
 use Rattle.zeb_program.specs.declared.performing.Told.{Told}
@@ -34,7 +34,7 @@ use Rattle.zeb_program.specs.Doing.{DoesOnNothing, DoesTask, RunsText, ServesTex
 use Rattle.zeb_program.specs.FaultAnswers.{IsOpeningFailure}
 use Rattle.zeb_program.specs.Registers.{ClosesStore, IsTakenOver, OpensStore, Places, UsedAs}
 use Rattle.zeb_program.specs.ScriptAnswers.{AreConditionsIn, AreScriptConditions, RunsFromNothing}
-use Rattle.std.specs.Io.KnownBytes.{Keeps as Stays}
+use Rattle.std.specs.Io.KnownBytes.{Appends, Keeps as Stays}
 use Rattle.zeb_program.specs.Explanations.{Explains}
 use Rattle.zeb_program.specs.FaultLines.{TellsCaused}
 use Rattle.zeb_program.specs.Statuses.{closing_status, greater}
@@ -124,6 +124,10 @@ pub record LeavesHeld {S : Type 0} (g : Ghosts S) (leaves : Closed → S → Typ
   pub clean : HasCleanDisk (state g last) → HasCleanDisk (state g held)
   pub does : HasCleanDisk (state g last) → Does held last
   pub ends : ClosesStore g leaves last closed
+
+-- what is known of what was written stays, and grows by some bytes, maybe none
+abbrev pub Grows : Option (List ℕ) → Option (List ℕ) → Type 0
+Grows old new = (bytes : List ℕ) × Appends old new bytes
 
 -- Lines are run over a connection, which is then closed. What is said of them is said of the connection as it was before.
 pub record Closes {S : Type 0} (g : Ghosts S) (leaves : Closed → S → Type 0) (held : Held S) (Said : Held S → Type 0) (fault_old fault_new : Option (List ℕ)) (closed : Closed) : Type 0 where

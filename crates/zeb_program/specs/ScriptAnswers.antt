@@ -1,8 +1,15 @@
 -- What a script writes, and its status (this program's own).
-use Rattle.std.specs.Prelude.{◌≡◌, ◌⊎◌, ◌<◌, ◌==◌, if◌then◌else◌, ℕ, Bool, Option, Some, Ok, IsOk, List, [], ◌∷◌, ◌++◌, codes, length}
+use Rattle.std.specs.Prelude.{◌≡◌, ◌⊎◌, ◌<◌, ◌==◌, if◌then◌else◌, ℕ, Bool, Option, Some, Ok, IsOk, IsTrue, List, [], ◌∷◌, ◌++◌, codes, length}
 use Rattle.std.specs.Io.KnownBytes.{Appends}
+use Rattle.sqlite.specs.Files.{file_state, over_files}
+use Rattle.sqlite.specs.Held.{Held}
+use Rattle.sqlite.specs.State.{State}
+use Rattle.sqlite_disk.specs.contracts.memory.MemoryDisk.TheImpl.{ghosts}
+use Rattle.sqlite_disk.specs.declared.memory.Memory.{Memory}
+use Rattle.sqlite_store.specs.declared.store.FileStore.{FileStore}
 use Rattle.zeb_change.specs.Conditions.{Conditions}
 use Rattle.zeb_image.specs.Holdings.{Holdings, nothing_yet}
+use Rattle.zeb_image.specs.Image.{Keeps}
 use Rattle.zeb_paths.specs.Walks.{Tells}
 use Rattle.zeb_change.specs.declared.refusals.Refusal.TheVariants as refusal
 use Rattle.zeb_profile.specs.declared.directives.Directive.{Directive}
@@ -14,8 +21,8 @@ use Rattle.zeb_register.specs.Formats.{Format, packed_blocks, version_of}
 use Rattle.zeb_program.specs.FixedLines.{expected_line, refusal_line, starved_line, unreadable_line}
 use Rattle.zeb_program.specs.Inputs.{IsInput}
 use Rattle.zeb_program.specs.Scripts.{DividesAt, HasNoDivider}
-use Rattle.zeb_program.specs.Answers.{Writes, AnswersBatch, AnswersPart}
-use Rattle.zeb_program.specs.OverTables.{LinesWritten}
+use Rattle.zeb_program.specs.Answers.{Writes, AnswersBatch, AnswersPart, EachLine}
+use Rattle.zeb_program.specs.OverTables.{LineOver, LinesOver}
 use Rattle.zeb_program.specs.Statuses.{fault_status}
 use Rattle.zeb_program.specs.declared.statuses.Status.{Status}
 use Rattle.zeb_program.specs.declared.statuses.Status.TheVariants.{Answered, Failed}
@@ -40,22 +47,42 @@ pub record AreConditionsIn (format : Format) (directives : List Directive) (c : 
 abbrev pub AreScriptConditions : List Directive → Conditions → Type 0
 AreScriptConditions = AreConditionsIn packed_blocks
 
+-- a connection over two files in memory, which are gone with it
+abbrev pub MemoryConnection : Type 0
+MemoryConnection = Held (FileStore Memory ghosts)
+
+-- a connection is open, and its tables keep nothing yet
+abbrev pub HoldsNothing : State → Type 0
+HoldsNothing s = IsTrue s.is_open × Keeps s nothing_yet
+
 -- what the lines of a batch, which n others stand before, add to a writer's known bytes, and their greatest status, on
--- a register in memory that holds nothing yet
+-- a register in memory that holds nothing yet: each line as the engine says of it on any tables, on those that the
+-- line before it left, and as a run answers them, as far as the bytes of their files are told
 pub record RunsFromNothing (at : Tells) (directives : List Directive) (n : ℕ) (batch : List ℕ) (old new : Option (List ℕ)) (status : Status) : Type 0 where
   pub c : Conditions
   pub under : AreScriptConditions directives c
-  -- for each line what is written for a line that says the same, also behind one that names a path where no file's bytes are told
-  pub each : Writes old new (λ bytes. LinesWritten at n batch bytes status [])
+  -- the register before the first line, which holds nothing yet, and behind the last one
+  pub first : MemoryConnection
+  pub last : MemoryConnection
+  pub empty : HoldsNothing (file_state first)
+  -- Each line is answered as on any tables, also behind one that names a path where no file's bytes are told. Files in memory give back
+  -- what was written to them, so this has no premise of a clean disk.
+  pub each : Writes old new (λ bytes. LinesOver over_files at packed_blocks c n batch first bytes status last)
   -- as a run answers them, as far as the bytes of their files are told
-  pub answers : Writes old new (λ bytes. (last : Option Holdings) × AnswersBatch at.bytes c n batch (Some nothing_yet) bytes status last)
+  pub answers : Writes old new (λ bytes. (held : Option Holdings) × AnswersBatch at.bytes c n batch (Some nothing_yet) bytes status held)
 
 -- what the first lines of a batch, which n others stand before, but not all of its lines, add to a writer's known
--- bytes, on a register in memory that holds nothing yet
+-- bytes, on a register in memory that holds nothing yet: each of them as `RunsFromNothing` says
 pub record PartFromNothing (at : Tells) (directives : List Directive) (n : ℕ) (batch : List ℕ) (old new : Option (List ℕ)) : Type 0 where
   pub c : Conditions
   pub under : AreScriptConditions directives c
-  pub each : Writes old new (λ bytes. (status : Status) × (rest : List ℕ) × (0 < length rest) × LinesWritten at n batch bytes status rest)
+  -- the register before the first line, which holds nothing yet, and behind the last one that is answered
+  pub first : MemoryConnection
+  pub last : MemoryConnection
+  pub empty : HoldsNothing (file_state first)
+  -- each of these lines is answered as on any tables
+  pub each : Writes old new (λ bytes. (status : Status) × (rest : List ℕ) × (0 < length rest) × EachLine (LineOver over_files at packed_blocks c) n batch first bytes status rest last)
+  -- as a run answers them, as far as the bytes of their files are told
   pub answers : Writes old new (AnswersPart at.bytes c n batch (Some nothing_yet))
 
 -- what the lines of a batch add to a writer's known bytes, and their greatest status (`RunsFromNothing`); or the line

@@ -3,7 +3,9 @@
 use Rattle.std.specs.Prelude.{◌≡◌, ℕ, ◌+◌, ◌==◌, Bool, List, [], ◌∷◌, ◌++◌, codes, length, slice_get, unwrap_or, Option, Some, None, IfSome, if◌then◌else◌}
 use Rattle.std.specs.Fmt.{decimal}
 use Rattle.zeb_marc.specs.Splits.{split_of}
+use Rattle.zeb_paths.specs.Walks.{Tells}
 use Rattle.zeb_program.specs.TaskAnswers.{AreTold, ReadsWhole, paths_of}
+use Rattle.zeb_program.specs.WalkedFiles.{AreTexts, FindsFiles}
 use Rattle.zeb_program.specs.declared.tasks.Task.{Task}
 use Rattle.zeb_program.specs.declared.tasks.Task.TheVariants.{Ask, Change, Analyse}
 use Rattle.zeb_program.specs.declared.warnings.Place.{Place}
@@ -63,10 +65,19 @@ warning_of (first ∷ others) records = Some (warning_line (length (first ∷ ot
 abbrev pub MayWarn : Task → Option (List ℕ) → Type 0
 MayWarn task warning = IfSome warning (λ line. ReadsWhole task × IsWarning line)
 
--- What a task warns of: where the bytes of a file at each of its paths are told, just of those of their records that don't say so, among all of them.
-pub record WarnsOf (told : List ℕ → Option (List ℕ)) (task : Task) (warning : Option (List ℕ)) : Type 0 where
+-- what is warned of by the files at and below these paths, of folders too: of those records that don't say so, among all of them, in texts that
+-- may be read of the files which a walk gives
+abbrev pub WarnsBelow : Tells → List (List ℕ) → Option (List ℕ) → Type 0
+WarnsBelow at paths warning =
+    (walked texts : List (List ℕ)) × FindsFiles at paths walked × AreTexts at.bytes walked texts × (warning ≡ warning_of (unmarked_of 1 texts) (records_in texts))
+
+-- What a task warns of: where the bytes of a file at each of its paths are told, just of those of their records that don't say so, among all of
+-- them; and an analysis, whatever stands at its paths, of those in the files that a walk gives (`WarnsBelow`).
+pub record WarnsOf (told : List ℕ → Option (List ℕ)) (at : Tells) (task : Task) (warning : Option (List ℕ)) : Type 0 where
   pub line : MayWarn task warning
   pub places : (files : List (List ℕ)) → AreTold told (paths_of task) files → warning ≡ warning_of (unmarked_by task files) (records_in files)
+  -- an analysis warns of the records of the files that a walk gives, of folders too
+  pub below : ReadsWhole task → WarnsBelow at (paths_of task) warning
 
 -- what is written of a warning: nothing, where there is none
 abbrev pub warning_bytes : Option (List ℕ) → List ℕ

@@ -11,6 +11,7 @@ use Rattle.zeb_words.specs.declared.words.Usage.{Usage}
 use Rattle.zeb_words.specs.declared.words.Usage.TheVariants.{BadUsage, Refused, Help, Memory}
 use Rattle.zeb_program.specs.declared.tasks.Task.{Task}
 use Rattle.zeb_program.specs.Errands.{IsTaskOf, choice_of}
+use Rattle.zeb_paths.specs.Walks.{Tells}
 use Rattle.zeb_paths.specs.declared.causes.Closed.{Closed}
 use Rattle.zeb_program.specs.Closings.{TellsClosed}
 use Rattle.zeb_program.specs.Registers.{Places}
@@ -45,19 +46,19 @@ TellsUsage (Help text) old new fault_old fault_new status =
 TellsUsage Memory old new fault_old fault_new status = (status ≡ Failed) × Keeps old new × Appends fault_old fault_new starved_line
 
 -- what a task that is answered warns of goes to the fault output, and nothing else
-abbrev pub Warns : (List ℕ → Option (List ℕ)) → Task → Option (List ℕ) → Option (List ℕ) → Type 0
-Warns told task fault_old fault_new = (warning : Option (List ℕ)) × WarnsOf told task warning × Appends fault_old fault_new (warning_bytes warning)
+abbrev pub Warns : (List ℕ → Option (List ℕ)) → Tells → Task → Option (List ℕ) → Option (List ℕ) → Type 0
+Warns told at task fault_old fault_new = (warning : Option (List ℕ)) × WarnsOf told at task warning × Appends fault_old fault_new (warning_bytes warning)
 
 -- the same, and below it how the register was closed
-abbrev pub WarnsClosed : (List ℕ → Option (List ℕ)) → Task → Closed → Option (List ℕ) → Option (List ℕ) → Type 0
-WarnsClosed told task closed fault_old fault_new = (between : Option (List ℕ)) × Warns told task fault_old between × TellsClosed between fault_new closed
+abbrev pub WarnsClosed : (List ℕ → Option (List ℕ)) → Tells → Task → Closed → Option (List ℕ) → Option (List ℕ) → Type 0
+WarnsClosed told at task closed fault_old fault_new = (between : Option (List ℕ)) × Warns told at task fault_old between × TellsClosed between fault_new closed
 
 -- the answer to a task that asks for this layout, under the profile in this file, goes to the output, and only a warning to the fault output, and, with status 3, that the
 -- register's file needs its log; why there is no answer goes to the fault output alone, as the line of a fault, with the status of that fault, below it
 -- its cause, and, with status 3 too, that the register's file needs its log
 abbrev pub TellsApart : {S : Type 0} → Places S → LayoutChoice → String Global → Task → Option (List ℕ) → Option (List ℕ) → Option (List ℕ) → Option (List ℕ) → Status → Type 0
 TellsApart at choice config task old new fault_old fault_new status =
-    ((closed : Closed) × (status ≡ closing_status closed) × WritesReply at choice config task closed old new × WarnsClosed at.tells task closed fault_old fault_new)
+    ((closed : Closed) × (status ≡ closing_status closed) × WritesReply at choice config task closed old new × WarnsClosed at.tells at.sees task closed fault_old fault_new)
     ⊎ (Keeps old new × TellsWhy at choice config task fault_old fault_new status)
 
 -- what is written for words to both outputs, and the status: for words that name no command, that name a batch, a

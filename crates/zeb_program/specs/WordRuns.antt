@@ -1,6 +1,6 @@
 -- What comes of words that name a task, a batch or a shell (this program's own): under the profile in the file that they name, and on the register
 -- that it names.
-use Rattle.std.specs.Prelude.{◌≡◌, ◌⊎◌, ℕ, Bool, false, codes, Option, None, Some, IfSome, Result, Ok, Err, List, String, string_bytes}
+use Rattle.std.specs.Prelude.{◌≡◌, ◌⊎◌, ℕ, Bool, codes, Option, None, Some, IfSome, Result, Ok, Err, List, String, string_bytes}
 use Rattle.std.specs.declared.alloc.Global.{Global}
 use Rattle.std.specs.Io.KnownBytes.{Appends, Keeps}
 use Rattle.zeb_change.specs.Conditions.{Conditions}

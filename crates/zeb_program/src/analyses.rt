@@ -14,7 +14,7 @@ use crate::faults::Fault;
 use crate::files::content_of;
 use crate::warnings::{Place, note_unmarked};
 use sqlite::Alter;
-use std::alloc::Global;
+use std::alloc::{AllocError, Global};
 use zeb_engine::{AnalysedLines, Refusal, Session};
 use zeb_marc::RecordBuf;
 use zeb_paths::{Paths, Walk};
@@ -53,17 +53,22 @@ pub fn analyse_files<S: Alter, L: Layout, P: Paths>(
     let mut unmarked = Vec::new(alloc);
     let mut lines = session.begin_analysis();
     let mut walk = Walk::new(alloc, paths, named)?;
-    // The walk ends by itself; a file's number is counted, since it is told.
-    for file in 1..u64::MAX {
-        let Some(path) = walk.next_file()? else {
-            return Ok(AnalysedFiles { lines, unmarked });
-        };
+    // A file's number is counted, since it is told.
+    let mut file = 1;
+    while let Some(path) = walk.next_file()? {
         let bytes = content_of(alloc, paths, path)?;
         note_unmarked(&mut unmarked, &mut buffer, file, &bytes)?;
         lines = with_file(session, lines, file, &bytes);
+        file = number_behind(file)?;
     }
-    // The names of so many files have no room in any memory.
-    Err(Fault::Memory)
+    Ok(AnalysedFiles { lines, unmarked })
+}
+
+/// The number of the file behind the one of this number. Behind the greatest it is want of memory: no machine reads so many files.
+fn number_behind(file: u64) -> Result<u64, AllocError>
+    ensures { IfOk result (λ next. next ≡ file + 1) }
+{
+    file.checked_add(1).ok_or(AllocError)
 }
 
 /// The lines with those of one more file's records; a refusal stays.

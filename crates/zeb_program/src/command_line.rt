@@ -2,37 +2,33 @@
 
 ghost use Rattle.std.specs.Prelude.{◌≡◌, ◌≢◌, ◌⊎◌, ◌+◌, ◌++◌, false, true, map, string_bytes, Ok, IfErr, IfOk};
 ghost use Rattle.std.specs.Prelude.{OnErr, IsErrAnd};
-ghost use Rattle.zeb_change.specs.Conditions.{conditions};
-ghost use Rattle.zeb_register.specs.Formats.{version_of};
 ghost use Rattle.zeb_paths.specs.Walks.{telling};
 ghost use Rattle.zeb_words.specs.declared.words.LayoutChoice.TheVariants.{Unsaid};
 ghost use Rattle.zeb_program.specs.Doing.{DoesBatch};
 ghost use Rattle.zeb_program.specs.LeftStores.{LeavesAt, LeavesByBatch, LeavesByShell, LeavesByTask, LeavesStore};
-ghost use Rattle.zeb_program.specs.PrivateWordRuns.{OpensUnder, format_of};
+ghost use Rattle.zeb_program.specs.PrivateWordRuns.{Grows};
 ghost use Rattle.zeb_program.specs.Scripts.{BeginsRegister};
 ghost use Rattle.zeb_program.specs.ProfileFiles.{ReadsProfile};
 ghost use Rattle.zeb_program.specs.Registers.{places};
 ghost use Rattle.zeb_program.specs.Statuses.{closing_status};
 ghost use Rattle.zeb_program.specs.WordRuns.{IsText, RunsBatch, RunsLines, RunsShell};
-ghost use Rattle.zeb_program.specs.WordRuns.{StopsBatch, StopsLines, StopsOpening, StopsReading, StopsShell, StopsTask};
+ghost use Rattle.zeb_program.specs.WordRuns.{StopsBatch, StopsLines, StopsReading, StopsShell, StopsTask};
 ghost use Rattle.std.specs.Io.KnownBytes.{Appends, IsAtEnd};
 ghost use Rattle.zeb_program.specs.PrivateFaults.{IsUnread};
 ghost use Rattle.zeb_program.specs.Inputs.{TakesAtMost};
-ghost use Rattle.zeb_program.specs.FixedLines.{misuse_line, usage_line};
+ghost use Rattle.zeb_program.specs.FixedLines.{misuse_line, starved_line, usage_line};
 ghost use Rattle.zeb_program.specs.WordAnswers.{AnswersWords, NamesLines, NamesShell, StopsWords, TellsApart, TellsUsage};
 ghost use Rattle.zeb_program.specs.Warnings.{warning_bytes};
 ghost use Rattle.zeb_program.specs.Closings.{TellsClosed};
+ghost use Rattle.zeb_program.specs.Unanswered.{IsToldSince};
 ghost use Rattle.std.specs.Option.{option_map};
 
 use crate::batch::run_on_nothing;
 use crate::failures::{Cause, Failure, tell_closed, tell_failure, tell_unanswered};
 use crate::faults::Fault;
 use crate::input::{GREATEST_INPUT, TextFault, read_input};
-use crate::opening::OpenRegister;
 use crate::outputs::Output;
-use crate::performing::{
-    Performed, Told, Unopened, open_register, perform, profile_at, uses_store,
-};
+use crate::performing::{Performed, Told, open, open_register, perform, profile_at, uses_store};
 use crate::register_lines::{run_on, serve_on};
 use crate::script::Batch;
 use crate::sinks::Sink;
@@ -60,7 +56,11 @@ pub fn run_words<R: Source, W: Output, V: Write, P: Paths>(
     ensures unread { ¬ NamesLines (map string_bytes words.now) → input.new ≡ input.old }
     ensures store { LeavesStore (places P.Store.Store P.tells P.stands P.lists P.explains P.opens
         P.refuses P.lacks P.has P.lets_go P.leaves paths.old paths.new)
-        (map string_bytes words.now) (R.remaining input.old) result }
+        (map string_bytes words.now) (R.remaining input.old) result
+        (IsToldSince fault_output.new.failed (V.contents fault_output.old.writer)
+        (V.contents fault_output.new.writer)) }
+    ensures grows { OnErr result (fault_output.new.failed ≡ false
+        → Grows (V.contents fault_output.old.writer) (V.contents fault_output.new.writer)) }
     ensures failed_read { R.has_failed input.new ≡ true
         → IfOk result (λ status. status ≡ Status.Failed) }
     ensures answer { IfOk result (λ status. output.new.failed ≡ false
@@ -101,6 +101,9 @@ fn refuse_words<W: Write, V: Write>(
     ensures told { output.new.failed ≡ false → fault_output.new.failed ≡ false →
         TellsUsage usage (W.contents output.old.writer) (W.contents output.new.writer)
         (V.contents fault_output.old.writer) (V.contents fault_output.new.writer) result }
+    // Whatever the other output does.
+    ensures starved { usage ≡ Usage.Memory → fault_output.new.failed ≡ false → Appends
+        (V.contents fault_output.old.writer) (V.contents fault_output.new.writer) starved_line }
 {
     match usage {
         Usage::BadUsage(why) => explain_misuse(why, fault_output),
@@ -162,7 +165,8 @@ fn run_task<W: Write, V: Write, P: Paths>(
     // What becomes of the store, whatever is written.
     ensures store { LeavesByTask (places P.Store.Store P.tells P.stands P.lists P.explains
         P.opens P.refuses P.lacks P.has P.lets_go P.leaves paths.old paths.new) choice config
-        task.now result }
+        task.now result (IsToldSince fault_output.new.failed
+        (V.contents fault_output.old.writer) (V.contents fault_output.new.writer)) }
 {
     let named = config.clone()?;
     let Performed { told, closed } = perform(alloc, config, choice, task, paths);
@@ -230,9 +234,12 @@ fn run_batch<R: Source, W: Write, V: Write, P: Paths>(
         P.lacks P.has P.lets_go P.leaves paths.old paths.new) config (R.remaining input.old)
         (W.contents output.old.writer) (W.contents output.new.writer)
         (V.contents fault_output.old.writer) (V.contents fault_output.new.writer)) }
+    ensures grows { OnErr result (fault_output.new.failed ≡ false
+        → Grows (V.contents fault_output.old.writer) (V.contents fault_output.new.writer)) }
     ensures store { LeavesByBatch (places P.Store.Store P.tells P.stands P.lists P.explains
         P.opens P.refuses P.lacks P.has P.lets_go P.leaves paths.old paths.new) config
-        (R.remaining input.old) result }
+        (R.remaining input.old) result (IsToldSince fault_output.new.failed
+        (V.contents fault_output.old.writer) (V.contents fault_output.new.writer)) }
 {
     let named = config.clone()?;
     match begin_batch(alloc, config, paths, input) {
@@ -300,9 +307,13 @@ fn serve_batch<W: Write, V: Write, P: Paths>(
         P.lists P.explains P.opens P.refuses P.lacks P.has P.lets_go P.leaves paths.old paths.new)
         profile batch.entry.text.now (W.contents output.old.writer) (W.contents output.new.writer)
         (V.contents fault_output.old.writer) (V.contents fault_output.new.writer)) }
+    ensures grows { OnErr result (fault_output.new.failed ≡ false
+        → Grows (V.contents fault_output.old.writer) (V.contents fault_output.new.writer)) }
     ensures store { batch.entry.lines_before ≡ 0 → LeavesAt (places P.Store.Store P.tells P.stands
         P.lists P.explains P.opens P.refuses P.lacks P.has P.lets_go P.leaves paths.old paths.new)
-        Unsaid profile (BeginsRegister batch.entry.text.now) (λ format c. DoesBatch P.Store.Store
+        Unsaid profile result (IsToldSince fault_output.new.failed
+        (V.contents fault_output.old.writer) (V.contents fault_output.new.writer))
+        (BeginsRegister batch.entry.text.now) (λ format c. DoesBatch P.Store.Store
         (telling (P.tells paths.new) (P.stands paths.new) (P.lists paths.new)) format c 0
         batch.entry.text.now result) }
 {
@@ -347,9 +358,12 @@ fn run_shell<R: Source, W: Output, V: Write, P: Paths>(
         P.lacks P.has P.lets_go P.leaves paths.old paths.new) config (R.remaining input.old)
         (R.remaining input.new) (W.contents output.old.writer) (W.contents output.new.writer)
         (V.contents fault_output.old.writer) (V.contents fault_output.new.writer)) }
+    ensures grows { OnErr result (fault_output.new.failed ≡ false
+        → Grows (V.contents fault_output.old.writer) (V.contents fault_output.new.writer)) }
     ensures store { LeavesByShell (places P.Store.Store P.tells P.stands P.lists P.explains
         P.opens P.refuses P.lacks P.has P.lets_go P.leaves paths.old paths.new) config
-        (R.remaining input.old) result }
+        (R.remaining input.old) result (IsToldSince fault_output.new.failed
+        (V.contents fault_output.old.writer) (V.contents fault_output.new.writer)) }
 {
     let named = config.clone()?;
     match open(alloc, config, paths) {
@@ -362,29 +376,5 @@ fn run_shell<R: Source, W: Output, V: Write, P: Paths>(
             refused.closed,
             fault_output,
         ),
-    }
-}
-
-/// Opens the register that the profile in this file names.
-fn open<P: Paths>(
-    alloc: Global,
-    config: String,
-    paths: &mut P,
-) -> Result<OpenRegister<P::Store>, Unopened>
-    ensures opened { IfOk result (λ register. OpensUnder (places P.Store.Store P.tells P.stands
-        P.lists P.explains P.opens P.refuses P.lacks P.has P.lets_go P.leaves paths.old paths.new)
-        config (format_of register.1) (conditions (version_of (format_of register.1))
-        register.0.profile register.0.limits) register.0.connection) }
-    ensures failed { IfErr result (λ it. StopsOpening (places P.Store.Store P.tells P.stands
-        P.lists P.explains P.opens P.refuses P.lacks P.has P.lets_go P.leaves paths.old paths.new)
-        config it.failure.fault it.failure.cause it.closed) }
-    ensures told { P.tells paths.new ≡ P.tells paths.old }
-{
-    match profile_at(alloc, paths, config) {
-        Ok(profile) => open_register(alloc, paths, LayoutChoice::Unsaid, profile),
-        Err(failure) => Err(Unopened {
-            failure,
-            closed: Closed::WHOLE,
-        }),
     }
 }

@@ -1,6 +1,6 @@
 //! Why a command that words name isn't answered, with its cause, and what is written of both.
 
-ghost use Rattle.std.specs.Prelude.{◌≡◌, false, true, None, IfOk, OnErr, string_bytes};
+ghost use Rattle.std.specs.Prelude.{◌≡◌, false, true, None, IfOk, IsErr, OnErr, string_bytes};
 ghost use Rattle.std.specs.Option.{option_map};
 ghost use Rattle.zeb_program.specs.Answers.{Writes};
 ghost use Rattle.zeb_program.specs.Closings.{TellsClosed, TellsLeft};
@@ -232,6 +232,7 @@ pub fn tell_failure<W: Write>(
         Writes (W.contents output.old.writer) (W.contents output.new.writer)
         (λ bytes. TellsCaused failure.now.fault failure.now.cause bytes status)) }
     ensures sound { output.new.failed ≡ false → output.old.failed ≡ false }
+    ensures memory { failure.now.fault ≡ Memory → IsErr result }
     ensures status { IfOk result IsFaultStatus }
     ensures unread { IsUnread failure.now.fault → IfOk result (λ status. status ≡ Status.Failed) }
     ensures silent { OnErr result (output.new ≡ output.old) }
@@ -254,6 +255,7 @@ pub fn tell_task_failure<P: Paths, W: Write>(
         Writes (W.contents output.old.writer) (W.contents output.new.writer) (λ bytes. (register : _)
         × NamesRegister (P.tells paths.now (string_bytes config)) config failure.now.fault register
         × TellsPlaced failure.now.fault failure.now.cause register bytes status)) }
+    ensures memory { failure.now.fault ≡ Memory → IsErr result }
     ensures status { IfOk result IsFaultStatus }
     ensures silent { OnErr result (output.new ≡ output.old) }
 {
@@ -398,6 +400,7 @@ pub fn tell_unanswered<P: Paths, W: Write>(
     ensures told { IfOk result (λ status. output.new.failed ≡ false → TellsUnanswered
         (P.tells paths.now (string_bytes config)) config failure.now.fault failure.now.cause closed
         (W.contents output.old.writer) (W.contents output.new.writer) status) }
+    ensures memory { failure.now.fault ≡ Memory → IsErr result }
     ensures status { IfOk result IsFaultStatus }
     ensures stopped { OnErr result (output.new.failed ≡ false → TellsLeft
         (W.contents output.old.writer) (W.contents output.new.writer) closed) }

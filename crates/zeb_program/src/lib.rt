@@ -31,7 +31,9 @@ mod tasks;
 mod warnings;
 mod words;
 
-pub use laws::{a_batch_is_one_run, told_files_leave_nothing_unknown};
+pub use laws::{
+    a_batch_is_one_run, lines_are_written_without_tables, told_files_leave_nothing_unknown,
+};
 pub use outputs::Output;
 pub use program::run;
 pub use sinks::Sink;

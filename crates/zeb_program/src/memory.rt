@@ -6,8 +6,7 @@ ghost use Rattle.sqlite.specs.Steps.{IsEmpty};
 ghost use Rattle.zeb_change.specs.Conditions.{conditions};
 ghost use Rattle.zeb_register.specs.Formats.{packed_blocks, version_of};
 ghost use Rattle.zeb_program.specs.FaultAnswers.{IsOpeningFailure};
-ghost use Rattle.zeb_program.specs.PrivateServing.{HoldsNothing};
-ghost use Rattle.zeb_program.specs.ScriptAnswers.{AreScriptConditions};
+ghost use Rattle.zeb_program.specs.ScriptAnswers.{AreScriptConditions, HoldsNothing};
 
 use crate::opening::session_over;
 use sqlite::{Connection, FileStore, Files, Options};

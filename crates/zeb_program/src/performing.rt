@@ -6,11 +6,11 @@ ghost use Rattle.zeb_paths.specs.Walks.{telling};
 ghost use Rattle.zeb_engine.specs.Adopting.{HasOtherTables};
 ghost use Rattle.zeb_engine.specs.declared.replies.Reply.{Reply};
 ghost use Rattle.zeb_program.specs.PrivateServing.{StandsFor};
-ghost use Rattle.zeb_program.specs.PrivateWordRuns.{ExplainsFailure, ExplainsRun, GivesClosed, GivesFor, ServesHeld, ServesOnNothing, TakesIn, TakesStore, fault_given, format_of};
+ghost use Rattle.zeb_program.specs.PrivateWordRuns.{ExplainsFailure, ExplainsRun, GivesClosed, GivesFor, OpensUnder, ServesHeld, ServesOnNothing, TakesIn, TakesStore, fault_given, format_of};
 ghost use Rattle.zeb_program.specs.ProfileFiles.{ReadsProfile};
 ghost use Rattle.zeb_program.specs.Registers.{AtStore, ClosesStore, IsForeignOr, IsLetGo, nothing_met, places};
 ghost use Rattle.zeb_program.specs.TaskAnswers.{paths_of};
-ghost use Rattle.zeb_program.specs.WordRuns.{IsOwnOr, Performs, ServesUnder};
+ghost use Rattle.zeb_program.specs.WordRuns.{IsOwnOr, Performs, ServesUnder, StopsOpening};
 ghost use Rattle.std.specs.Option.{option_map};
 ghost use Rattle.zeb_change.specs.Conditions.{conditions};
 ghost use Rattle.zeb_register.specs.Formats.{packed_blocks, version_of};
@@ -76,7 +76,8 @@ pub fn perform<P: Paths>(
     task: &Task,
     paths: &mut P,
 ) -> Performed
-    ensures warns { IfOk result.told (λ told. WarnsOf (P.tells paths.old) task.now
+    ensures warns { IfOk result.told (λ told. WarnsOf (P.tells paths.old)
+        (telling (P.tells paths.new) (P.stands paths.new) (P.lists paths.new)) task.now
         (option_map string_bytes told.warning)) }
     ensures performs { GivesClosed result (Performs (places P.Store.Store P.tells P.stands P.lists
         P.explains P.opens P.refuses P.lacks P.has P.lets_go P.leaves paths.old paths.new) choice config
@@ -122,7 +123,8 @@ fn perform_in_register<P: Paths>(
     paths: &mut P,
 ) -> Performed
     requires { AtStore profile (P.has paths.old) ⊎ (task.now ≡ Task.Ask Command.Init) }
-    ensures warns { IfOk result.told (λ told. WarnsOf (P.tells paths.old) task.now
+    ensures warns { IfOk result.told (λ told. WarnsOf (P.tells paths.old)
+        (telling (P.tells paths.new) (P.stands paths.new) (P.lists paths.new)) task.now
         (option_map string_bytes told.warning)) }
     ensures serves { GivesClosed result (ServesUnder (places P.Store.Store P.tells P.stands P.lists
         P.explains P.opens P.refuses P.lacks P.has P.lets_go P.leaves paths.old paths.new) choice
@@ -146,7 +148,8 @@ fn serve_task<P: Paths>(
     task: &Task,
     paths: &P,
 ) -> Performed
-    ensures warns { IfOk result.told (λ told. WarnsOf (P.tells paths.now) task.now
+    ensures warns { IfOk result.told (λ told. WarnsOf (P.tells paths.now)
+        (telling (P.tells paths.now) (P.stands paths.now) (P.lists paths.now)) task.now
         (option_map string_bytes told.warning)) }
     ensures serves { GivesClosed result (ServesHeld P.Store.Store (P.leaves paths.now)
         (P.tells paths.now) (telling (P.tells paths.now) (P.stands paths.now) (P.lists paths.now))
@@ -169,7 +172,8 @@ fn serve_task_in<L: Layout, P: Paths>(
     task: &Task,
     paths: &P,
 ) -> Performed
-    ensures warns { IfOk result.told (λ told. WarnsOf (P.tells paths.now) task.now
+    ensures warns { IfOk result.told (λ told. WarnsOf (P.tells paths.now)
+        (telling (P.tells paths.now) (P.stands paths.now) (P.lists paths.now)) task.now
         (option_map string_bytes told.warning)) }
     ensures serves { GivesClosed result (ServesHeld P.Store.Store (P.leaves paths.now)
         (P.tells paths.now) (telling (P.tells paths.now) (P.stands paths.now) (P.lists paths.now))
@@ -194,7 +198,8 @@ fn perform_on_nothing<P: Paths>(
     task: &Task,
     paths: &P,
 ) -> Result<Told, Failure>
-    ensures warns { IfOk result (λ told. WarnsOf (P.tells paths.now) task.now
+    ensures warns { IfOk result (λ told. WarnsOf (P.tells paths.now)
+        (telling (P.tells paths.now) (P.stands paths.now) (P.lists paths.now)) task.now
         (option_map string_bytes told.warning)) }
     ensures serves { GivesFor result (ServesOnNothing (P.tells paths.now)
         (telling (P.tells paths.now) (P.stands paths.now) (P.lists paths.now)) profile task.now) }
@@ -248,6 +253,30 @@ pub fn profile_at<P: Paths>(alloc: Global, paths: &P, file: String) -> Result<Pr
     match read_profile(alloc, paths, file) {
         Ok(profile) => Ok(profile),
         Err(fault) => Err(of_path(paths, fault, Asked::Text)),
+    }
+}
+
+/// Opens the register that the profile in this file names.
+pub fn open<P: Paths>(
+    alloc: Global,
+    config: String,
+    paths: &mut P,
+) -> Result<OpenRegister<P::Store>, Unopened>
+    ensures opened { IfOk result (λ register. OpensUnder (places P.Store.Store P.tells P.stands
+        P.lists P.explains P.opens P.refuses P.lacks P.has P.lets_go P.leaves paths.old paths.new)
+        config (format_of register.1) (conditions (version_of (format_of register.1))
+        register.0.profile register.0.limits) register.0.connection) }
+    ensures failed { IfErr result (λ it. StopsOpening (places P.Store.Store P.tells P.stands
+        P.lists P.explains P.opens P.refuses P.lacks P.has P.lets_go P.leaves paths.old paths.new)
+        config it.failure.fault it.failure.cause it.closed) }
+    ensures told { P.tells paths.new ≡ P.tells paths.old }
+{
+    match profile_at(alloc, paths, config) {
+        Ok(profile) => open_register(alloc, paths, LayoutChoice::Unsaid, profile),
+        Err(failure) => Err(Unopened {
+            failure,
+            closed: Closed::WHOLE,
+        }),
     }
 }
 

@@ -4,12 +4,13 @@ ghost use Rattle.std.specs.Prelude.{◌≡◌, ◌≢◌, ◌+◌, [], true, fal
 ghost use Rattle.std.specs.Io.KnownBytes.{Appends, Keeps};
 ghost use Rattle.zeb_paths.specs.Walks.{telling};
 ghost use Rattle.zeb_program.specs.Inputs.{IsInput, TakesAtMost};
-ghost use Rattle.zeb_program.specs.LeftStores.{IsStarvedCode, LeavesStore};
+ghost use Rattle.zeb_program.specs.LeftStores.{EndsLeaving};
 ghost use Rattle.zeb_program.specs.Registers.{places};
 ghost use Rattle.zeb_program.specs.FixedLines.{starved_line};
 ghost use Rattle.zeb_program.specs.ScriptAnswers.{AnswersScript, EndsEarly, EndsScript, TellsAtMost, fault_line, hint_of};
 ghost use Rattle.zeb_program.specs.PrivateEnding.{AnswersAs, IsLastStatus, PassesOn};
 ghost use Rattle.zeb_program.specs.Statuses.{EndsWith, ShowsFailures, fault_status};
+ghost use Rattle.zeb_program.specs.Unanswered.{IsToldSince};
 ghost use Rattle.zeb_program.specs.WordAnswers.{EndsWords, NamesLines, NamesShell};
 
 use crate::batch::run_in_memory;
@@ -64,18 +65,20 @@ pub fn run<R: Source, W: Output, V: Output, P: Paths>(
 
     // No store is opened without a word. With words, whatever is written, and whatever fails: what becomes of the register's store. Where
     // they name no command none is opened; and lines of a batch are left only where memory ran out for the program itself, with status 3.
-    ensures store { (words.now ≡ [] → files.new ≡ files.old) × (words.now ≢ [] → (ended : _)
-        × LeavesStore (places P.Store.Store P.tells P.stands P.lists P.explains P.opens P.refuses
-        P.lacks P.has P.lets_go P.leaves files.old files.new) (map string_bytes words.now)
-        (R.remaining input.old) ended × IsStarvedCode ended result) }
+    // Why a task isn't done, or none is opened for words that name a command, is told on the fault output, unless a write to that failed.
+    ensures store { (words.now ≡ [] → files.new ≡ files.old) × (words.now ≢ [] → EndsLeaving
+        (places P.Store.Store P.tells P.stands P.lists P.explains P.opens P.refuses P.lacks P.has
+        P.lets_go P.leaves files.old files.new) (map string_bytes words.now)
+        (R.remaining input.old) result (IsToldSince fault_output.new.failed
+        (V.contents fault_output.old.writer) (V.contents fault_output.new.writer))) }
 
     // Where no write has failed, nothing of what was written is held back.
     ensures passed { (output.new.failed ≡ false → W.held_back output.new.writer ≡ [])
         × (fault_output.new.failed ≡ false → V.held_back fault_output.new.writer ≡ []) }
 
     // Without a word: what is written, where the input tells its bytes and neither a read nor a write failed, and that nothing goes to
-    // the fault output but that memory ran out, or what is expected. The answers of lines are told where the paths tell the bytes of each
-    // file that a line names by its path.
+    // the fault output but that memory ran out, or what is expected. Each line is answered as the engine says of it on any tables; it is
+    // told as the answer of a run up to the first line that names a file by its path of which the paths don't tell the bytes.
     ensures script { words.now ≡ [] → fault_output.new.failed ≡ false
         → TellsAtMost (V.contents fault_output.old.writer) (V.contents fault_output.new.writer)
         × (R.has_failed input.new ≡ false → output.new.failed ≡ false

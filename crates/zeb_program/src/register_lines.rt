@@ -6,7 +6,7 @@ ghost use Rattle.zeb_change.specs.Conditions.{conditions};
 ghost use Rattle.zeb_paths.specs.Walks.{telling};
 ghost use Rattle.zeb_register.specs.Formats.{version_of};
 ghost use Rattle.zeb_program.specs.Doing.{DoesBatch, DoesShell};
-ghost use Rattle.zeb_program.specs.PrivateWordRuns.{ClosesAloud, EndsSession, LeavesHeld, RunsIn, ServesIn, StopsIn, StopsServing, format_of};
+ghost use Rattle.zeb_program.specs.PrivateWordRuns.{ClosesAloud, EndsSession, Grows, LeavesHeld, RunsIn, ServesIn, StopsIn, StopsServing, format_of};
 
 use crate::batch::run_lines;
 use crate::failures::tell_closed;
@@ -49,6 +49,8 @@ pub fn run_on<W: Write, V: Write, P: Paths>(
         batch.entry.lines_before batch.entry.text.now
         register.0.connection (W.contents output.old.writer) (W.contents output.new.writer)
         (V.contents fault_output.old.writer) (V.contents fault_output.new.writer)) }
+    ensures grows { OnErr result (fault_output.new.failed ≡ false
+        → Grows (V.contents fault_output.old.writer) (V.contents fault_output.new.writer)) }
     // What becomes of the store, whatever is written.
     ensures store { LeavesHeld P.Store.Store (P.leaves paths.now) register.0.connection
         (DoesBatch P.Store.Store (telling (P.tells paths.now) (P.stands paths.now)
@@ -88,6 +90,8 @@ fn run_in<L: Layout, W: Write, V: Write, P: Paths>(
         session.profile session.limits) batch.entry.lines_before batch.entry.text.now
         session.connection (W.contents output.old.writer) (W.contents output.new.writer)
         (V.contents fault_output.old.writer) (V.contents fault_output.new.writer)) }
+    ensures grows { OnErr result (fault_output.new.failed ≡ false
+        → Grows (V.contents fault_output.old.writer) (V.contents fault_output.new.writer)) }
     ensures store { LeavesHeld P.Store.Store (P.leaves paths.now) session.connection
         (DoesBatch P.Store.Store (telling (P.tells paths.now) (P.stands paths.now)
         (P.lists paths.now)) L.format (conditions (version_of L.format) session.profile
@@ -127,6 +131,8 @@ pub fn serve_on<R: Source, W: Output, V: Write, P: Paths>(
         (R.remaining input.old) (R.remaining input.new)
         register.0.connection (W.contents output.old.writer) (W.contents output.new.writer)
         (V.contents fault_output.old.writer) (V.contents fault_output.new.writer)) }
+    ensures grows { OnErr result (fault_output.new.failed ≡ false
+        → Grows (V.contents fault_output.old.writer) (V.contents fault_output.new.writer)) }
     // What becomes of the store, whatever is written.
     ensures store { LeavesHeld P.Store.Store (P.leaves paths.now) register.0.connection
         (DoesShell P.Store.Store (telling (P.tells paths.now) (P.stands paths.now)
@@ -171,6 +177,8 @@ fn serve_in<L: Layout, R: Source, W: Output, V: Write, P: Paths>(
         session.profile session.limits) (R.remaining input.old) (R.remaining input.new)
         session.connection (W.contents output.old.writer) (W.contents output.new.writer)
         (V.contents fault_output.old.writer) (V.contents fault_output.new.writer)) }
+    ensures grows { OnErr result (fault_output.new.failed ≡ false
+        → Grows (V.contents fault_output.old.writer) (V.contents fault_output.new.writer)) }
     ensures store { LeavesHeld P.Store.Store (P.leaves paths.now) session.connection
         (DoesShell P.Store.Store (telling (P.tells paths.now) (P.stands paths.now)
         (P.lists paths.now)) L.format (conditions (version_of L.format) session.profile

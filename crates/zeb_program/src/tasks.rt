@@ -1,6 +1,6 @@
 //! The tasks that words name, each carried out on the register that the profile names.
 
-ghost use Rattle.std.specs.Prelude.{◌≡◌, ⊤, false, true, ℕ, None, List, Result, map, string_bytes, IfErr, IfOk, OnErr};
+ghost use Rattle.std.specs.Prelude.{◌≡◌, ⊤, false, true, ℕ, None, List, Result, Ok, Err, map, string_bytes, IfErr, IfOk, MatchResult, OnErr};
 ghost use Rattle.sqlite.specs.Held.{state};
 ghost use Rattle.sqlite.specs.State.{HasCleanDisk};
 ghost use Rattle.zeb_change.specs.Conditions.{conditions};
@@ -17,8 +17,9 @@ ghost use Rattle.zeb_program.specs.PrivateServing.{CarriesOut, StandsFor};
 ghost use Rattle.zeb_program.specs.Serving.{AnswersFrom};
 ghost use Rattle.zeb_program.specs.TaskAnswers.{AnswersCommand, AreTold, ReadsWhole, paths_of};
 ghost use Rattle.zeb_program.specs.PrivateWarnings as spec;
-ghost use Rattle.zeb_program.specs.Warnings.{records_in, unmarked_by, unmarked_of, warning_of};
+ghost use Rattle.zeb_program.specs.Warnings.{WarnsBelow, records_in, unmarked_by, unmarked_of, warning_of};
 ghost use Rattle.zeb_program.specs.declared.faults.Fault.{Fault};
+ghost use Rattle.zeb_program.specs.declared.faults.Fault.TheVariants.{Refused};
 ghost use Rattle.zeb_program.specs.declared.tasks.Task.{Task};
 
 use crate::analyses::{AnalysedFiles, analyse_files};
@@ -27,7 +28,7 @@ use crate::files::readers_of;
 use crate::warnings::Place;
 use sqlite::Alter;
 use std::alloc::Global;
-use zeb_engine::{AnalysedLines, Command, DbName, Kind, Reply, Session};
+use zeb_engine::{AnalysedLines, Command, DbName, Kind, Refusal, Reply, Session};
 use zeb_paths::Paths;
 use zeb_register::Layout;
 use zeb_words::{Act, LayoutChoice};
@@ -187,6 +188,10 @@ pub fn carry_out<S: Alter, L: Layout, P: Paths>(
     ensures unmarked { (files : List (List ℕ)) → AreTold (P.tells paths.now) (paths_of task.now)
         files → IfOk result (λ served. spec.warned_in served
         ≡ warning_of (unmarked_by task.now files) (records_in files)) }
+    // Of an analysis, whatever stands at its paths: of the files that a walk gives.
+    ensures below { ReadsWhole task.now → IfOk result (λ served. WarnsBelow
+        (telling (P.tells paths.now) (P.stands paths.now) (P.lists paths.now))
+        (paths_of task.now) (spec.warned_in served)) }
     ensures shown { IfOk result (spec.IsServedFor task.now) }
 {
     match task {
@@ -229,7 +234,15 @@ fn ask<S: Alter, L: Layout>(session: &mut Session<S, L>, command: &Command) -> R
         (state S.Store session.new.connection)) }
     ensures read { IfErr result (λ fault. ¬ IsUnread fault) }
 {
-    match session.command(command) {
+    as_told(session.command(command))
+}
+
+/// What a register has answered, as a task is: a reply and a refusal are passed on as they are.
+fn as_told(answer: Result<Reply, Refusal>) -> Result<Reply, Fault>
+    ensures { MatchResult answer (λ reply. result ≡ Ok reply)
+        (λ refusal. result ≡ Err (Refused refusal)) }
+{
+    match answer {
         Ok(reply) => Ok(reply),
         Err(refusal) => Err(Fault::Refused(refusal)),
     }
@@ -260,10 +273,7 @@ pub fn change_by_paths<S: Alter, L: Layout, P: Paths>(
         (P.lists paths.now)) ⊥ (map string_bytes named.now) result }
 {
     let mut readers = readers_of(alloc, paths, named)?;
-    match session.update_from(database, kind, &mut readers) {
-        Ok(reply) => Ok(reply),
-        Err(refusal) => Err(Fault::Refused(refusal)),
-    }
+    as_told(session.update_from(database, kind, &mut readers))
 }
 
 /// Analyses the records in the files at and below the paths.
@@ -284,6 +294,10 @@ fn analyse_paths<S: Alter, L: Layout, P: Paths>(
         (map string_bytes named.now) files
         → IfOk result (λ served. spec.warned_in served
         ≡ warning_of (unmarked_of 1 files) (records_in files)) }
+    // And whatever stands at each path: of the files that a walk gives.
+    ensures below { IfOk result (λ served. WarnsBelow
+        (telling (P.tells paths.now) (P.stands paths.now) (P.lists paths.now))
+        (map string_bytes named.now) (spec.warned_in served)) }
 {
     let AnalysedFiles { lines, unmarked } = analyse_files(alloc, session, paths, named)?;
     match lines {

@@ -17,9 +17,6 @@ pub record AreAlike (db : ℤ) (key : Key) (one two : Trees) : Type 0 where
   pub blocks : HasAlike blocks_tree db key one two
   pub dict : HasAlike dict_tree db key one two
 
-pub alike_itself : (db : ℤ) (key : Key) (trees : Trees) → AreAlike db key trees trees
-alike_itself db key trees = record { postings = λ row. (λ h. h, λ h. h); blocks = λ row. (λ h. h, λ h. h); dict = λ row. (λ h. h, λ h. h) }
-
 rows_back : (db : ℤ) (key : Key) (one two : Trees) → AreAlike db key one two → AreAlike db key two one
 rows_back db key one two alike = record {
   postings = λ row. ((alike.postings row).1, (alike.postings row).0);

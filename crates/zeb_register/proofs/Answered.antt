@@ -1,5 +1,5 @@
 -- What a call that answers by one clause is known to answer.
-use Rattle.zeb_register.proofs.Cited.{State, Trees, ◌≡◌, ◌≢◌, ◌∙◌, err_from_is_err_and, ap, sym, subst, Result, Ok, Err, IfOk, RegFault, Damaged, Store, Content, IsReasoned}
+use Rattle.zeb_register.proofs.Cited.{State, Trees, ◌≡◌, ◌≢◌, ◌∙◌, err_from_is_err_and, ap, sym, subst, Result, Ok, Err, RegFault, Damaged, Store, Content, IsReasoned}
 use Rattle.std.specs.Result.{IsErrAnd}
 use Rattle.zeb_register.specs.Answers.{Answers, IfDamaged, TellsOr}
 use Rattle.zeb_register.specs.Clauses.{OnStore, Tells, TellsHeld}
@@ -38,8 +38,3 @@ or_damaged {A} Damage Told old new (Err fault) tells clean store is = (tells cle
 pub told_held : {A : Type 0} (Holds : Trees → Content → Type 0) (Told : A → Type 0) (old new : State) (result : Result A RegFault) → Tells old new result (λ trees answer. Told answer) → TellsHeld Holds old new result (λ content answer. Told answer)
 told_held Holds Told old new (Ok answer) tells clean store = λ content holds. tells clean store
 told_held Holds Told old new (Err fault) tells clean store = tt
-
--- what an accepted call answers
-pub answers_ok : {A : Type 0} (result : Result A RegFault) (Refused : RegFault → Type 0) (Done Told : A → Type 0) → ((answer : A) → Done answer → Told answer) → Answers Refused Done result → IfOk result Told
-answers_ok (Ok answer) Refused Done Told so told = so answer told
-answers_ok (Err fault) Refused Done Told so told = tt

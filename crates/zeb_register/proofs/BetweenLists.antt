@@ -1,22 +1,15 @@
 -- The lists of neighbouring terms are told by their units. What a call that lists them says of tables that hold a content.
-use Rattle.zeb_register.proofs.Cited.{Row, State, Trees, Text, has_mapped, mapped_has, Has, ◌≡◌, ◌≢◌, ◌↔◌, ◌∙◌, ℕ, ℤ, List, [], ◌∷◌, ◌++◌, drop, map, refl, sym, ap, ap₂, subst, inl, inr, Result, Ok, Err, OnOk, Vec, Global, Key, Register, Posting, RegFault, Store, RegisterOf, IsBetween, IsRestBetween, three_behind, register_columns, key_in, posting_row, first_three, IsListOf, IsRest, IsStore, postings_tree, Format, plain_rows, holds_in, IsReasoned, term_list}
+use Rattle.zeb_register.proofs.Cited.{Row, State, Text, has_mapped, mapped_has, Has, ◌≡◌, ◌≢◌, ◌↔◌, ◌∙◌, ℕ, List, [], ◌∷◌, ◌++◌, drop, map, refl, sym, ap, ap₂, subst, inl, inr, Result, Ok, Err, Vec, Global, Key, Posting, RegFault, Store, RegisterOf, IsBetween, IsRestBetween, three_behind, register_columns, key_in, posting_row, first_three, IsListOf, IsRest, IsStore, postings_tree, Format, plain_rows, holds_in, term_list}
 use Rattle.zeb_register.specs.Answers.{Answers, IfDamaged}
 use Rattle.zeb_register.specs.Between.{IsPostingBetween}
-use Rattle.zeb_register.specs.Clauses.{IsHonestOfHeld, OnStore, TellsHeld}
+use Rattle.zeb_register.specs.Clauses.{TellsHeld}
 use Rattle.zeb_register.specs.PlainUnits.{ShowsNone}
 use Rattle.zeb_register.specs.PrivateBetweenRows.{SomeShowsNoneBehind}
-use Rattle.zeb_register.specs.Sound.{IsListSound}
 use Rattle.zeb_register.specs.Units.{HasMalformedBetween, ListsBetween, ListsTerms}
-use Rattle.zeb_register.proofs.Answered.{or_damaged, or_reasoned}
 use Rattle.zeb_register.proofs.BetweenRows.{has_under, shown_row, under, under_has, under_listed}
 use Rattle.zeb_register.proofs.ContentLemmas.{same_posting}
-use Rattle.zeb_register.proofs.KeyLists.{held_listing, held_whole, one_listing, whole_list, whole_sound}
+use Rattle.zeb_register.proofs.KeyLists.{held_listing, one_listing}
 use Rattle.zeb_register.proofs.RowUnits.{rows_listed}
-
--- the list of each of these terms is sound
-abbrev pub AreListsSound : Format → Trees → ℤ → ℕ → Register → (first last : List ℕ) → Type 0
-AreListsSound format trees db index register first last =
-    (term : List ℕ) → IsBetween first last term → IsListSound format trees db (key_in index register term)
 
 -- ---- rows of postings
 
@@ -96,17 +89,3 @@ module _ (format : Format) (at : RegisterOf) (first last : List ℕ) where
         λ of. (are.each p).1 (of.0, of.1, subst (λ l. Has l p) (sym (same of.0 of.1)) of.2),
       )
   between_told old new (Err fault) tells clean store = tt
-
-  pub between_sound : (old new : State) (result : Result (Vec Posting Global) RegFault) → ListsTerms format at first last old new result
-      → OnStore old new (λ trees. OnOk result (AreListsSound format trees at.db.0 at.index at.register first last))
-  between_sound old new (Ok list) tells clean store = λ term between. whole_list format old.now.trees at.db.0 (key_in at.index at.register term) ((tells clean store).units term between).whole
-  between_sound old new (Err fault) tells clean store = tt
-
-  pub between_honest : (old new : State) (result : Result (Vec Posting Global) RegFault) → ListsTerms format at first last old new result → IsHonestOfHeld (holds_in format) old new result
-  between_honest old new result tells clean store is content holds =
-      let bad = or_damaged (λ trees. HasMalformedBetween format trees at first last) (λ trees list. ListsBetween format trees at first last list.items) old new result tells clean store is in
-      let key = key_in at.index at.register bad.0 in
-      whole_sound format old.now.trees at.db.0 key (held_whole format old.now.trees content holds at.db.0 key) bad.2
-
-  pub between_reasoned : (old new : State) (result : Result (Vec Posting Global) RegFault) → ListsTerms format at first last old new result → IsReasoned old new result
-  between_reasoned old new result tells = or_reasoned (λ trees. HasMalformedBetween format trees at first last) (λ trees list. ListsBetween format trees at first last list.items) old new result tells

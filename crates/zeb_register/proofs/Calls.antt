@@ -255,10 +255,6 @@ pub on_err_so : {A E : Type 0} (r : Result A E) (P Q : Type 0) → (P → Q) →
 on_err_so (Ok a) P Q so h = tt
 on_err_so (Err e) P Q so h = so h
 
-pub on_ok_both : {A E : Type 0} (r : Result A E) (P Q R : Type 0) → (P → Q → R) → OnOk r P → OnOk r Q → OnOk r R
-on_ok_both (Ok a) P Q R so p q = so p q
-on_ok_both (Err e) P Q R so p q = tt
-
 pub on_ok_so : {A E : Type 0} (r : Result A E) (P Q : Type 0) → (P → Q) → OnOk r P → OnOk r Q
 on_ok_so (Ok a) P Q so h = so h
 on_ok_so (Err e) P Q so h = tt

@@ -128,20 +128,20 @@ pub use Rattle.zeb_register.specs.PlainRows.{HoldsRows, key_row, posting_row, re
 pub use Rattle.zeb_register.specs.PrivateBetweenRows.{IsRestBetween, three_behind, two_behind}
 pub use Rattle.zeb_register.specs.PrivateCatalog.{listed_row}
 pub use Rattle.zeb_register.specs.PrivateClauses.{Ran, IsReasonedError}
-pub use Rattle.zeb_register.specs.PrivateKeyColumns.{register_columns}
+pub use Rattle.zeb_register.specs.PrivateKeyColumns.{IsNumberedRow, register_columns}
 pub use Rattle.zeb_register.specs.PrivatePackedRows.{AreSpelled, IsInBlock, HoldsBlockRows}
 pub use Rattle.zeb_register.specs.Agreeing.{Owns, HoldsUnder, HasNames, IsThere, BelongsThere, EachThere, HoldsThere, KeepsExpectedTexts, ListsAgree, listed_name, expected_name, AreBeside, AreEnds, IsLeastFrom, IsListedId, RecordsAgree, HasRecords, LacksPostingsAndDict}
 pub use Rattle.zeb_register.specs.PrivateRowExpected.{BelongsTo, IsBlockRest, IsDictRest, key_shown, list_under, with_key, LacksPacked, posting_shown, AsExpected, EachAsExpected, HoldsExpected, IsPair, tree_of, text_rows, TakeAll, AreBlocks, IsBlockBefore, IsInOrder, AreInOrder, HoldsKeysAlone, TableHolds}
 pub use Rattle.zeb_register.specs.PrivateRowKeys.{BeginsOther, IsFrontOf, IsRunBefore, IsRunFrom, dict_rest}
 pub use Rattle.zeb_register.specs.PrivateRowPlaces.{first_two, first_three, DropsRegisters, IsTwoNumbers, place_row, KeepsBesidePostings, GainsPlaces, Puts, posting_columns, IsPlaceIn}
 pub use Rattle.zeb_register.specs.PrivateRowReads.{rests_text, ShowsFirst, greatest_text, least_text, next_text, Fits, size_of, ReadsRests}
-pub use Rattle.zeb_register.specs.PrivateRowStatements.{Lists, ListsInside, IsMade, IsRestAtLeast, IsDatabaseShown, IsListedRow, AddsDatabase, SetsLast, IsDatabaseRow, IsValueRow, IsElderRow, IsIdentRow, Gains, place_key, whole_posting_row, IsPlaceOf, IsRecordShown, ShowsCount, Empties}
+pub use Rattle.zeb_register.specs.PrivateRowStatements.{Lists, ListsInside, IsMade, IsRestAtLeast, IsDatabaseShown, IsListedRow, AddsDatabase, SetsLast, IsDatabaseRow, IsValueRow, IsElderRow, IsIdentRow, Gains, place_key, whole_posting_row, IsRecordShown, ShowsCount, Empties}
 pub use Rattle.zeb_register.specs.PrivateRowTerms.{IsInRecord, ReadsRows, ReadsInside, IsCountedIn, term_with, IsShown, HasTerm, ShowsOccurrence, IsOccurrenceRow, ShowsTerm, IsTermRow, ShowsNearest, FindsNearest, HidesText, SomeIsNoOccurrence}
 pub use Rattle.zeb_register.specs.PrivateStoreTables.{HasEmpty, create_text, schema_after, schema_before, clear_text, tree_at, wipe_text}
 pub use Rattle.zeb_register.specs.Queries.{LooksUp, IsSilent}
 pub use Rattle.zeb_register.specs.Sound.{KeepsBeside, KeepsMalformed, KeepsRowsBeside, keeps_malformed}
 pub use Rattle.zeb_register.specs.Sql.{HasRow, IsListOf, IsKeyed, KeepsOthers, KeepsTables, HasLayout, Loses, Replaces, ChangesOneTable}
-pub use Rattle.zeb_register.specs.Store.{IsStore, blocks_tree, dict_tree, postings_tree, HasDatabase, records_tree, IsRest, key_of, Changes, IsEmptyStore, databases_tree, TakesDatabase, entry, meta_tree, IsRecordIn, KeepsRegisters, LacksRegisters, AreReadableTexts, HasRecord, IsPostingIn, record_row, HasNumber, SharesRecord, IsEntryOf, KeepsLists}
+pub use Rattle.zeb_register.specs.Store.{IsStore, blocks_tree, dict_tree, postings_tree, HasDatabase, records_tree, IsRest, key_of, Changes, IsEmptyStore, databases_tree, TakesDatabase, entry, meta_tree, IsOfDatabase, KeepsRegisters, LacksRegisters, AreReadableTexts, HasRecord, record_row, HasNumber, SharesRecord, IsEntryOf, KeepsLists}
 pub use Rattle.zeb_register.specs.Tables.{store_schema, databases_table, meta_table, postings_table, blocks_table, dict_table, records_table}
 pub use Rattle.zeb_register.specs.Tallies.{Rises}
 pub use Rattle.zeb_register.specs.declared.agreeing.Table.{Table as Keyed}

@@ -5,13 +5,13 @@ use Rattle.zeb_register.specs.Answers.{TellsOr}
 use Rattle.zeb_register.specs.Clauses.{IsHonestStorable, TellsHeld}
 use Rattle.zeb_register.specs.Content.{places_in}
 use Rattle.zeb_register.specs.Occurring.{AreTermsBefore, AreTermsFrom}
-use Rattle.zeb_register.specs.Terms.{AreListed, Comes, HidesBefore, HidesCount, HidesFrom, HidesSome, HidesSums, IsNearest, ListsAll, ListsBefore, ListsCounts, ListsFrom, ListsNearest, SumsUp, TellsAll, TellsBefore, TellsFrom, TellsTotals, shows_count}
+use Rattle.zeb_register.specs.Terms.{AreListed, Comes, HidesCount, HidesSome, IsNearest, ListsAll, ListsBefore, ListsCounts, ListsFrom, ListsNearest, SumsUp, TellsAll, shows_count}
 use Rattle.zeb_register.specs.Units.{counts_as}
 use Rattle.zeb_register.proofs.Answered.{or_damaged, or_reasoned}
 use Rattle.zeb_register.proofs.BlockContents.{counted_list, some_counted}
 use Rattle.zeb_register.proofs.CountLemmas.{comes_is, comes_not, counted_none, one_count, term_total}
 use Rattle.zeb_register.proofs.FormatLemmas.{registers_have_terms}
-use Rattle.zeb_register.proofs.KeyLists.{count_held, held_by_units, held_reads, held_whole, one_listing, one_number, whole_sound}
+use Rattle.zeb_register.proofs.KeyLists.{count_held, held_by_units, held_reads, one_listing, one_number}
 use Rattle.zeb_register.proofs.KeyPlaces.{in_place, place_in, place_of}
 use Rattle.zeb_register.proofs.OccurringLemmas.{key_posted}
 use Rattle.zeb_register.proofs.RisingLists.{flipped_total, has_reversed, kept_rises, reversed_rises, same_list, taken_front}
@@ -207,26 +207,6 @@ module _ (format : Format) (at : RegisterOf) where
   all_told = told_of format (λ trees. HidesSome format trees at.db.0 at.index at.register) (λ (trees : Trees) (list : Vec TermCount Global). ListsAll format trees at.db.0 at.index at.register list.items)
       (λ content list. AreTermsOf (posted content at.db.0) at.index at.register list.items) (λ trees list lists content holds. all_held format trees at.db.0 at.index at.register content holds list.items lists)
       (λ trees content holds storable bad. shows trees content holds storable bad.0 bad.1)
-
-  pub from_told : (start : List ℕ) (n : ℕ) (old new : State) (result : Result (Vec TermCount Global) RegFault) → TellsFrom format at start n old new result
-      → IsToldOf format (λ content list. AreTermsFrom (posted content at.db.0) at.index at.register start n list.items) old new result
-  from_told start n = told_of format (λ trees. HidesFrom format trees at.db.0 at.index at.register start n) (λ (trees : Trees) (list : Vec TermCount Global). ListsFrom format trees at.db.0 at.index at.register start n list.items)
-      (λ content list. AreTermsFrom (posted content at.db.0) at.index at.register start n list.items) (λ trees list lists content holds. from_held format trees at.db.0 at.index at.register content holds start n list.items lists)
-      (λ trees content holds storable bad. shows trees content holds storable bad.term bad.hidden)
-
-  pub before_told : (start : List ℕ) (n : ℕ) (old new : State) (result : Result (Vec TermCount Global) RegFault) → TellsBefore format at start n old new result
-      → IsToldOf format (λ content list. AreTermsBefore (posted content at.db.0) at.index at.register start n list.items) old new result
-  before_told start n = told_of format (λ trees. HidesBefore format trees at.db.0 at.index at.register start n) (λ (trees : Trees) (list : Vec TermCount Global). ListsBefore format trees at.db.0 at.index at.register start n list.items)
-      (λ content list. AreTermsBefore (posted content at.db.0) at.index at.register start n list.items) (λ trees list lists content holds. before_held format trees at.db.0 at.index at.register content holds start n list.items lists)
-      (λ trees content holds storable bad. shows trees content holds storable bad.term bad.hidden)
-
-  pub totals_told : (old new : State) (result : Result Totals RegFault) → TellsTotals format at old new result → IsToldOf format (λ content. AreTotals (posted content at.db.0) at.index at.register) old new result
-  totals_told = told_of format (λ trees. HidesSums format trees at.db.0 at.index at.register) (λ trees totals. SumsUp format trees at.db.0 at.index at.register totals)
-      (λ content. AreTotals (posted content at.db.0) at.index at.register) (λ trees totals sums content holds. totals_held format trees at.db.0 at.index at.register content holds totals sums)
-      (λ trees content holds storable bad. elim bad.1 [
-        | inl hidden ↦ shows trees content holds storable bad.0 hidden
-        | inr malformed ↦ (let key = key_in at.index at.register bad.0 in whole_sound format trees at.db.0 key (held_whole format trees content holds at.db.0 key) malformed.1)
-      ])
 
 -- ---- what is told is one thing
 

@@ -1,5 +1,5 @@
 -- What holds of registers in every format.
-use Rattle.zeb_register.proofs.Cited.{State, Trees, Int, Has, ◌≡◌, ◌∙◌, ℕ, ℤ, List, [], ◌∷◌, sym, ap, subst, refl, get_or, arith, Register, TermCount, Content, HasRisingLists, IsWithout, posted, Format, packed_blocks, packed_leaves, plain_rows, version_of, holds_in, AreTermsOf, HoldsRows, DropsRegisters, Loses, Changes, IsRecordIn, KeepsRegisters, LacksRegisters, TakesDatabase, databases_tree, records_tree}
+use Rattle.zeb_register.proofs.Cited.{State, Trees, Int, Has, ◌≡◌, ◌∙◌, ℕ, ℤ, List, [], ◌∷◌, sym, ap, subst, refl, get_or, arith, Register, TermCount, Content, HasRisingLists, IsWithout, posted, Format, packed_blocks, packed_leaves, plain_rows, version_of, holds_in, AreTermsOf, HoldsRows, DropsRegisters, Loses, Changes, IsOfDatabase, KeepsRegisters, LacksRegisters, TakesDatabase, databases_tree, records_tree}
 use Rattle.std.specs.List.Sorted.{IsStrictlySortedBy}
 use Rattle.zeb_register.proofs.ContentLemmas.{one_content}
 use Rattle.zeb_register.proofs.LeafContents.{leaves_empty, leaves_hold_one, leaves_stay}
@@ -61,7 +61,7 @@ registers_have_terms packed_blocks = blocks_have_terms
 registers_have_terms packed_leaves = λ trees content db index register holds. leaves_have_terms trees content holds db index register
 
 -- the registers hold what is left where a database is taken
-pub registers_without : (format : Format) (db : ℤ) (a b c d : State) → DropsRegisters db a b → Changes records_tree (Loses (IsRecordIn db)) b c → Changes databases_tree (TakesDatabase db) c d
+pub registers_without : (format : Format) (db : ℤ) (a b c d : State) → DropsRegisters db a b → Changes records_tree (Loses (IsOfDatabase db)) b c → Changes databases_tree (TakesDatabase db) c d
     → (before after : Content) → holds_in format a.now.trees before → IsWithout db before after → holds_in format d.now.trees after
 registers_without plain_rows = rows_without
 registers_without packed_blocks = blocks_without

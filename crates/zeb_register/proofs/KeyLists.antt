@@ -1,10 +1,9 @@
 -- A key's list is told by its units, in each format. What a call that lists them says of tables that hold a content.
-use Rattle.zeb_register.proofs.Cited.{State, Trees, Has, ◌≡◌, ℕ, ℤ, List, subst, Result, Ok, Err, OnOk, Vec, Global, Key, Place, Posting, RegFault, Content, IsStorable, Format, packed_blocks, packed_leaves, plain_rows, holds_in, IsReasoned, HasKey, IsCount, posted}
-use Rattle.zeb_register.specs.Clauses.{IsHonestOfHeld, OnStore, TellsHeld}
+use Rattle.zeb_register.proofs.Cited.{State, Trees, Has, ◌≡◌, ℕ, ℤ, List, subst, Result, Ok, Err, Vec, Global, Key, Place, Posting, RegFault, Content, IsStorable, Format, packed_blocks, packed_leaves, plain_rows, holds_in, HasKey, IsCount, posted}
+use Rattle.zeb_register.specs.Clauses.{TellsHeld}
 use Rattle.zeb_register.specs.Content.{places_in}
 use Rattle.zeb_register.specs.Sound.{IsListSound}
 use Rattle.zeb_register.specs.Units.{HoldsUnits, ListsKey, ListsUnits, counts_as, has_malformed, is_malformed, is_miscounted, is_whole, reads_as}
-use Rattle.zeb_register.proofs.Answered.{or_damaged, or_reasoned}
 use Rattle.zeb_register.proofs.BlockContents.{blocks_by_units, count_of_blocks, miscounted_none, one_key_count, units_by_blocks}
 use Rattle.zeb_register.proofs.BlockUnits.{held_sound, held_units, malformed_unread, one_reading, spelled_sound}
 use Rattle.zeb_register.proofs.ContentChanges.{posting_total}
@@ -116,14 +115,3 @@ module _ (format : Format) (db : ℤ) (key : Key) where
   list_told old new (Ok list) tells clean store = λ content holds.
       one_listing format old.now.trees db key list.items (content db key) (tells clean store) (held_listing format old.now.trees db key content holds)
   list_told old new (Err fault) tells clean store = tt
-
-  pub list_sound : (old new : State) (result : Result (Vec Posting Global) RegFault) → ListsKey format db key old new result → OnStore old new (λ trees. OnOk result (IsListSound format trees db key))
-  list_sound old new (Ok list) tells clean store = whole_list format old.now.trees db key (tells clean store).whole
-  list_sound old new (Err fault) tells clean store = tt
-
-  pub list_honest : (old new : State) (result : Result (Vec Posting Global) RegFault) → ListsKey format db key old new result → IsHonestOfHeld (holds_in format) old new result
-  list_honest old new result tells clean store is content holds =
-      whole_sound format old.now.trees db key (held_whole format old.now.trees content holds db key) (or_damaged (λ trees. has_malformed format trees db key) (λ trees list. ListsUnits format trees db key list.items) old new result tells clean store is)
-
-  pub list_reasoned : (old new : State) (result : Result (Vec Posting Global) RegFault) → ListsKey format db key old new result → IsReasoned old new result
-  list_reasoned old new result tells = or_reasoned (λ trees. has_malformed format trees db key) (λ trees list. ListsUnits format trees db key list.items) old new result tells

@@ -1,10 +1,10 @@
 -- What follows of changes of a key's units in leaves: for tables that hold a content, and for rows whatever they say.
-use Rattle.zeb_register.proofs.Cited.{◌≡◌, ◌≢◌, ◌⊎◌, ◌∙◌, ◌/◌, ◌≤◌, ℕ, ℤ, List, [], ◌∷◌, refl, sym, ap, ap₂, subst, inl, inr, int_cmp_total, key_total, keys_apart, AllByRecursion, Has, Row, Trees, Posting, Key, Place, RecordChange, AreChangedAt, AreListChanges, ArePlacesOf, Content, HasRisingLists, IsStorable, packed_leaves, place_cmp, posting_at, posting_cmp}
+use Rattle.zeb_register.proofs.Cited.{◌≡◌, ◌⊎◌, ◌∙◌, ◌/◌, ◌≤◌, ℕ, ℤ, List, [], ◌∷◌, refl, sym, ap, ap₂, subst, inl, inr, int_cmp_total, key_total, keys_apart, AllByRecursion, Has, Row, Trees, Posting, Key, Place, RecordChange, AreChangedAt, AreListChanges, ArePlacesOf, Content, HasRisingLists, IsStorable, packed_leaves, place_cmp, posting_at, posting_cmp}
 use Rattle.std.specs.List.Sorted.{IsStrictlySortedBy}
 use Rattle.zeb_register.proofs.BlockUnits.{none_rises}
 use Rattle.zeb_register.proofs.ContentChanges.{integers_apart, told_spot, with_list}
 use Rattle.zeb_register.proofs.ContentTurns.{AreUnitsIn, InRange, list_kept, list_there, list_turned, touched, units_turned}
-use Rattle.zeb_register.proofs.KeyPlaces.{place_in, place_of, placed_at, places_rising}
+use Rattle.zeb_register.proofs.KeyPlaces.{place_in, placed_at, places_rising}
 use Rattle.zeb_register.proofs.KeptLeaves.{alone_kept}
 use Rattle.zeb_register.proofs.LeafContents.{held_by_units, held_unit, one_unit, unit_unread}
 use Rattle.zeb_register.proofs.ListChanges.{changes_rise, content_changed, content_rises}

@@ -50,9 +50,6 @@ leaves_hold_one trees one two left right = λ i db key. same db key i
     same : (db : ℤ) (key : Key) → one db key ≡ two db key
     same db key = same_list posting_total (one db key) (two db key) (left.rising db key) (right.rising db key) (posting_too trees one two left right db key) (posting_too trees two one right left db key)
 
-pub leaves_rise : (trees : Trees) (content : Content) → HoldsLeaves trees content → HasRisingLists content
-leaves_rise trees content holds = holds.rising
-
 -- ---- the tables of the registers tell it
 
 -- the leaves of a register in a table

@@ -100,4 +100,5 @@ pub mod RunLaws
 pub mod WorkCounts
 pub mod RunCounts
 pub mod RecordParts
+pub mod LastPlaces
 pub mod Cited

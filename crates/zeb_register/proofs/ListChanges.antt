@@ -1,9 +1,8 @@
 -- Changes of one key's list in turn: there is one outcome, and a change of a record stays in its block.
-use Rattle.zeb_register.proofs.Cited.{Has, ◌≡◌, ◌≢◌, ◌⊎◌, ◌∙◌, ◌+◌, ◌-◌, ◌/◌, ◌<◌, ◌≤◌, ◌==◌, ℕ, ℤ, zero, suc, arith, length-drop, List, [], ◌∷◌, ◌++◌, drop, get_or, length, take, refl, sym, ap, ap₂, subst, inl, inr, drop-cons, take-add, length-take, length-take-le, take-append-drop, take_rest, nat_cmp_total, AllByRecursion, Posting, LiesIn, Key, numbers_apart, Place, RecordChange, AreChangedAt, AreListChanges, Content, IsListChanged, HasRisingLists, posting_cmp, posting_at, part_in, IsInBlock}
+use Rattle.zeb_register.proofs.Cited.{Has, ◌≡◌, ◌⊎◌, ◌∙◌, ◌+◌, ◌-◌, ◌<◌, ◌≤◌, ℕ, ℤ, suc, arith, length-drop, List, [], ◌∷◌, drop, get_or, length, take, refl, sym, ap, ap₂, subst, inl, inr, drop-cons, length-take, length-take-le, take_rest, nat_cmp_total, Posting, Key, numbers_apart, Place, RecordChange, AreChangedAt, AreListChanges, Content, IsListChanged, HasRisingLists, posting_cmp, posting_at}
 use Rattle.std.specs.List.Sorted.{IsStrictlySortedBy}
 use Rattle.zeb_register.proofs.ContentChanges.{at_sysno, at_sysno_others, at_sysno_part, at_sysno_rises, posting_total, told_spot, with_list, with_list_here, with_list_there}
-use Rattle.zeb_register.proofs.PackedLemmas.{in_part, part_in_block, part_in_list}
-use Rattle.zeb_register.proofs.RisingLists.{kept_rises, same_list, told_by}
+use Rattle.zeb_register.proofs.RisingLists.{same_list, told_by}
 
 pub place_by : ℕ → ℕ → Place
 place_by seq place = record { seq = seq; pos = place }
@@ -36,39 +35,6 @@ module _ (sysno : ℕ) (places : List Place) where
   pub list_changed : (old : List Posting) → IsStrictlySortedBy posting_cmp old → IsListChanged sysno places old (at_sysno sysno places old)
   list_changed old up = record { rising = at_sysno_rises sysno places old up; part = at_sysno_part sysno places old; others = at_sysno_others sysno places old }
 
-  -- a block without the record stays
-  pub other_part : (old new : List Posting) → IsStrictlySortedBy posting_cmp old → IsListChanged sysno places old new → (b : ℕ) → b ≢ sysno / 256 → part_in b new ≡ part_in b old
-  other_part old new up change b differs = same_list posting_total (part_in b new) (part_in b old) (part_rises new change.rising) (part_rises old up)
-      (λ p h. in_part b old p ((change.others p (elsewhere p (part_in_block b new p h))).0 (part_in_list b new p h)) (part_in_block b new p h))
-      (λ p h. in_part b new p ((change.others p (elsewhere p (part_in_block b old p h))).1 (part_in_list b old p h)) (part_in_block b old p h))
-    where
-      part_rises : (list : List Posting) → IsStrictlySortedBy posting_cmp list → IsStrictlySortedBy posting_cmp (part_in b list)
-      part_rises list rises = kept_rises posting_total (λ p. p.sysno / 256 == b) list rises
-
-      elsewhere : (p : Posting) → p.sysno / 256 ≡ b → p.sysno ≢ sysno
-      elsewhere p at same = differs (sym at ∙ ap (λ n. n / 256) same)
-
-  -- the block of the record
-  module _ (old new list : List Posting) (block : ℕ) (at : sysno / 256 ≡ block) (change : IsListChanged sysno places old new) (spliced : IsListChanged sysno places (part_in block old) list) (lies : LiesIn block list) where
-    pub this_part : part_in block new ≡ list
-    this_part = same_list posting_total (part_in block new) list (kept_rises posting_total (λ p. p.sysno / 256 == block) new change.rising) spliced.rising
-        (λ p h. there p (part_in_list block new p h) (part_in_block block new p h) (told_by nat_cmp_total numbers_apart p.sysno sysno))
-        (λ p h. back p h (told_by nat_cmp_total numbers_apart p.sysno sysno))
-      where
-        there : (p : Posting) → Has new p → p.sysno / 256 ≡ block → (p.sysno ≡ sysno) ⊎ (p.sysno ≢ sysno) → Has list p
-        there p h in_it (inl same) =
-            let is = posting_is p sysno same in
-            subst (Has list) (sym is) ((spliced.part (place_of p)).0 ((change.part (place_of p)).1 (subst (Has new) is h)))
-        there p h in_it (inr differs) = (spliced.others p differs).1 (in_part block old p ((change.others p differs).0 h) in_it)
-
-        back : (p : Posting) → Has list p → (p.sysno ≡ sysno) ⊎ (p.sysno ≢ sysno) → Has (part_in block new) p
-        back p h (inl same) =
-            let is = posting_is p sysno same in
-            in_part block new p (subst (Has new) (sym is) ((change.part (place_of p)).0 ((spliced.part (place_of p)).1 (subst (Has list) is h)))) (ap (λ n. n / 256) same ∙ at)
-        back p h (inr differs) =
-            let was = (spliced.others p differs).0 h in
-            in_part block new p ((change.others p differs).1 (part_in_list block old p was)) (part_in_block block old p was)
-
 -- ---- changes in turn
 
 pub changes_rise : (changes : List RecordChange) (old new : List Posting) → IsStrictlySortedBy posting_cmp old → AreListChanges changes old new → IsStrictlySortedBy posting_cmp new
@@ -81,36 +47,11 @@ one_outcome (change ∷ changes) old a b left right =
     let same = one_changed change.sysno change.new.now old left.0 right.0 left.2 right.2 in
     one_outcome changes right.0 a b (subst (λ next. AreListChanges changes next a) same left.3) right.3
 
-pub changes_split : (xs ys : List RecordChange) (a c : List Posting) → AreListChanges (xs ++ ys) a c → (b : List Posting) × AreListChanges xs a b × AreListChanges ys b c
-changes_split [] ys a c is = (a, refl, is)
-changes_split (x ∷ xs) ys a c is =
-    let rest = changes_split xs ys is.0 c is.3 in
-    (rest.0, (is.0, is.1, is.2, rest.1), rest.2)
-
--- where changes are made and more are said to follow, these follow what was made
-pub changes_left : (xs ys : List RecordChange) (a b c : List Posting) → AreListChanges xs a b → AreListChanges (xs ++ ys) a c → AreListChanges ys b c
-changes_left xs ys a b c made all =
-    let split = changes_split xs ys a c all in
-    subst (λ l. AreListChanges ys l c) (one_outcome xs a split.0 b split.1 made) split.2
-
 -- the value that stands for a change where there is none
 abbrev pub no_change : RecordChange
 no_change = record { sysno = 0; old = record { ref_ptr = (0, 0); now = [] }; new = record { ref_ptr = (0, 0); now = [] } }
 
 -- ---- a run of changes, cut out of all
-
-prefix_again : (n : ℕ) (xs : List RecordChange) → take (length (take n xs)) xs ≡ take n xs
-prefix_again zero xs = refl
-prefix_again (suc n) [] = refl
-prefix_again (suc n) (x ∷ xs) = ap (λ l. x ∷ l) (prefix_again n xs)
-
-all_front : (P : RecordChange → Type 0) (xs ys : List RecordChange) → AllByRecursion P (xs ++ ys) → AllByRecursion P xs
-all_front P [] ys all = tt
-all_front P (x ∷ xs) ys all = (all.0, all_front P xs ys all.1)
-
-all_back : (P : RecordChange → Type 0) (xs ys : List RecordChange) → AllByRecursion P (xs ++ ys) → AllByRecursion P ys
-all_back P [] ys all = all
-all_back P (x ∷ xs) ys all = all_back P xs ys all.1
 
 module _ (xs : List RecordChange) (d n : ℕ) where
   abbrev pub rest : List RecordChange
@@ -122,9 +63,6 @@ module _ (xs : List RecordChange) (d n : ℕ) where
   rest_is : rest ≡ drop d xs
   rest_is = take_rest xs d
 
-  whole : take d xs ++ rest ≡ xs
-  whole = ap (λ r. take d xs ++ r) rest_is ∙ take-append-drop d xs
-
   pub run_first : d < length xs → rest ≡ get_or xs d no_change ∷ drop (suc d) xs
   run_first below = rest_is ∙ drop-cons xs d no_change below
 
@@ -133,28 +71,6 @@ module _ (xs : List RecordChange) (d n : ℕ) where
 
   pub run_long : n ≤ length rest → length run ≡ n
   run_long = length-take-le n rest
-
-  pub run_more : take (d + length run) xs ≡ take d xs ++ run
-  run_more = take-add d (length run) xs ∙ ap (λ l. take d xs ++ take (length run) l) (sym rest_is) ∙ ap (λ l. take d xs ++ l) (prefix_again n rest)
-
-  pub run_all : (P : RecordChange → Type 0) → AllByRecursion P xs → AllByRecursion P run
-  run_all P all = all_front P run (drop n rest) (subst (AllByRecursion P) (sym (take-append-drop n rest)) (all_back P (take d xs) rest (subst (AllByRecursion P) (sym whole) all)))
-
-  -- where all changes are made, so are those of the run
-  pub run_made : (a b c : List Posting) → AreListChanges (take d xs) a b → AreListChanges xs a c → (e : List Posting) × AreListChanges run b e
-  run_made a b c made all =
-      let left = changes_left (take d xs) rest a b c made (subst (λ l. AreListChanges l a c) (sym whole) all) in
-      let split = changes_split run (drop n rest) b c (subst (λ l. AreListChanges l b c) (sym (take-append-drop n rest)) left) in
-      (split.0, split.1)
-
--- ---- parts in blocks
-
--- a block of which no record is changed stays
-pub other_parts : (block : ℕ) (changes : List RecordChange) (old new : List Posting) → IsStrictlySortedBy posting_cmp old → AllByRecursion (IsInBlock block) changes → AreListChanges changes old new → (b : ℕ) → b ≢ block
-    → part_in b new ≡ part_in b old
-other_parts block [] old new up inside is b differs = ap (part_in b) is
-other_parts block (change ∷ changes) old new up inside is b differs =
-    other_parts block changes is.0 new is.2.rising inside.1 is.3 b differs ∙ other_part change.sysno change.new.now old is.0 up is.2 b (λ at. differs (at ∙ inside.0))
 
 -- ---- the content that has the list
 

@@ -1,5 +1,5 @@
 -- What is malformed in the registers and is so still, and rows beside those of one key that are there still.
-use Rattle.zeb_register.proofs.Cited.{Database, Row, column, Trees, Int, Null, Text, Has, ◌≡◌, ◌≢◌, ◌∷◌, ◌++◌, [], ℕ, ℤ, pos, List, ap, sym, subst, Key, register_code, key_row, KeepsBeside, KeepsMalformed, KeepsRowsBeside, HasRow, KeepsRegisters, blocks_tree, dict_tree, postings_tree, Format, keeps_malformed, packed_blocks, packed_leaves, plain_rows}
+use Rattle.zeb_register.proofs.Cited.{Database, Row, column, Trees, Int, Null, Text, Has, ◌≡◌, ◌∷◌, ◌++◌, [], ℕ, ℤ, pos, List, ap, sym, subst, Key, register_code, key_row, KeepsBeside, KeepsMalformed, KeepsRowsBeside, HasRow, KeepsRegisters, blocks_tree, dict_tree, postings_tree, Format, keeps_malformed, packed_blocks, packed_leaves, plain_rows}
 use Rattle.zeb_register.specs.LeafUnits.{IsLeafMalformed}
 
 pub row_same : (tree : ℕ) (old new : Trees) → new tree ≡ old tree → (row : Row) → HasRow old tree row → HasRow new tree row
@@ -65,17 +65,6 @@ beside_seen front old new same = beside_same front old.trees new.trees (
   ap (λ (d : Database). d.trees blocks_tree) same,
   ap (λ (d : Database). d.trees dict_tree) same,
 )
-
--- what is beside the rows of a database is beside those of each of its keys
-pub beside_database : (db : ℤ) (key : Key) (old new : Trees) → KeepsRowsBeside (key_row db key) old new → KeepsRowsBeside (Int db ∷ []) old new
-beside_database db key old new kept = record {
-  postings = λ row other. kept.postings row (apart row other);
-  blocks = λ row other. kept.blocks row (apart row other);
-  dict = λ row other. kept.dict row (apart row other);
-}
-  where
-    apart : (row : Row) → ((rest : Row) → row ≢ (Int db ∷ []) ++ rest) → (rest : Row) → row ≢ key_row db key ++ rest
-    apart row other rest = other (Int (pos key.index) ∷ Int (pos (register_code key.register)) ∷ Text key.term ∷ rest)
 
 -- a row with the key's first columns begins with them
 pub key_begins : (db : ℤ) (key : Key) (row : Row) → column row 0 ≡ Int db → column row 1 ≡ Int (pos key.index) → column row 2 ≡ Int (pos (register_code key.register)) → column row 3 ≡ Text key.term

@@ -1,5 +1,5 @@
 -- Rows of packed blocks as the postings of a content.
-use Rattle.zeb_register.proofs.Cited.{Row, column, State, Trees, Int, Blob, all_from, has_filtered, has_kept, mapped_has, Has, ◌≡◌, ◌≢◌, ◌↔◌, ◌∙◌, ◌/◌, ℕ, ℤ, pos, List, [], ◌∷◌, ◌++◌, map, refl, sym, ap, ap₂, subst, inl, nat_eq, arith, eqb-true, eq-eqb, Posting, BlockSpells, IsNumbered, LiesIn, spelled_from, start_of, one_list_spelled, spells_start, Key, Register, TermCount, Content, HasRisingLists, IsWithout, posted, posting_cmp, AreTermsOf, HasKey, key_in, HoldsBlocks, IsBlockRow, IsDictRow, block_row, dict_row, part_in, HoldsBlockRows, key_row, DropsRegisters, IsInRecord, HasRow, Loses, Changes, IsPostingIn, IsRecordIn, KeepsRegisters, LacksRegisters, TakesDatabase, blocks_tree, databases_tree, dict_tree, postings_tree, records_tree}
+use Rattle.zeb_register.proofs.Cited.{Row, column, State, Trees, Int, Blob, all_from, has_filtered, has_kept, mapped_has, Has, ◌≡◌, ◌≢◌, ◌↔◌, ◌∙◌, ◌/◌, ℕ, ℤ, pos, List, [], ◌∷◌, ◌++◌, map, refl, sym, ap, ap₂, subst, inl, nat_eq, arith, eqb-true, eq-eqb, Posting, BlockSpells, IsNumbered, LiesIn, spelled_from, start_of, one_list_spelled, spells_start, Key, Register, TermCount, Content, HasRisingLists, IsWithout, posted, posting_cmp, AreTermsOf, HasKey, key_in, HoldsBlocks, IsBlockRow, IsDictRow, block_row, dict_row, part_in, HoldsBlockRows, key_row, DropsRegisters, IsInRecord, HasRow, Loses, Changes, IsOfDatabase, KeepsRegisters, LacksRegisters, TakesDatabase, blocks_tree, databases_tree, dict_tree, postings_tree, records_tree}
 use Rattle.std.specs.List.Sorted.{IsStrictlySortedBy}
 use Rattle.zeb_register.proofs.ContentChanges.{posting_total}
 use Rattle.zeb_register.proofs.ContentLemmas.{told_apart}
@@ -151,12 +151,12 @@ blocks_have_terms trees content db index register holds = terms_among content db
 -- ---- a database taken
 
 -- a row that begins with a key of another database
-row_elsewhere : (d db : ℤ) (key : Key) (rest row : Row) → d ≢ db → row ≡ key_row d key ++ rest → ¬ IsPostingIn db row
+row_elsewhere : (d db : ℤ) (key : Key) (rest row : Row) → d ≢ db → row ≡ key_row d key ++ rest → ¬ IsOfDatabase db row
 row_elsewhere d db key rest row other is in_it =
     let one : Int d ≡ Int db = sym (ap (λ (r : Row). column r 0) is) ∙ in_it in
     other (let e : d ≡ db = cc in e)
 
-key_elsewhere : (d db : ℤ) (key : Key) (rest row : Row) → ¬ IsPostingIn db row → row ≡ key_row d key ++ rest → d ≢ db
+key_elsewhere : (d db : ℤ) (key : Key) (rest row : Row) → ¬ IsOfDatabase db row → row ≡ key_row d key ++ rest → d ≢ db
 key_elsewhere d db key rest row other is same = other (ap (λ (r : Row). column r 0) is ∙ ap Int same)
 
 -- records have the key by one list as by the other
@@ -188,7 +188,7 @@ module _ (db : ℤ) (before after : Content) (up : HasRisingLists before) (witho
       let other : d ≢ db = λ same. some (ap (λ (e : ℤ). after e key) same ∙ no_list key) in
       (other, list_stays d key other)
 
-  block_left : (row : Row) → IsBlockRow after row ↔ (IsBlockRow before row × ¬ IsPostingIn db row)
+  block_left : (row : Row) → IsBlockRow after row ↔ (IsBlockRow before row × ¬ IsOfDatabase db row)
   block_left row = (
     λ it.
         let list = some_stays it.0 it.1 (λ none. it.4.some (ap (part_in it.2) none)) in
@@ -199,7 +199,7 @@ module _ (db : ℤ) (before after : Content) (up : HasRisingLists before) (witho
         (it.0, it.1, it.2, it.3, subst (λ (l : List Posting). BlockSpells it.2 (part_in it.2 l) it.3) (sym (list_stays it.0 it.1 other)) it.4, it.5),
   )
 
-  dict_left : (row : Row) → IsDictRow after row ↔ (IsDictRow before row × ¬ IsPostingIn db row)
+  dict_left : (row : Row) → IsDictRow after row ↔ (IsDictRow before row × ¬ IsOfDatabase db row)
   dict_left row = (
     λ it.
         let list = some_stays it.0 it.1 it.3 in (
@@ -214,8 +214,8 @@ module _ (db : ℤ) (before after : Content) (up : HasRisingLists before) (witho
   )
 
 -- rows of a table that has lost those of a database
-rows_left : (P Q : Row → Type 0) (db : ℤ) (tree : ℕ) (old new later : Trees) → Loses (IsPostingIn db) tree old new → later tree ≡ new tree → ((row : Row) → HasRow old tree row ↔ P row)
-    → ((row : Row) → Q row ↔ (P row × ¬ IsPostingIn db row)) → (row : Row) → HasRow later tree row ↔ Q row
+rows_left : (P Q : Row → Type 0) (db : ℤ) (tree : ℕ) (old new later : Trees) → Loses (IsOfDatabase db) tree old new → later tree ≡ new tree → ((row : Row) → HasRow old tree row ↔ P row)
+    → ((row : Row) → Q row ↔ (P row × ¬ IsOfDatabase db row)) → (row : Row) → HasRow later tree row ↔ Q row
 rows_left P Q db tree old new later lost same each left row = (
   λ h.
       let was = (lost row).0 (h.0, subst (λ rows. Has rows (Int h.0 ∷ row)) same h.1) in
@@ -226,7 +226,7 @@ rows_left P Q db tree old new later lost same each left row = (
       (is.0, subst (λ rows. Has rows (Int is.0 ∷ row)) (sym same) is.1),
 )
 
-module _ (db : ℤ) (a b c d : State) (one : DropsRegisters db a b) (two : Changes records_tree (Loses (IsRecordIn db)) b c) (three : Changes databases_tree (TakesDatabase db) c d) where
+module _ (db : ℤ) (a b c d : State) (one : DropsRegisters db a b) (two : Changes records_tree (Loses (IsOfDatabase db)) b c) (three : Changes databases_tree (TakesDatabase db) c d) where
   pub blocks_without : (before after : Content) → HoldsBlocks a.now.trees before → IsWithout db before after → HoldsBlocks d.now.trees after
   blocks_without before after holds without =
       let same7 : d.now.trees 7 ≡ b.now.trees 7 = three.others.1.1.1.0 (λ e. absurd (omega (arith, e))) ∙ two.others.1.1.1.0 (λ e. absurd (omega (arith, e))) in
@@ -237,5 +237,5 @@ module _ (db : ℤ) (a b c d : State) (one : DropsRegisters db a b) (two : Chang
         numbered = λ e key p here. holds.numbered e key p ((without.left e key p).0 here).0;
         blocks = rows_left _ _ db blocks_tree a.now.trees b.now.trees d.now.trees one.blocks same9 holds.blocks (block_left db before after holds.rising without);
         dict = rows_left _ _ db dict_tree a.now.trees b.now.trees d.now.trees one.dict same11 holds.dict (dict_left db before after holds.rising without);
-        alone = same7 ∙ none_left (IsPostingIn db) postings_tree a.now.trees b.now.trees one.store.keyed.1.1.1.0 one.postings holds.alone;
+        alone = same7 ∙ none_left (IsOfDatabase db) postings_tree a.now.trees b.now.trees one.store.keyed.1.1.1.0 one.postings holds.alone;
       }

@@ -1,5 +1,5 @@
 -- Rows of one record's places.
-use Rattle.zeb_register.proofs.Cited.{Row, column, row_cmp, State, Trees, rowid, is_int, Null, Int, Text, all_has, Has, value_cmp-Int, true, ◌≡◌, ◌↔◌, ◌⊎◌, ◌∙◌, ◌<◌, ◌+◌, zero, suc, ℕ, ℤ, pos, List, [], ◌∷◌, ◌++◌, map, take, Ordering, Less, Equal, Greater, length, get_or, inl, inr, refl, sym, ap, ap₂, subst, arith, nat_cmp, take_more, map-append, AllByRecursion, ordering_then, Key, register_code, Place, KeepsOthers, IsKeyed, Loses, Gains, place_key, postings_tree, Changes, blocks_tree, dict_tree, databases_tree, records_tree, TakesDatabase, IsRecordIn, IsPostingIn, Content, place_cmp, IsWithout, TakesWhole, HoldsRows, first_two, place_row, DropsRegisters, KeepsBesidePostings, Puts, posting_columns, store_schema}
+use Rattle.zeb_register.proofs.Cited.{Row, column, row_cmp, State, Trees, rowid, is_int, Null, Int, Text, all_has, Has, value_cmp-Int, true, ◌≡◌, ◌↔◌, ◌⊎◌, ◌∙◌, ◌<◌, ◌+◌, zero, suc, ℕ, ℤ, pos, List, [], ◌∷◌, ◌++◌, map, take, Ordering, Less, Equal, Greater, length, get_or, inl, inr, refl, sym, ap, ap₂, subst, arith, nat_cmp, take_more, map-append, AllByRecursion, ordering_then, Key, register_code, Place, KeepsOthers, IsKeyed, Loses, Gains, place_key, postings_tree, Changes, blocks_tree, dict_tree, databases_tree, records_tree, TakesDatabase, IsOfDatabase, Content, place_cmp, IsWithout, TakesWhole, HoldsRows, first_two, place_row, DropsRegisters, KeepsBesidePostings, Puts, posting_columns, store_schema}
 use Rattle.std.specs.List.Sorted.{IsStrictlySortedBy}
 use Rattle.zeb_register.proofs.ContentLemmas.{ints_order}
 
@@ -114,7 +114,7 @@ none_left P tree old new keyed lost none = at (new tree) refl
         let was = ((lost int.1).0 (int.0, subst (Has (new tree)) int.2 here)).0 in
         absurd (subst (λ l. Has l (Int was.0 ∷ int.1)) none was.1)
 
-pub drops : (db : ℤ) (a b c d : State) → Changes postings_tree (Loses (IsPostingIn db)) a b → Changes blocks_tree (Loses (IsPostingIn db)) b c → Changes dict_tree (Loses (IsPostingIn db)) c d → DropsRegisters db a d
+pub drops : (db : ℤ) (a b c d : State) → Changes postings_tree (Loses (IsOfDatabase db)) a b → Changes blocks_tree (Loses (IsOfDatabase db)) b c → Changes dict_tree (Loses (IsOfDatabase db)) c d → DropsRegisters db a d
 drops db a b c d one two three = record {
   store = three.layout;
   lists = (
@@ -122,18 +122,18 @@ drops db a b c d one two three = record {
     three.others.1.0 (λ e. absurd (omega (arith, e))) ∙ two.others.1.0 (λ e. absurd (omega (arith, e))) ∙ one.others.1.0 (λ e. absurd (omega (arith, e))),
     three.others.1.1.0 (λ e. absurd (omega (arith, e))) ∙ two.others.1.1.0 (λ e. absurd (omega (arith, e))) ∙ one.others.1.1.0 (λ e. absurd (omega (arith, e))),
   );
-  postings = loses_after (IsPostingIn db) postings_tree a.now.trees b.now.trees d.now.trees one.rows
+  postings = loses_after (IsOfDatabase db) postings_tree a.now.trees b.now.trees d.now.trees one.rows
       (three.others.1.1.1.0 (λ e. absurd (omega (arith, e))) ∙ two.others.1.1.1.0 (λ e. absurd (omega (arith, e))));
-  blocks = loses_after (IsPostingIn db) blocks_tree a.now.trees c.now.trees d.now.trees
-      (loses_before (IsPostingIn db) blocks_tree a.now.trees b.now.trees c.now.trees (one.others.1.1.1.1.0 (λ e. absurd (omega (arith, e)))) two.rows)
+  blocks = loses_after (IsOfDatabase db) blocks_tree a.now.trees c.now.trees d.now.trees
+      (loses_before (IsOfDatabase db) blocks_tree a.now.trees b.now.trees c.now.trees (one.others.1.1.1.1.0 (λ e. absurd (omega (arith, e)))) two.rows)
       (three.others.1.1.1.1.0 (λ e. absurd (omega (arith, e))));
-  dict = loses_before (IsPostingIn db) dict_tree a.now.trees c.now.trees d.now.trees
+  dict = loses_before (IsOfDatabase db) dict_tree a.now.trees c.now.trees d.now.trees
       (two.others.1.1.1.1.1.0 (λ e. absurd (omega (arith, e))) ∙ one.others.1.1.1.1.1.0 (λ e. absurd (omega (arith, e)))) three.rows;
 }
 
 -- ---- a database taken
 
-module _ (db : ℤ) (a b c d : State) (one : DropsRegisters db a b) (two : Changes records_tree (Loses (IsRecordIn db)) b c) (three : Changes databases_tree (TakesDatabase db) c d) where
+module _ (db : ℤ) (a b c d : State) (one : DropsRegisters db a b) (two : Changes records_tree (Loses (IsOfDatabase db)) b c) (three : Changes databases_tree (TakesDatabase db) c d) where
   same7 : d.now.trees 7 ≡ b.now.trees 7
   same7 = three.others.1.1.1.0 (λ e. absurd (omega (arith, e))) ∙ two.others.1.1.1.0 (λ e. absurd (omega (arith, e)))
 
@@ -163,9 +163,9 @@ module _ (db : ℤ) (a b c d : State) (one : DropsRegisters db a b) (two : Chang
               (is.0, subst (λ rows. Has rows (Int is.0 ∷ columns)) (sym after4) is.1),
         );
         texts = three.others.0 (λ e. absurd (omega (arith, e))) ∙ two.others.0 (λ e. absurd (omega (arith, e))) ∙ one.lists.0;
-        postings = loses_after (IsPostingIn db) postings_tree a.now.trees b.now.trees d.now.trees one.postings same7;
-        blocks = loses_after (IsPostingIn db) blocks_tree a.now.trees b.now.trees d.now.trees one.blocks same9;
-        dict = loses_after (IsPostingIn db) dict_tree a.now.trees b.now.trees d.now.trees one.dict same11;
+        postings = loses_after (IsOfDatabase db) postings_tree a.now.trees b.now.trees d.now.trees one.postings same7;
+        blocks = loses_after (IsOfDatabase db) blocks_tree a.now.trees b.now.trees d.now.trees one.blocks same9;
+        dict = loses_after (IsOfDatabase db) dict_tree a.now.trees b.now.trees d.now.trees one.dict same11;
       }
 
   pub rows_without : (before after : Content) → HoldsRows a.now.trees before → IsWithout db before after → HoldsRows d.now.trees after
@@ -183,7 +183,7 @@ module _ (db : ℤ) (a b c d : State) (one : DropsRegisters db a b) (two : Chang
               (is.0, subst (λ rows. Has rows (Int is.0 ∷ row)) (sym same7) is.1),
         );
         alone = (
-          same9 ∙ none_left (IsPostingIn db) blocks_tree a.now.trees b.now.trees one.store.keyed.1.1.1.1.0 one.blocks holds.alone.0,
-          same11 ∙ none_left (IsPostingIn db) dict_tree a.now.trees b.now.trees one.store.keyed.1.1.1.1.1.0 one.dict holds.alone.1,
+          same9 ∙ none_left (IsOfDatabase db) blocks_tree a.now.trees b.now.trees one.store.keyed.1.1.1.1.0 one.blocks holds.alone.0,
+          same11 ∙ none_left (IsOfDatabase db) dict_tree a.now.trees b.now.trees one.store.keyed.1.1.1.1.1.0 one.dict holds.alone.1,
         );
       }

@@ -1,5 +1,5 @@
 -- The statements on postings, each with what it is compiled to.
-use Rattle.zeb_register.proofs.Cited.{UNDER_TERM, UNDER_NUMBER, REGISTER, PUT, IsPlain, command_of, Delete, Insert, Row, Values, State, Executes, Term, lit, col, Null, Int, ◌≡◌, arith, ℕ, List, [], ◌∷◌, codes, refl, true, false, ℤ, Ok, store_schema, postings_table, blocks_table, dict_table, Loses, IsListOf, Gains, whole_posting_row, place_key, IsPlaceOf, IsStore, Changes, postings_tree, key_of, IsRest, Table}
+use Rattle.zeb_register.proofs.Cited.{UNDER_TERM, UNDER_NUMBER, REGISTER, PUT, IsPlain, command_of, Delete, Insert, Row, Values, State, Executes, Term, lit, col, Null, Int, ◌≡◌, arith, ℕ, List, [], ◌∷◌, codes, refl, true, false, ℤ, Ok, store_schema, postings_table, blocks_table, dict_table, Loses, IsListOf, Gains, whole_posting_row, place_key, IsNumberedRow, IsStore, Changes, postings_tree, key_of, IsRest, Table}
 use Rattle.zeb_register.specs.declared.plain_changes.TheConstants.{TAKE}
 use Rattle.sqlite.specs.Listing.{understood}
 use Rattle.sqlite.specs.State.{Shown}
@@ -122,9 +122,9 @@ unfolding understood everything
 lift_plain = (refl, refl)
 
 pub lifts : (db idx reg : ℤ) (term : List ℕ) (sysno : ℤ) (old new : State) (count : ℕ) → IsStore old → Executes lift_text (place_key db idx reg term sysno) old new (Ok count)
-    → Changes postings_tree (Loses (IsPlaceOf db idx reg term sysno)) old new
+    → Changes postings_tree (Loses (IsNumberedRow db idx reg term sysno)) old new
 lifts db idx reg term sysno old new count store ran =
-    loses store_schema 7 old new (place_key db idx reg term sysno) lift_wheres (IsPlaceOf db idx reg term sysno) (λ id columns. (
+    loses store_schema 7 old new (place_key db idx reg term sysno) lift_wheres (IsNumberedRow db idx reg term sysno) (λ id columns. (
       λ m. (m.0, m.1.0, m.1.1.0, m.1.1.1.0, m.1.1.1.1.0),
       λ p. (p.0, (p.1, (p.2, (p.3, (p.4, tt))))),
     )) (deletes store_schema 3 postings postings_static lift_text (place_key db idx reg term sysno) lift_wheres lift_is lift_plain refl old new count store ran)

@@ -1,10 +1,9 @@
 -- What follows of changes of the keys of a run, in each format: for tables that hold a content, and for rows whatever they say.
-use Rattle.zeb_register.proofs.Cited.{◌≡◌, ◌≢◌, ◌∙◌, ℤ, pos, Int, Text, register_code, List, [], ◌∷◌, ◌++◌, refl, sym, ap, ap₂, subst, inl, inr, Result, Ok, Err, OnOk, AllByRecursion, Has, all_from, all_has, Row, State, Trees, Key, RegFault, Damaged, AreListChanges, AreChangedAt, Content, IsStorable, Posting, Format, holds_in, packed_blocks, packed_leaves, plain_rows, key_row, KeepsRowsBeside, keeps_malformed}
+use Rattle.zeb_register.proofs.Cited.{◌≡◌, ◌≢◌, ◌∙◌, ℤ, pos, Int, Text, register_code, List, [], ◌∷◌, ◌++◌, refl, sym, ap, ap₂, subst, inl, inr, AllByRecursion, Has, all_from, all_has, Row, Trees, Key, AreListChanges, AreChangedAt, Content, IsStorable, Posting, Format, holds_in, packed_blocks, packed_leaves, plain_rows, key_row, KeepsRowsBeside, keeps_malformed}
 use Rattle.std.specs.List.Sorted.{IsStrictlySortedBy}
-use Rattle.zeb_register.specs.Clauses.{ChangesHeld, DamagedHeld, InStore}
 use Rattle.zeb_register.specs.Content.{OldsRise}
 use Rattle.zeb_register.specs.Formats.{KeepsRows}
-use Rattle.zeb_register.specs.RunChanges.{AreChangedBy, ChangesKeys, IsUnitAmong, KeepsBesideRun, KeysRise, PutsKeys, keeps_run_others, puts_run_rows}
+use Rattle.zeb_register.specs.RunChanges.{AreChangedBy, IsUnitAmong, KeepsBesideRun, KeysRise, PutsKeys, keeps_run_others, puts_run_rows}
 use Rattle.zeb_register.specs.UnitChanges.{AllowsChanges, IsStorableChange, KeyUnits}
 use Rattle.zeb_register.specs.declared.registers.KeyChanges.{KeyChanges}
 use Rattle.zeb_register.proofs.ContentChanges.{told_spot, with_list, with_list_here, with_list_there}
@@ -193,32 +192,3 @@ run_allowed format db run trees content holds storable after change one here sto
     let key = one.key.now in
     let list = all_has (λ (z : KeyChanges). AreListChanges z.changes.now (content db z.key.now) (after db z.key.now)) run one change.lists here in
     allows_held format db key one.changes.now trees content holds storable stored rise (with_list db key (after db key) content) (content_changed db key one.changes.now content (after db key) list)
-
--- the places that the changes say stood there rise, in each of them
-abbrev pub AllOldsRise : List KeyChanges → Type 0
-AllOldsRise run = AllByRecursion (λ (one : KeyChanges). OldsRise one.changes.now) run
-
--- ---- a call
-
-module _ (format : Format) (s t : State) (db : ℤ) (run : List KeyChanges) where
-  pub told_run : KeysRise run → (result : Result (Unit {0}) RegFault) → ChangesKeys format db run s t result → ChangesHeld (holds_in format) s t result (AreChangedBy db run)
-  told_run rise (Ok done) tells clean inside store = let told = tells clean inside store in (told.0, told.1.lists, run_held format db run s.now.trees t.now.trees rise told.1)
-  told_run rise (Err fault) tells clean inside store = tt
-
-  pub told_run_damaged : (result : Result (Unit {0}) RegFault) → ChangesKeys format db run s t result
-      → DamagedHeld (holds_in format) s t result (AllOldsRise run) (λ content. (after : Content) → ¬ AreChangedBy db run content after)
-  told_run_damaged (Ok done) tells clean inside store is rise content storable holds after change = absurd (let e : ◌≡◌ {A = Result (Unit {0}) RegFault} (Ok done) (Err Damaged) = is in cc)
-  told_run_damaged (Err fault) tells clean inside store is rise content storable holds after change =
-      let damaged : fault ≡ Damaged = cc in
-      let it = tells clean inside store damaged in
-      let olds = all_has (λ (z : KeyChanges). OldsRise z.changes.now) run it.0 rise it.1 in
-      let allows = run_allowed format db run s.now.trees content holds storable after change it.0 it.1 it.2 olds in
-      it.3 allows.0 allows.1 allows.2
-
-  pub told_run_malformed : KeysRise run → (result : Result (Unit {0}) RegFault) → ChangesKeys format db run s t result → InStore s t (λ trees. OnOk result (keeps_malformed format trees t.now.trees))
-  told_run_malformed rise (Ok done) tells clean inside store = run_malformed format db run s.now.trees t.now.trees rise (tells clean inside store).1
-  told_run_malformed rise (Err fault) tells clean inside store = tt
-
-  pub told_run_beside : (result : Result (Unit {0}) RegFault) → ChangesKeys format db run s t result → InStore s t (λ trees. OnOk result (keeps_run_others format db run trees t.now.trees))
-  told_run_beside (Ok done) tells clean inside store = run_beside format db run s.now.trees t.now.trees (tells clean inside store).1
-  told_run_beside (Err fault) tells clean inside store = tt

@@ -1,5 +1,5 @@
 -- Tables that hold a content in leaves, without the rows of one database.
-use Rattle.zeb_register.proofs.Cited.{Row, Trees, Int, Has, ◌≡◌, ◌≢◌, ◌↔◌, ◌++◌, ◌∷◌, ℕ, ℤ, List, [], refl, sym, ap, subst, inl, inr, int_cmp_total, Key, Posting, Content, IsWithout, part_in, register_front, IsPostingIn, Loses, blocks_tree, dict_tree, postings_tree, State, Changes, DropsRegisters, IsRecordIn, TakesDatabase, databases_tree, records_tree, ◌∙◌, arith}
+use Rattle.zeb_register.proofs.Cited.{Row, Trees, Int, Has, ◌≡◌, ◌≢◌, ◌↔◌, ◌++◌, ◌∷◌, ℕ, ℤ, List, [], refl, sym, ap, subst, inl, inr, int_cmp_total, Key, Posting, Content, IsWithout, part_in, register_front, IsOfDatabase, Loses, blocks_tree, dict_tree, postings_tree, State, Changes, DropsRegisters, TakesDatabase, databases_tree, records_tree, ◌∙◌, arith}
 use Rattle.zeb_register.proofs.ContentChanges.{integers_apart, posting_total}
 use Rattle.zeb_register.proofs.RisingLists.{same_list, told_by}
 use Rattle.zeb_register.specs.HeldLeaves.{HoldsLeaves}
@@ -8,7 +8,7 @@ use Rattle.zeb_register.proofs.LeafContents.{leaves_stay, none_reads}
 use Rattle.zeb_register.proofs.PlaceLemmas.{none_left}
 use Rattle.zeb_register.proofs.SameLeaves.{alone_so, part_so}
 
-module _ (db : ℤ) (old new : Trees) (before after : Content) (holds : HoldsLeaves old before) (without : IsWithout db before after) (lost : Loses (IsPostingIn db) blocks_tree old new) where
+module _ (db : ℤ) (old new : Trees) (before after : Content) (holds : HoldsLeaves old before) (without : IsWithout db before after) (lost : Loses (IsOfDatabase db) blocks_tree old new) where
   -- a leaf that is left is of another database, and was there
   other_database : (d : ℤ) (key : Key) (leaf : Row) → IsLeafOf new d key leaf → d ≢ db
   other_database d key leaf there same = ((lost (register_front d key.index key.register ++ leaf)).0 there.0).1 (ap Int same)
@@ -49,12 +49,12 @@ module _ (db : ℤ) (old new : Trees) (before after : Content) (holds : HoldsLea
   }
 
 -- and what a call leaves that takes a database out
-pub leaves_dropped : (db : ℤ) (a b c d : State) → DropsRegisters db a b → Changes records_tree (Loses (IsRecordIn db)) b c → Changes databases_tree (TakesDatabase db) c d
+pub leaves_dropped : (db : ℤ) (a b c d : State) → DropsRegisters db a b → Changes records_tree (Loses (IsOfDatabase db)) b c → Changes databases_tree (TakesDatabase db) c d
     → (before after : Content) → HoldsLeaves a.now.trees before → IsWithout db before after → HoldsLeaves d.now.trees after
 leaves_dropped db a b c d one two three before after holds without =
     let same7 : d.now.trees 7 ≡ b.now.trees 7 = three.others.1.1.1.0 (λ e. absurd (omega (arith, e))) ∙ two.others.1.1.1.0 (λ e. absurd (omega (arith, e))) in
     let same9 : d.now.trees 9 ≡ b.now.trees 9 = three.others.1.1.1.1.0 (λ e. absurd (omega (arith, e))) ∙ two.others.1.1.1.1.0 (λ e. absurd (omega (arith, e))) in
     let same11 : d.now.trees 11 ≡ b.now.trees 11 = three.others.1.1.1.1.1.0 (λ e. absurd (omega (arith, e))) ∙ two.others.1.1.1.1.1.0 (λ e. absurd (omega (arith, e))) in
-    let no_postings = none_left (IsPostingIn db) postings_tree a.now.trees b.now.trees one.store.keyed.1.1.1.0 one.postings holds.alone.alone.0 in
-    let no_dict = none_left (IsPostingIn db) dict_tree a.now.trees b.now.trees one.store.keyed.1.1.1.1.1.0 one.dict holds.alone.alone.1 in
+    let no_postings = none_left (IsOfDatabase db) postings_tree a.now.trees b.now.trees one.store.keyed.1.1.1.0 one.postings holds.alone.alone.0 in
+    let no_dict = none_left (IsOfDatabase db) dict_tree a.now.trees b.now.trees one.store.keyed.1.1.1.1.1.0 one.dict holds.alone.alone.1 in
     leaves_stay b.now.trees d.now.trees after (same7, same9, same11) (leaves_without db a.now.trees b.now.trees before after holds without one.blocks no_postings no_dict)

@@ -1,9 +1,8 @@
 -- What follows of changes of a key's units, in each format: for tables that hold a content, and for rows whatever they say.
-use Rattle.zeb_register.proofs.Cited.{◌≡◌, ℤ, ℕ, List, [], ◌∷◌, refl, sym, subst, Result, Ok, Err, OnOk, AllByRecursion, State, Trees, Key, RegFault, Damaged, RecordChange, AreChangedAt, Content, IsStorable, Format, holds_in, packed_blocks, packed_leaves, plain_rows, key_row, postings_tree, blocks_tree, dict_tree, keeps_malformed}
-use Rattle.zeb_register.specs.Clauses.{ChangesHeld, DamagedHeld, InStore}
+use Rattle.zeb_register.proofs.Cited.{◌≡◌, ℤ, ℕ, List, [], ◌∷◌, refl, sym, subst, AllByRecursion, Trees, Key, RecordChange, AreChangedAt, Content, IsStorable, Format, holds_in, packed_blocks, packed_leaves, plain_rows, key_row, postings_tree, blocks_tree, dict_tree, keeps_malformed}
 use Rattle.zeb_register.specs.Content.{OldsRise}
 use Rattle.zeb_register.specs.Store.{KeepsLists}
-use Rattle.zeb_register.specs.UnitChanges.{AllowsChanges, ChangesKey, IsStorableChange, IsUnitTouched, KeyUnits, PutsAny, PutsUnits, keeps_others}
+use Rattle.zeb_register.specs.UnitChanges.{AllowsChanges, IsStorableChange, IsUnitTouched, KeyUnits, PutsAny, PutsUnits, keeps_others}
 use Rattle.zeb_register.proofs.FormatLemmas.{registers_stay}
 use Rattle.zeb_register.proofs.KeptLeaves.{kept_same}
 use Rattle.zeb_register.proofs.LeafChanges as leaves
@@ -77,29 +76,3 @@ module _ (format : Format) (db : ℤ) (key : Key) (changes : List RecordChange) 
   pub any_beside : keeps_others format db key changes old new
   any_beside = any_so format db key changes old new (keeps_others format db key changes old new) puts
       (λ none same. others_same format db key changes old new same) (λ units. rows_beside format db key changes old new units)
-
--- ---- a call
-
-module _ (format : Format) (s t : State) (db : ℤ) (key : Key) (changes : List RecordChange) where
-  pub told_change : (result : Result (Unit {0}) RegFault) → ChangesKey format db key changes s t result → ChangesHeld (holds_in format) s t result (AreChangedAt db key changes)
-  told_change (Ok done) tells clean inside store =
-      let told = tells clean inside store in
-      (told.0, any_lists format db key changes s.now.trees t.now.trees told.1, any_held format db key changes s.now.trees t.now.trees told.1)
-  told_change (Err fault) tells clean inside store = tt
-
-  pub told_damaged : (result : Result (Unit {0}) RegFault) → ChangesKey format db key changes s t result
-      → DamagedHeld (holds_in format) s t result (OldsRise changes) (λ content. (after : Content) → ¬ AreChangedAt db key changes content after)
-  told_damaged (Ok done) tells clean inside store is rise content storable holds after change = absurd (let e : ◌≡◌ {A = Result (Unit {0}) RegFault} (Ok done) (Err Damaged) = is in cc)
-  told_damaged (Err fault) tells clean inside store is rise content storable holds after change =
-      let damaged : fault ≡ Damaged = cc in
-      let it = (tells clean inside store).1 damaged in
-      let allows = allows_held format db key changes s.now.trees content holds storable it.0 rise after change in
-      it.1 allows.0 allows.1 allows.2
-
-  pub told_malformed : (result : Result (Unit {0}) RegFault) → ChangesKey format db key changes s t result → InStore s t (λ trees. OnOk result (keeps_malformed format trees t.now.trees))
-  told_malformed (Ok done) tells clean inside store = any_malformed format db key changes s.now.trees t.now.trees (tells clean inside store).1
-  told_malformed (Err fault) tells clean inside store = tt
-
-  pub told_beside : (result : Result (Unit {0}) RegFault) → ChangesKey format db key changes s t result → InStore s t (λ trees. OnOk result (keeps_others format db key changes trees t.now.trees))
-  told_beside (Ok done) tells clean inside store = any_beside format db key changes s.now.trees t.now.trees (tells clean inside store).1
-  told_beside (Err fault) tells clean inside store = tt

@@ -1,5 +1,5 @@
 -- The statements that take the rows of a whole table, or of a database in one, each with what it is compiled to.
-use Rattle.zeb_register.proofs.Cited.{IsPlain, command_of, Delete, Row, State, Executes, Int, Has, ◌≡◌, true, ℕ, ℤ, List, [], ◌∷◌, refl, Ok, inl, Table, Keyed, StoreTable, Meta, Databases, tree_of, Empties, clear_text, tree_at, wipe_text, Loses, Changes, IsPostingIn, IsStore, meta_table, store_schema}
+use Rattle.zeb_register.proofs.Cited.{IsPlain, command_of, Delete, Row, State, Executes, Int, Has, ◌≡◌, true, ℕ, ℤ, List, [], ◌∷◌, refl, Ok, inl, Table, Keyed, StoreTable, Meta, Databases, tree_of, Empties, clear_text, tree_at, wipe_text, Loses, Changes, IsOfDatabase, IsStore, meta_table, store_schema}
 use Rattle.sqlite.specs.Listing.{understood}
 use Rattle.sqlite_tied.specs.Compute.{everything}
 use Rattle.zeb_register.specs.declared.agreeing.Table.TheVariants as keyed
@@ -67,9 +67,9 @@ abbrev in_base : List Condition
 in_base = equals 1 0 ∷ []
 
 lost : (at : ℕ) (table : Table) (sql : List ℕ) → Takes at table in_base sql → ((db : ℤ) → are_fit table (Int db ∷ []) in_base ≡ true) → (db : ℤ) (old new : State) (count : ℕ) → IsStore old → Executes sql (Int db ∷ []) old new (Ok count)
-    → Changes table.tree (Loses (IsPostingIn db)) old new
+    → Changes table.tree (Loses (IsOfDatabase db)) old new
 lost at table sql it fit db old new count store ran =
-    loses store_schema table.tree old new (Int db ∷ []) in_base (IsPostingIn db) (λ id columns. (λ m. m.0, λ p. (p, tt)))
+    loses store_schema table.tree old new (Int db ∷ []) in_base (IsOfDatabase db) (λ id columns. (λ m. m.0, λ p. (p, tt)))
     (deletes store_schema at table it.static sql (Int db ∷ []) in_base it.is it.plain (fit db) old new count store ran)
 
 clears_records : Takes 2 records in_base (clear_text keyed.Records)
@@ -88,7 +88,7 @@ clears_dict : Takes 5 dict in_base (clear_text keyed.Dict)
 unfolding understood everything
 clears_dict = record { static = dict_static; is = refl; plain = (refl, refl) }
 
-pub cleared : (t : Keyed) (db : ℤ) (old new : State) (count : ℕ) → IsStore old → Executes (clear_text t) (Int db ∷ []) old new (Ok count) → Changes (tree_of t) (Loses (IsPostingIn db)) old new
+pub cleared : (t : Keyed) (db : ℤ) (old new : State) (count : ℕ) → IsStore old → Executes (clear_text t) (Int db ∷ []) old new (Ok count) → Changes (tree_of t) (Loses (IsOfDatabase db)) old new
 cleared keyed.Records = lost 2 records (clear_text keyed.Records) clears_records (λ db. refl)
 cleared keyed.Postings = lost 3 postings (clear_text keyed.Postings) clears_postings (λ db. refl)
 cleared keyed.Blocks = lost 4 blocks (clear_text keyed.Blocks) clears_blocks (λ db. refl)

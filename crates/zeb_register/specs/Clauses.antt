@@ -13,7 +13,7 @@ use Rattle.zeb_register.specs.Calls.{Alters, Inside, MayRefuse}
 use Rattle.zeb_register.specs.Content.{Content, IsStorable}
 use Rattle.zeb_register.specs.Faults.{fault_of}
 use Rattle.zeb_register.specs.Sql.{KeepsTables}
-use Rattle.zeb_register.specs.Store.{IsStore, Changes, KeepsLists}
+use Rattle.zeb_register.specs.Store.{IsStore, Changes}
 
 -- on a clean disk this is said of a store's tables as they were before a call
 abbrev pub OnStore : State → State → (Trees → Type 0) → Type 0
@@ -84,24 +84,10 @@ module _ (Holds : Trees → Content → Type 0) where
   abbrev pub TellsHeld : {A E : Type 0} → State → State → Result A E → (Content → A → Type 0) → Type 0
   TellsHeld old new result Told = Tells old new result (λ trees answer. (content : Content) → Holds trees content → Told content answer)
 
-  -- Damaged is answered only where no content is held
-  abbrev pub IsHonestOfHeld : {A : Type 0} → State → State → Result A RegFault → Type 0
-  IsHonestOfHeld old new result = OnStore old new (λ trees. result ≡ Err Damaged → (content : Content) → ¬ Holds trees content)
-
   -- Damaged is answered only where no content is held that every layout can store
   abbrev pub IsHonestStorable : {A : Type 0} → State → State → Result A RegFault → Type 0
   IsHonestStorable old new result = OnStore old new (λ trees. result ≡ Err Damaged
       → (content : Content) → IsStorable content → ¬ Holds trees content)
-
-  -- an accepted call makes this change of the content, and leaves the lists as they were
-  abbrev pub ChangesHeld : {A E : Type 0} → State → State → Result A E → (Content → Content → Type 0) → Type 0
-  ChangesHeld old new result IsChange = InStore old new (λ trees. OnOk result (IsStore new × KeepsLists trees new.now.trees
-      × ((before after : Content) → Holds trees before → IsChange before after → Holds new.now.trees after)))
-
-  -- where what the call is given is so, Damaged is answered only where this holds of a content that every layout can store
-  abbrev pub DamagedHeld : {A : Type 0} → State → State → Result A RegFault → Type 0 → (Content → Type 0) → Type 0
-  DamagedHeld old new result Given Lost = InStore old new (λ trees. result ≡ Err Damaged → Given
-      → (content : Content) → IsStorable content → Holds trees content → Lost content)
 
 -- ---- calls that make tables
 

@@ -14,7 +14,7 @@ use Rattle.zeb_keys.specs.declared.keys.Occurrence.{Occurrence}
 use Rattle.zeb_register.specs.declared.registers.Place.{Place}
 use Rattle.zeb_register.specs.declared.registers.RecordChange.{RecordChange}
 use Rattle.zeb_register.specs.Sql.{Loses}
-use Rattle.zeb_register.specs.Store.{IsStore, meta_tree, databases_tree, records_tree, TakesDatabase, IsRecordIn, IsPostingIn, postings_tree, blocks_tree, dict_tree}
+use Rattle.zeb_register.specs.Store.{IsStore, meta_tree, databases_tree, records_tree, TakesDatabase, IsOfDatabase, postings_tree, blocks_tree, dict_tree}
 
 -- for each database's id and each key a list of postings; tables hold only one whose lists rise by system number, then by place
 abbrev pub Content : Type 0
@@ -100,8 +100,8 @@ pub record IsWithout (db : ℤ) (old new : Content) : Type 0 where
 pub record TakesWhole (db : ℤ) (old new : State) : Type 0 where
   pub store : IsStore new
   pub databases : TakesDatabase db databases_tree old.now.trees new.now.trees
-  pub records : Loses (IsRecordIn db) records_tree old.now.trees new.now.trees
-  pub postings : Loses (IsPostingIn db) postings_tree old.now.trees new.now.trees
-  pub blocks : Loses (IsPostingIn db) blocks_tree old.now.trees new.now.trees
-  pub dict : Loses (IsPostingIn db) dict_tree old.now.trees new.now.trees
+  pub records : Loses (IsOfDatabase db) records_tree old.now.trees new.now.trees
+  pub postings : Loses (IsOfDatabase db) postings_tree old.now.trees new.now.trees
+  pub blocks : Loses (IsOfDatabase db) blocks_tree old.now.trees new.now.trees
+  pub dict : Loses (IsOfDatabase db) dict_tree old.now.trees new.now.trees
   pub texts : new.now.trees meta_tree ≡ old.now.trees meta_tree

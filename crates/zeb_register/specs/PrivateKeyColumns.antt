@@ -14,9 +14,10 @@ use Rattle.zeb_keys.specs.declared.keys.Key.{Key}
 abbrev pub IsRowOf : ℤ → ℤ → ℤ → List ℕ → Row → Type 0
 IsRowOf db idx reg term columns = (column columns 0 ≡ Int db) × (column columns 1 ≡ Int idx) × (column columns 2 ≡ Int reg) × (column columns 3 ≡ Text term)
 
-abbrev pub IsBlockOf : ℤ → ℤ → ℤ → List ℕ → ℤ → Row → Type 0
-IsBlockOf db idx reg term block columns =
-    (column columns 0 ≡ Int db) × (column columns 1 ≡ Int idx) × (column columns 2 ≡ Int reg) × (column columns 3 ≡ Text term) × (column columns 4 ≡ Int block)
+-- a row of the key with this number, of a block or of a record
+abbrev pub IsNumberedRow : ℤ → ℤ → ℤ → List ℕ → ℤ → Row → Type 0
+IsNumberedRow db idx reg term number columns =
+    (column columns 0 ≡ Int db) × (column columns 1 ≡ Int idx) × (column columns 2 ≡ Int reg) × (column columns 3 ≡ Text term) × (column columns 4 ≡ Int number)
 
 abbrev pub IsDictIn : ℤ → Key → Row → Type 0
 IsDictIn db key = IsRowOf db (pos key.index) (pos (register_code key.register)) key.term
@@ -41,4 +42,4 @@ numbered_columns at number = key_columns at ++ Int number ∷ []
 
 -- a row of the key with this number
 abbrev pub IsOfNumbered : KeyOf → ℤ → Row → Type 0
-IsOfNumbered at = IsBlockOf at.db.0 (pos at.key.now.index) (pos (register_code at.key.now.register)) at.key.now.term
+IsOfNumbered at = IsNumberedRow at.db.0 (pos at.key.now.index) (pos (register_code at.key.now.register)) at.key.now.term

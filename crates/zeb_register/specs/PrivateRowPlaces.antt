@@ -10,8 +10,8 @@ use Rattle.zeb_keys.specs.declared.keys.Key.{Key}
 use Rattle.zeb_keys.specs.Registers.{register_code}
 use Rattle.zeb_register.specs.declared.registers.Place.{Place}
 use Rattle.zeb_register.specs.Sql.{HasRow, Loses}
-use Rattle.zeb_register.specs.Store.{IsStore, IsPostingIn, postings_tree, blocks_tree, dict_tree, KeepsLists}
-use Rattle.zeb_register.specs.PrivateRowStatements.{IsPlaceOf}
+use Rattle.zeb_register.specs.Store.{IsStore, IsOfDatabase, postings_tree, blocks_tree, dict_tree, KeepsLists}
+use Rattle.zeb_register.specs.PrivateKeyColumns.{IsNumberedRow}
 use Rattle.zeb_register.specs.Content.{posting_at}
 use Rattle.zeb_register.specs.PlainRows.{key_row, posting_row}
 use Rattle.zeb_register.specs.PlainUnits.{ShowsNone}
@@ -41,7 +41,7 @@ posting_columns db key sysno place = key_row db key ++ posting_row (posting_at s
 
 -- a posting of the key in the record
 abbrev pub IsPlaceIn : ℤ → Key → ℕ → Row → Type 0
-IsPlaceIn db key sysno = IsPlaceOf db (pos key.index) (pos (register_code key.register)) key.term (pos sysno)
+IsPlaceIn db key sysno = IsNumberedRow db (pos key.index) (pos (register_code key.register)) key.term (pos sysno)
 
 -- the table has these postings too
 abbrev pub GainsPlaces : ℤ → Key → ℕ → List Place → Trees → Trees → Type 0
@@ -62,6 +62,6 @@ pub record Puts (db : ℤ) (key : Key) (sysno : ℕ) (places : List Place) (old 
 pub record DropsRegisters (db : ℤ) (old new : State) : Type 0 where
   pub store : IsStore new
   pub lists : KeepsLists old.now.trees new.now.trees
-  pub postings : Loses (IsPostingIn db) postings_tree old.now.trees new.now.trees
-  pub blocks : Loses (IsPostingIn db) blocks_tree old.now.trees new.now.trees
-  pub dict : Loses (IsPostingIn db) dict_tree old.now.trees new.now.trees
+  pub postings : Loses (IsOfDatabase db) postings_tree old.now.trees new.now.trees
+  pub blocks : Loses (IsOfDatabase db) blocks_tree old.now.trees new.now.trees
+  pub dict : Loses (IsOfDatabase db) dict_tree old.now.trees new.now.trees

@@ -92,11 +92,6 @@ IsIdentRow db sysno trees row = (ident : List ℕ) × (bytes : List ℕ) × (row
 abbrev pub place_key : ℤ → ℤ → ℤ → List ℕ → ℤ → Row
 place_key db idx reg term sysno = Int db ∷ Int idx ∷ Int reg ∷ Text term ∷ Int sysno ∷ []
 
--- a posting of the key in the record
-abbrev pub IsPlaceOf : ℤ → ℤ → ℤ → List ℕ → ℤ → Row → Type 0
-IsPlaceOf db idx reg term sysno columns =
-    (column columns 0 ≡ Int db) × (column columns 1 ≡ Int idx) × (column columns 2 ≡ Int reg) × (column columns 3 ≡ Text term) × (column columns 4 ≡ Int sysno)
-
 -- a row that shows a record
 abbrev pub IsRecordShown : Row → Type 0
 IsRecordShown row = (n : ℕ) × (t : List ℕ) × (b : List ℕ) × (row ≡ Int (pos n) ∷ Text t ∷ Blob b ∷ []) × IsUtf8 t

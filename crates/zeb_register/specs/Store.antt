@@ -38,9 +38,9 @@ blocks_tree = 9
 abbrev pub dict_tree : ℕ
 dict_tree = 11
 
--- a row of the database, in a table of the registers
-abbrev pub IsPostingIn : ℤ → Row → Type 0
-IsPostingIn db columns = column columns 0 ≡ Int db
+-- a row of the database, in the table of records or in one of the registers
+abbrev pub IsOfDatabase : ℤ → Row → Type 0
+IsOfDatabase db columns = column columns 0 ≡ Int db
 
 -- the row of a name and its text
 abbrev pub entry : List ℕ → List ℕ → Row
@@ -99,10 +99,6 @@ HasNumber db sysno columns = (column columns 0 ≡ Int db) × (column columns 1 
 -- a record of the database with this number or this identifier
 abbrev pub SharesRecord : ℤ → ℤ → List ℕ → Row → Type 0
 SharesRecord db sysno ident columns = HasNumber db sysno columns ⊎ ((column columns 0 ≡ Int db) × (column columns 2 ≡ Text ident))
-
--- a record of the database
-abbrev pub IsRecordIn : ℤ → Row → Type 0
-IsRecordIn db columns = column columns 0 ≡ Int db
 
 -- a row that begins with these columns, shown by the others
 abbrev pub IsRest : ℕ → Row → Trees → Row → Type 0

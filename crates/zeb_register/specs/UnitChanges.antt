@@ -21,7 +21,7 @@ use Rattle.zeb_register.specs.KeptUnits.{KeepsUnits}
 use Rattle.zeb_register.specs.PackedBlocks.{block_row, dict_row}
 use Rattle.zeb_register.specs.PackedUnits.{CountsAs}
 use Rattle.zeb_register.specs.PlainRows.{key_row}
-use Rattle.zeb_register.specs.PrivateKeyColumns.{IsBlockOf, IsDictIn}
+use Rattle.zeb_register.specs.PrivateKeyColumns.{IsNumberedRow, IsDictIn}
 use Rattle.zeb_register.specs.PrivateRowPlaces.{IsPlaceIn, posting_columns}
 use Rattle.zeb_register.specs.Sound.{KeepsRowsBeside}
 use Rattle.zeb_register.specs.Sql.{HasRow}
@@ -131,7 +131,7 @@ pub record PutsPlaces (db : ℤ) (key : Key) (changes : List RecordChange) (old 
 -- ---- packed blocks
 
 abbrev pub IsBlockIn : ℤ → Key → ℕ → Row → Type 0
-IsBlockIn db key block = IsBlockOf db (pos key.index) (pos (register_code key.register)) key.term (pos block)
+IsBlockIn db key block = IsNumberedRow db (pos key.index) (pos (register_code key.register)) key.term (pos block)
 
 -- it is told rightly whether some row of a table is P
 abbrev pub IsTold : Bool → (Row → Type 0) → ℕ → Trees → Type 0

@@ -1,12 +1,12 @@
 //! One record's part of the postings of a key, with the places of a change put in the place of the old ones.
 
-ghost use Rattle.std.specs.Prelude.{◌≡◌, ◌≢◌, ◌/◌, ◌++◌, ◌∷◌, [], List};
+ghost use Rattle.std.specs.Prelude.{◌≡◌, ◌≢◌, ◌/◌, ◌++◌, ◌∷◌, ◌↔◌, [], List, IsTrue};
 ghost use Rattle.std.specs.Prelude.{map, true, false, IfOk, OnOk};
 ghost use Rattle.zeb_blocks.specs.Blocks.{LiesIn};
 ghost use Rattle.zeb_blocks.specs.declared.postings.Posting.{Posting};
 ghost use Rattle.zeb_register.specs.Answers.{Answers, IfDamaged};
 ghost use Rattle.zeb_register.specs.Content.{places_in, posting_at};
-ghost use Rattle.zeb_register.specs.PrivateRecordParts.{IsParted};
+ghost use Rattle.zeb_register.specs.PrivateRecordParts.{ComesLast, EndsBelow, IsParted};
 ghost use Rattle.zeb_register.specs.UnitChanges.{IsStorableChange, TurnsPlaces};
 
 use crate::RegFault;
@@ -70,6 +70,22 @@ fn are_same(one: &[Place], two: &[Place]) -> bool
     one == two
 }
 
+/// A list with the places of a record behind it.
+fn with_places(list: Vec<Posting>, sysno: u64, places: &[Place]) -> Result<Vec<Posting>, RegFault>
+    ensures { Answers (λ fault. fault ≡ RegFault.Memory)
+        (λ next. next.items ≡ list.items ++ map (posting_at sysno) places.now) result }
+{
+    let mut list = list;
+    for place in places {
+        list.push(Posting {
+            sysno,
+            seq: place.seq,
+            pos: place.pos,
+        })?;
+    }
+    Ok(list)
+}
+
 /// The postings before a record, those of its places, and those behind it.
 fn joined(
     before: Vec<Posting>,
@@ -81,21 +97,30 @@ fn joined(
         (λ list. list.items ≡ before.items ++ (map (posting_at sysno) places.now ++ behind.now))
         result }
 {
-    let mut list = before;
-    for place in places {
-        list.push(Posting {
-            sysno,
-            seq: place.seq,
-            pos: place.pos,
-        })?;
-    }
+    let mut list = with_places(before, sysno, places)?;
     list.extend_from_slice(behind)?;
     Ok(list)
 }
 
-/// The postings of a block, with a record's places put in the place of its old ones. `Damaged` just where the record has other places than the
-/// change says; beside that only memory can fail.
-pub fn postings_changed(
+/// Whether a list ends with a posting of a record below this one.
+fn ends_below(list: &[Posting], sysno: u64) -> bool
+    ensures { IsTrue result ↔ EndsBelow sysno list.now }
+{
+    match list.last() {
+        Some(last) => last.sysno < sysno,
+        None => false,
+    }
+}
+
+/// Whether a change puts places of a record that had none behind all postings of a list that has some.
+fn comes_last(list: &[Posting], change: &RecordChange<'_>) -> bool
+    ensures { IsTrue result → ComesLast change.now list.now }
+{
+    change.old.is_empty() && ends_below(list, change.sysno)
+}
+
+/// The same as [`postings_changed`], where the record may have places among the others: all postings are copied.
+fn postings_parted(
     alloc: Global,
     list: &[Posting],
     change: &RecordChange<'_>,
@@ -112,4 +137,24 @@ pub fn postings_changed(
         return Err(RegFault::Damaged);
     }
     joined(parted.before, change.sysno, change.new, &parted.behind)
+}
+
+/// The postings of a block, with a record's places put in the place of its old ones. `Damaged` just where the record has other places than the
+/// change says; beside that only memory can fail. New records mostly come behind all others: then no posting is copied.
+pub fn postings_changed(
+    alloc: Global,
+    list: Vec<Posting>,
+    change: &RecordChange<'_>,
+) -> Result<Vec<Posting>, RegFault>
+    requires lies { LiesIn (change.now.sysno / 256) list.items }
+    requires stored { IsStorableChange change.now }
+    ensures turned { Answers (λ fault. (fault ≢ RegFault.Store)
+        × IfDamaged (places_in change.now.sysno list.items ≢ change.now.old.now) fault)
+        (λ next. TurnsPlaces change.now list.items next.items) result }
+    ensures lies { IfOk result (λ next. LiesIn (change.now.sysno / 256) next.items) }
+{
+    if comes_last(&list, change) {
+        return with_places(list, change.sysno, change.new);
+    }
+    postings_parted(alloc, &list, change)
 }

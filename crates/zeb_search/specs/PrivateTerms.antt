@@ -1,6 +1,6 @@
 -- What only the contracts of private functions speak of; no public clause reaches it.
 -- The terms that one step of a search asks for.
-use Rattle.std.specs.Prelude.{◌≡◌, ◌↔◌, ◌⊎◌, ◌+◌, ◌++◌, ◌≤◌, ℕ, ℤ, IsTrue, List, [], ◌∷◌, Option, Some, None, String, length, string_bytes}
+use Rattle.std.specs.Prelude.{◌≡◌, ◌↔◌, ◌⊎◌, ◌+◌, ◌++◌, ◌≤◌, ℕ, IsTrue, List, [], ◌∷◌, Option, Some, None, String, length, string_bytes}
 use Rattle.std.specs.declared.alloc.Global.{Global}
 use Rattle.sqlite_rules.specs.Lists.{Has}
 use Rattle.zeb_keys.specs.declared.Register.{Register}
@@ -85,10 +85,6 @@ EndsAt wanted end = (term : List ℕ) → IsWanted wanted term → ¬ Precedes e
 abbrev pub LeadsTo : Wanted → List TermCount → Option (String Global) → Type 0
 LeadsTo wanted page None = (page ≡ []) ⊎ ((t : TermCount) × Has page t × EndsAt wanted t.term)
 LeadsTo wanted page (Some next) = (front : List TermCount) × (t : TermCount) × (page ≡ front ++ t ∷ []) × (string_bytes next ≡ t.term ++ 0 ∷ [])
-
--- it is a posting of one of the keys
-abbrev pub IsPostingOf : Content → ℤ → List Key → Posting → Type 0
-IsPostingOf content db keys p = (key : Key) × Has keys key × Has (content db key) p
 
 -- another posting stands behind it in the same unit, at a distance of so many words
 abbrev pub HasBehind : (least greatest : ℕ) → List Posting → Posting → Type 0

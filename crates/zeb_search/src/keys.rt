@@ -10,11 +10,11 @@ ghost use Rattle.zeb_search.specs.PrivateTerms.{AreTaken, LeadsTo, NamesEntry, S
 ghost use Rattle.zeb_search.specs.Untouched.{IsUntouched};
 ghost use Rattle.zeb_search.specs.PrivateFinds.{FindsKeys, MeetsTerms};
 
-use crate::ranges::text_above;
 use crate::terms::Wanted;
 use sqlite::{Alter, Connection};
 use std::alloc::{AllocError, Global};
 use zeb_keys::{Key, Register};
+use zeb_register::for_layouts::text_above;
 use zeb_register::{Layout, RegFault, RegisterOf, TermCount, Work};
 
 /// How many terms of a register are read at first. Most patterns match few terms, and each term that is read costs as much as a short

@@ -1,6 +1,6 @@
 //! Between which terms of a register those stand that a step of a search asks for, in the order of their bytes.
 
-ghost use Rattle.std.specs.Prelude.{◌≡◌, ◌<◌, ◌++◌, ℕ, List, [], ◌∷◌, IfOk, IsTrue, string_bytes};
+ghost use Rattle.std.specs.Prelude.{◌<◌, ◌++◌, ℕ, List, IfOk, IsTrue, string_bytes};
 ghost use Rattle.zeb_search.specs.Comparing.{Precedes, Stands, StandsInOrder};
 ghost use Rattle.zeb_search.specs.Holds.{IsNumberAt};
 ghost use Rattle.zeb_search.specs.PrivateTerms.{BeginsAt, EndsAt};
@@ -8,6 +8,7 @@ ghost use Rattle.zeb_search.specs.PrivateTerms.{BeginsAt, EndsAt};
 use crate::terms::{KEYS_END, Wanted};
 use std::alloc::{AllocError, Global};
 use zeb_query::Relation;
+use zeb_register::for_layouts::text_above;
 use zeb_text::{key_of_number, number_of_key};
 
 impl Wanted<'_> {
@@ -46,15 +47,6 @@ impl Wanted<'_> {
             Wanted::Text(relation, text) => is_last_text(*relation, term, text),
         }
     }
-}
-
-/// The least text above this one.
-pub(crate) fn text_above(alloc: Global, text: &str) -> Result<String, AllocError>
-    ensures { IfOk result (λ above. string_bytes above ≡ text.now ++ 0 ∷ []) }
-{
-    let mut above = String::from_str(alloc, text)?;
-    above.push('\0')?;
-    Ok(above)
 }
 
 /// A text before which no key stands of a number in the relation to this one.

@@ -1,5 +1,6 @@
 pub mod RunLemmas
 pub mod DigitLemmas
+pub mod AsciiFolding
 pub mod EncodedLemmas
 pub mod JoinLemmas
 pub mod RunsSoFar

@@ -11,6 +11,10 @@ use unicode_normalization::to_nfd;
 pub fn fold(alloc: Global, text: &str) -> Result<String, AllocError>
     ensures { IfOk result (λ key. string_bytes key ≡ encode_utf8_all (folded (chars text.now))) }
 {
+    // Most words are ASCII: nothing of them is decomposed, and they have no marks.
+    if text.is_ascii() {
+        return text.to_ascii_lowercase(alloc);
+    }
     let decomposed = to_nfd(alloc, text)?;
     let caseless = default_case_fold_str(alloc, decomposed.as_str())?;
     let key = to_nfd(alloc, caseless.as_str())?;

@@ -1,6 +1,6 @@
 -- The command that words name, by the definition of a parse that stands with the parser, `clap`: which options, arguments and
 -- commands the parser is told of, that it finds no fault in the words, and what its matches come to.
-use Rattle.std.specs.Prelude.{ℕ, ◌≡◌, ◌≤◌, ◌<◌, ◌^◌, pos, Bool, true, false, List, [], ◌∷◌, map, Option, Some, None, codes, String, string_bytes, unwrap_or, ◌⊎◌, ⊤}
+use Rattle.std.specs.Prelude.{ℕ, ◌≡◌, ◌≤◌, ◌<◌, ◌^◌, pos, Bool, true, false, List, [], ◌∷◌, map, Option, Some, None, codes, String, string_bytes, unwrap_or, ◌⊎◌}
 use Rattle.std.specs.Str.Parse.{IsNumeral, digits_value, without_leading_plus}
 use Rattle.zeb_image.specs.NameOf.{name_bytes}
 use Rattle.clap.specs.Walk.{Row, Rule, Text, first_of, one_of, all_of}

@@ -7,7 +7,7 @@ ghost use Rattle.zeb_register.specs.PrivateRowExpected.{tree_of};
 ghost use Rattle.zeb_register.specs.PrivateRowStatements.{Empties};
 ghost use Rattle.zeb_register.specs.PrivateStoreTables.{clear_text, tree_at, wipe_text};
 ghost use Rattle.zeb_register.specs.Sql.{Loses};
-ghost use Rattle.zeb_register.specs.Store.{IsPostingIn};
+ghost use Rattle.zeb_register.specs.Store.{IsOfDatabase};
 
 use crate::agreeing::Table;
 use crate::statements::writing::write;
@@ -79,7 +79,7 @@ pub(crate) fn table_clear<S: Alter>(
     db: DatabaseId,
 ) -> Result<(), RegFault>
     ensures same { tx.new.conn.ghost_name ≡ tx.old.conn.ghost_name }
-    ensures call { Writes (tree_of table) (Loses (IsPostingIn db.0)) (state S.Store tx.old.conn.now)
+    ensures call { Writes (tree_of table) (Loses (IsOfDatabase db.0)) (state S.Store tx.old.conn.now)
         (state S.Store tx.new.conn.now) result }
     ensures honest { result ≢ Err RegFault.Damaged }
 {

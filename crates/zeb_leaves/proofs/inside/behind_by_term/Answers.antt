@@ -1,7 +1,8 @@
-use Rattle.zeb_leaves.proofs.Cited.{◌++◌, ◌∷◌, [], HasCleanDisk, IsLeast, IsUpTo, arith, own_key, state, subst}
+use Rattle.zeb_leaves.proofs.Cited.{◌++◌, ◌∷◌, [], None, Some, HasCleanDisk, IsLeafIn, IsLeast, IsNextBehind, IsUpTo, TellsKey, arith, leaf_key, own_key, state, subst}
 use Rattle.sqlite.specs.Effect.{Database}
 use Rattle.std.proofs.lemmas.Result.{IfOk-weaker}
-use Rattle.zeb_leaves.proofs.InsideCalls.{inside_then, up_to_next}
+use Rattle.zeb_leaves.proofs.InsideCalls.{inside_then, next_number, up_to_next}
+use Rattle.zeb_leaves.proofs.KeysTold.{leaf_told, none_told, told_so}
 use Rattle.zeb_leaves.proofs.LeavesBehind.{behind_above, behind_own}
 use Rattle.zeb_leaves.specs.PrivateLeafReads.{IsOfTermFrom}
 use Rattle.zeb_leaves.specs.PrivateTermReads.{IsRowFrom}
@@ -11,21 +12,26 @@ use Rattle.zeb_leaves.proofs.inside.behind_by_term.Goals as goal
 pub returns-in-Some-clause-finds : goal.returns-in-Some-clause-finds
 returns-in-Some-clause-finds g c clean inside store =
     let s0 = state g.S.Store c.args.tx.now.conn.now in
-    let found = c.in_ok-leaf.ensures.finds clean inside store in
-    behind_own s0 store c.args.at.db.0 c.args.at.index c.args.at.register c.args.term.now c.args.block c.in-Some.leaf
-    (rw c.in-Some.is at (up_to_next (λ z. IsOfTermFrom c.args.at c.args.term.now z s0.now.trees) (λ row other. IsUpTo (own_key other) row) c.args.block _ c.requires found))
+    let one = leaf_told (IsLeast (IsOfTermFrom c.args.at c.args.term.now (next_number c.args.block) s0.now.trees)) _ c.in-Some.own c.in-Some.is (c.in_ok-own.ensures.finds clean inside store) in (
+      Some one.0,
+      one.1,
+      behind_own s0 store c.args.at.db.0 c.args.at.index c.args.at.register c.args.term.now c.args.block one.0
+          (up_to_next (λ z. IsOfTermFrom c.args.at c.args.term.now z s0.now.trees) (λ row other. IsUpTo (own_key other) row) c.args.block (Some one.0) c.requires one.2),
+    )
 
 pub returns-in-None-clause-call : goal.returns-in-None-clause-call
-returns-in-None-clause-call g c = inside_then _ _ _ _ _ c.in_ok-leaf.ensures.call c.leaf_of_terms_above.ensures.call
+returns-in-None-clause-call g c = inside_then _ _ _ _ _ c.in_ok-own.ensures.call c.key_of_terms_above.ensures.call
 
 pub returns-in-None-clause-finds : goal.returns-in-None-clause-finds
 returns-in-None-clause-finds g c clean inside store =
     let s0 = state g.S.Store c.args.tx.now.conn.now in
-    let s1 = state g.S.Store c.leaf_of_term_from.new.tx.conn.now in
-    let clean1 : HasCleanDisk s1 = omega (arith, c.leaf_of_terms_above.ensures.call.crash.clean) in
-    let read = c.in_ok-leaf.ensures.call.ok clean1 inside in
-    let found = c.in_ok-leaf.ensures.finds clean1 inside store in
-    let none = rw c.in-None.is at (up_to_next (λ z. IsOfTermFrom c.args.at c.args.term.now z s0.now.trees) (λ row other. IsUpTo (own_key other) row) c.args.block _ c.requires found) in
-    IfOk-weaker c.leaf_of_terms_above.result _ _
-    (λ leaf above. behind_above s0 store c.args.at.db.0 c.args.at.index c.args.at.register c.args.term.now c.args.block none leaf (subst (λ (d : Database). IsLeast (IsRowFrom c.args.at (c.args.term.now ++ 0 ∷ []) d.trees) leaf) read.now_is above))
-    (c.leaf_of_terms_above.ensures.finds clean read.mode (store_same s0 s1 read.now_is store))
+    let s1 = state g.S.Store c.key_of_term_from.new.tx.conn.now in
+    let clean1 : HasCleanDisk s1 = omega (arith, c.key_of_terms_above.ensures.call.crash.clean) in
+    let read = c.in_ok-own.ensures.call.ok clean1 inside in
+    let none = up_to_next (λ z. IsOfTermFrom c.args.at c.args.term.now z s0.now.trees) (λ row other. IsUpTo (own_key other) row) c.args.block None c.requires
+    (none_told (IsLeast (IsOfTermFrom c.args.at c.args.term.now (next_number c.args.block) s0.now.trees)) _ c.in-None.is (c.in_ok-own.ensures.finds clean1 inside store)) in
+    IfOk-weaker c.key_of_terms_above.result _ _
+    (λ key above. told_so _ (IsNextBehind (IsLeafIn s0.now.trees c.args.at) (leaf_key c.args.term.now c.args.block)) key
+    (behind_above s0 store c.args.at.db.0 c.args.at.index c.args.at.register c.args.term.now c.args.block none)
+    (subst (λ (d : Database). TellsKey (IsLeast (IsRowFrom c.args.at (c.args.term.now ++ 0 ∷ []) d.trees)) key) read.now_is above))
+    (c.key_of_terms_above.ensures.finds clean read.mode (store_same s0 s1 read.now_is store))

@@ -1,4 +1,4 @@
-use Rattle.zeb_leaves.proofs.Cited.{HasCleanDisk, Row, ◌∙◌, Option, arith, refl, rules, state, subst, IsLeafAt, IsLeafIn, IsNextBehind, leaf_key}
+use Rattle.zeb_leaves.proofs.Cited.{HasCleanDisk, Row, ◌∙◌, Option, arith, refl, rules, state, subst, IsLeafAt, IsLeafIn, IsNextBehind, TellsKey, leaf_key}
 use Rattle.std.specs.Option.{option_map}
 use Rattle.std.specs.Prelude.{IsUtf8, OnOk}
 use Rattle.sqlite.specs.Effect.{Database}
@@ -9,6 +9,7 @@ use Rattle.zeb_register.specs.Tallies.{WorksOnLeaves}
 use Rattle.zeb_register.specs.declared.registers.RegisterOf.{RegisterOf}
 use Rattle.zeb_leaves.proofs.CountedLeaves.{turn_counted}
 use Rattle.zeb_leaves.proofs.FrontPieces.{covers_read, ends_leaf, one_key, uncovered_lacks}
+use Rattle.zeb_leaves.proofs.KeysTold.{told_ends, told_hides}
 use Rattle.zeb_leaves.proofs.OwnedEntries.{end_shown}
 use Rattle.zeb_leaves.proofs.PiecesWritten.{store_distinct}
 use Rattle.zeb_leaves.specs.PrivateLeafWrites.{HidesEnd, IsEndAt}
@@ -45,17 +46,18 @@ returns-in_err-end-clause-turned g c clean inside store =
     let s1 = state g.S.Store c.leaf_inside.new.tx.conn.now in
     let p = c.index-pieces-0.result in
     let at : RegisterOf = record { db = c.args.db; index = p.key.now.index; register = p.key.now.register } in
-    let clean1 : HasCleanDisk s1 = omega (arith, c.leaf_behind.ensures.call.crash.clean) in
+    let clean1 : HasCleanDisk s1 = omega (arith, c.key_behind.ensures.call.crash.clean) in
     let read = c.in_ok-leaf.ensures.call.ok clean1 inside in
     let store1 = store_same s0 s1 read.now_is store in
-    let hides = subst HidesEnd c.as_ref.ensures.value c.in_err-end.ensures.refused.1 in
-    absurd (end_shown (IsLeafIn s1.now.trees at) (store_distinct s1 store1 at.db.0 (one_key at)) (leaf_key c.as_str-term.result.now c.first_block-block.result) c.in_ok-behind.behind (c.in_ok-behind.ensures.finds clean read.mode store1) hides)
+    let told = c.in_ok-behind.ensures.finds clean read.mode store1 in
+    let hides = told_hides c.in_ok-behind.behind told.0 told.1 (subst HidesEnd c.as_ref.ensures.value c.in_err-end.ensures.refused.1) in
+    absurd (end_shown (IsLeafIn s1.now.trees at) (store_distinct s1 store1 at.db.0 (one_key at)) (leaf_key c.as_str-term.result.now c.first_block-block.result) told.0 told.2 hides)
 
 pub returns-clause-turned : goal.returns-clause-turned
 returns-clause-turned g c clean inside store =
     let s0 = state g.S.Store c.args.tx.now.conn.now in
     let s1 = state g.S.Store c.leaf_inside.new.tx.conn.now in
-    let s2 = state g.S.Store c.leaf_behind.new.tx.conn.now in
+    let s2 = state g.S.Store c.key_behind.new.tx.conn.now in
     let s3 = state g.S.Store c.leaf_turned.new.tx.conn.now in
     let p = c.index-pieces-0.result in
     let pieces = c.args.pieces.now in
@@ -64,17 +66,17 @@ returns-clause-turned g c clean inside store =
     let leaf = c.in-Some.leaf in
     let end : End = option_map (λ (k : KeyOfBlock). (k.term.now, k.block)) c.in_ok-end.end in
     let clean2 : HasCleanDisk s2 = omega (arith, c.leaf_turned.ensures.call.crash.clean) in
-    let clean1 : HasCleanDisk s1 = omega (arith, clean2, c.leaf_behind.ensures.call.crash.clean) in
+    let clean1 : HasCleanDisk s1 = omega (arith, clean2, c.key_behind.ensures.call.crash.clean) in
     let read1 = c.in_ok-leaf.ensures.call.ok clean1 inside in
     let store1 = store_same s0 s1 read1.now_is store in
     let read2 = c.in_ok-behind.ensures.call.ok clean2 read1.mode in
     let store2 = store_same s1 s2 read2.now_is store1 in
     let covers = subst (IsLeafAt (IsLeafIn s0.now.trees at) key) c.in-Some.is (c.in_ok-leaf.ensures.finds clean1 inside store) in
-    let behind = subst (λ (d : Database). IsNextBehind (IsLeafIn d.trees at) key c.in_ok-behind.behind) read1.now_is (c.in_ok-behind.ensures.finds clean2 read1.mode store1) in
-    let ends = subst (λ (next : Option Row). IsEndAt next end) c.as_ref.ensures.value c.in_ok-end.ensures.ok in
+    let told = subst (λ (d : Database). TellsKey (IsNextBehind (IsLeafIn d.trees at) key) c.in_ok-behind.behind) read1.now_is (c.in_ok-behind.ensures.finds clean2 read1.mode store1) in
+    let ends = told_ends c.in_ok-behind.behind told.0 end told.1 (subst (λ (next : Option Row). IsEndAt next end) c.as_ref.ensures.value c.in_ok-end.ensures.ok) in
     let turned = c.leaf_turned.ensures.turned clean read2.mode store2 in
     subst (λ (d : Database). EndsLeaf (IsLeafIn d.trees at) leaf end → CoversFirst (IsLeafIn d.trees at) leaf pieces → PutsFront c.args.db.0 pieces d.trees s3 c.leaf_turned.result) (read2.now_is ∙ read1.now_is) turned
-    (ends_leaf (IsLeafIn s0.now.trees at) key leaf covers c.in_ok-behind.behind end behind ends)
+    (ends_leaf (IsLeafIn s0.now.trees at) key leaf covers told.0 end told.2 ends)
     (covers_read pieces c.requires.some p c.index-pieces-0.is c.as_str-term.result.now c.first_block-block.result c.as_str-term.ensures c.first_block-block.ensures (IsLeafIn s0.now.trees at) leaf covers)
 
 pub returns-in_default-clause-work : goal.returns-in_default-clause-work
@@ -91,10 +93,10 @@ pub returns-clause-work : goal.returns-clause-work
 returns-clause-work g c clean inside store =
     let s0 = state g.S.Store c.args.tx.now.conn.now in
     let s1 = state g.S.Store c.leaf_inside.new.tx.conn.now in
-    let s2 = state g.S.Store c.leaf_behind.new.tx.conn.now in
+    let s2 = state g.S.Store c.key_behind.new.tx.conn.now in
     let s3 = state g.S.Store c.leaf_turned.new.tx.conn.now in
     let clean2 : HasCleanDisk s2 = omega (arith, c.leaf_turned.ensures.call.crash.clean) in
-    let clean1 : HasCleanDisk s1 = omega (arith, clean2, c.leaf_behind.ensures.call.crash.clean) in
+    let clean1 : HasCleanDisk s1 = omega (arith, clean2, c.key_behind.ensures.call.crash.clean) in
     let read1 = c.in_ok-leaf.ensures.call.ok clean1 inside in
     let store1 = store_same s0 s1 read1.now_is store in
     let read2 = c.in_ok-behind.ensures.call.ok clean2 read1.mode in

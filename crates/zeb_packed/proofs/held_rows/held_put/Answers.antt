@@ -1,4 +1,4 @@
-use Rattle.zeb_packed.proofs.Cited.{[], List, Trees, arith, map, rules, subst, sym, state, HasCleanDisk, Changes, blocks_tree, dict_tree, IfOk, IfOk-weaker, goes_keeps, goes_then, on_err, on_err_so, quiet_then, refused_so}
+use Rattle.zeb_packed.proofs.Cited.{List, arith, map, rules, subst, sym, state, HasCleanDisk, Changes, blocks_tree, dict_tree, IfOk, IfOk-weaker, goes_keeps, goes_then, on_err, on_err_so, quiet_then, refused_so}
 use Rattle.zeb_packed.proofs.HeldPuts.{held_answers}
 use Rattle.zeb_packed.specs.PrivateNewRows.{AreApart, AreLacking, GainsAll, SomeStands, new_block_row, new_count_row}
 use Rattle.zeb_packed.specs.declared.new_rows.NewBlock.{NewBlock}

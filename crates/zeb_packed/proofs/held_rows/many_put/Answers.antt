@@ -1,4 +1,4 @@
-use Rattle.zeb_packed.proofs.Cited.{◌∙◌, Err, arith, rules, sym, ap, state, HasCleanDisk, goes_keeps, on_err, quiet_then, reads_goes, refused_so, store_same}
+use Rattle.zeb_packed.proofs.Cited.{◌∙◌, Err, arith, rules, ap, state, HasCleanDisk, goes_keeps, on_err, reads_goes, refused_so, store_same}
 use Rattle.sqlite.specs.Values.{bound}
 use Rattle.zeb_packed.proofs.HeldPuts.{stands_same}
 use Rattle.zeb_packed.specs.PrivateNewRows.{AreValuesOf, new_block_row}

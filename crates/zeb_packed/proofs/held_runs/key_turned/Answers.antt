@@ -1,4 +1,4 @@
-use Rattle.zeb_packed.proofs.Cited.{arith, rules, state, HasCleanDisk, goes_keeps, goes_then, on_err, on_err_so, quiet_then, reads_goes, store_same, IfOk-weaker, refused_so}
+use Rattle.zeb_packed.proofs.Cited.{arith, state, HasCleanDisk, goes_keeps, goes_then, on_err_so, quiet_then, reads_goes, store_same, IfOk-weaker}
 use Rattle.zeb_packed.proofs.KnownKeys.{known_turns}
 use Rattle.zeb_packed.proofs.held_runs.key_turned.Goals as goal
 

@@ -1,4 +1,4 @@
-use Rattle.zeb_packed.proofs.Cited.{◌≡◌, ◌∙◌, ◌+◌, ◌*◌, Works, length, suc, [], ◌∷◌, ap, arith, drop, drop-cons, inl, refl, rules, subst, sym, state, HasCleanDisk, goes_keeps, goes_then, on_err, quiet_then, refused_so}
+use Rattle.zeb_packed.proofs.Cited.{◌≡◌, ◌∙◌, ◌+◌, ◌*◌, Works, length, suc, ◌∷◌, ap, arith, drop, drop-cons, inl, refl, rules, subst, sym, state, HasCleanDisk, goes_keeps, goes_then, on_err, quiet_then, refused_so}
 use Rattle.sqlite_trees.proofs.ListLemmas.{all-get_or}
 use Rattle.zeb_packed.proofs.HeldPuts.{goes_still}
 use Rattle.zeb_packed.proofs.HeldRuns.{HoldsSoFar, holds_all, holds_none, key_more, key_refused}

@@ -1,4 +1,4 @@
-use Rattle.zeb_packed.proofs.Cited.{packed_blocks, ◌∙◌, ◌++◌, [], ◌∷◌, ℕ, List, ap, refl, rules, subst, sym, CountsAs}
+use Rattle.zeb_packed.proofs.Cited.{◌∙◌, ◌++◌, [], ◌∷◌, List, ap, refl, rules, subst, sym, CountsAs}
 use Rattle.zeb_packed.proofs.BegunKeys.{key_begun}
 use Rattle.zeb_packed.proofs.KeyPuts.{blocks_allowed}
 use Rattle.zeb_packed.specs.declared.new_rows.NewCount.{NewCount}

@@ -1,4 +1,4 @@
-use Rattle.zeb_packed.proofs.Cited.{Err, ap, map, rules, mapped_has, two_behind, spelled_row, has_at, refused_so}
+use Rattle.zeb_packed.proofs.Cited.{Err, ap, rules, mapped_has, two_behind, spelled_row, has_at, refused_so}
 use Rattle.zeb_packed.proofs.packed_between.postings_behind.Goals as goal
 
 pub returns-in_err-add_behind : goal.returns-in_err-add_behind

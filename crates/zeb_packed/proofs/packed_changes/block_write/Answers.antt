@@ -1,4 +1,4 @@
-use Rattle.zeb_packed.proofs.Cited.{◌∙◌, ◌++◌, [], ◌∷◌, pos, rules, sym, subst, Blob, Int, state, BlockSpells, register_code, Alters, IsBlockOf, key_row, Gains, Renews, Loses, blocks_tree, column_is}
+use Rattle.zeb_packed.proofs.Cited.{◌∙◌, ◌++◌, [], ◌∷◌, pos, rules, sym, subst, Blob, Int, state, BlockSpells, register_code, Alters, IsNumberedRow, key_row, Gains, Renews, Loses, blocks_tree, column_is}
 use Rattle.zeb_packed.proofs.PackedWrites.{none_of, puts_inserted, puts_no_list, puts_renewed}
 use Rattle.zeb_packed.proofs.packed_changes.block_write.Goals as goal
 
@@ -9,7 +9,7 @@ returns-then-is_empty-clause-call g c = record {
       let key = c.args.key.now in
       let none = none_of c.args.list.now (sym c.is_empty.ensures ∙ c.if-is_empty.true) in
       puts_no_list c.args.db.0 key c.args.block c.args.list.now c.args.is_there first second none
-      (subst (λ n. Alters blocks_tree (Loses (IsBlockOf c.args.db.0 (pos key.index) (pos (register_code key.register)) key.term n)) first second) (column_is c.in_ok-number.ensures.ok.1 c.in_ok-number.ensures.ok.0) (c.in_ok-block_remove.ensures.call.ok clean inside));
+      (subst (λ n. Alters blocks_tree (Loses (IsNumberedRow c.args.db.0 (pos key.index) (pos (register_code key.register)) key.term n)) first second) (column_is c.in_ok-number.ensures.ok.1 c.in_ok-number.ensures.ok.0) (c.in_ok-block_remove.ensures.call.ok clean inside));
   err = search rules;
   crash = search rules;
 }
@@ -22,7 +22,7 @@ returns-then-is_there-clause-call g c = record {
       let bytes = c.deref.result.now in
       let spells = subst (BlockSpells c.args.block c.args.list.now) (sym c.deref.ensures.value) c.in_ok-bytes.ensures in
       puts_renewed c.args.db.0 key c.args.block c.args.list.now c.args.is_there first second c.if-is_there.true bytes spells
-      (subst (λ n. Alters blocks_tree (Renews (IsBlockOf c.args.db.0 (pos key.index) (pos (register_code key.register)) key.term n) (key_row c.args.db.0 key ++ Int n ∷ Blob bytes ∷ [])) first second) (column_is c.in_ok-number.ensures.ok.1 c.in_ok-number.ensures.ok.0) (c.in_ok-block_set.ensures.call.ok clean inside));
+      (subst (λ n. Alters blocks_tree (Renews (IsNumberedRow c.args.db.0 (pos key.index) (pos (register_code key.register)) key.term n) (key_row c.args.db.0 key ++ Int n ∷ Blob bytes ∷ [])) first second) (column_is c.in_ok-number.ensures.ok.1 c.in_ok-number.ensures.ok.0) (c.in_ok-block_set.ensures.call.ok clean inside));
   err = search rules;
   crash = search rules;
 }

@@ -1,4 +1,4 @@
-use Rattle.zeb_packed.proofs.Cited.{packed_blocks, IsTrue, arith, rules, subst, sym, IfOk-weaker, Database, state, HasCleanDisk, goes_keeps, goes_then, on_err_so, reads_goes, store_same, quiet_then, CountsAs, refused_so}
+use Rattle.zeb_packed.proofs.Cited.{arith, rules, IfOk-weaker, state, HasCleanDisk, goes_keeps, goes_then, on_err_so, reads_goes, store_same, quiet_then, refused_so}
 use Rattle.zeb_packed.proofs.KnownKeys.{known_answers}
 use Rattle.zeb_packed.proofs.packed_runs.changes_put.Goals as goal
 

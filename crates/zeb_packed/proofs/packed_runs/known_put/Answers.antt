@@ -1,4 +1,4 @@
-use Rattle.zeb_packed.proofs.Cited.{Err, ap, ◌≤◌, ℕ, ℤ, IsTrue, List, arith, rules, IfOk-weaker, state, HasCleanDisk, GoesOn, blocks_tree, goes_keeps, goes_then, on_err, on_err_so, quiet_then, refused_so}
+use Rattle.zeb_packed.proofs.Cited.{Err, ap, arith, rules, IfOk-weaker, state, HasCleanDisk, goes_keeps, goes_then, on_err, on_err_so, quiet_then, refused_so}
 use Rattle.zeb_packed.proofs.KeyPuts.{blocks_allowed, key_answers}
 use Rattle.zeb_packed.proofs.packed_runs.known_put.Goals as goal
 

@@ -3,9 +3,11 @@ use Rattle.std.specs.Prelude.{Err}
 use Rattle.std.proofs.KnownBytes.{Keeps-refl}
 use Rattle.zeb_register.proofs.Calls.{on_err}
 use Rattle.zeb_program.specs.Registers.{places}
+use Rattle.zeb_program.specs.Unanswered.{IsToldSince}
 use Rattle.zeb_program.specs.WordRuns.{IsText, batch_silent}
-use Rattle.zeb_program.proofs.LeftLemmas.{starved}
+use Rattle.zeb_program.proofs.LeftLemmas.{left_unread, starved}
 use Rattle.zeb_program.proofs.StopLemmas.{stop_batch, stop_unread}
+use Rattle.zeb_program.proofs.ToldLemmas.{silent_grows, told_caused, unbegun_grows}
 use Rattle.zeb_program.proofs.WordRunLemmas.{batch_refused, batch_run}
 use Rattle.zeb_program.proofs.command_line.run_batch.Goals as goal
 
@@ -39,9 +41,17 @@ returns-in-Ok-clause-store g c =
 
 pub returns-in-Err-clause-store : goal.returns-in-Err-clause-store
 returns-in-Err-clause-store g c =
-    inl (refl, inr (g.R.Source.has_failed c.begin_batch.new.input, c.in-Err.failure.fault, c.in-Err.failure.cause, c.in-Err.ensures.refused))
+    left_unread (places g.P.Store.Store g.P.Paths.tells g.P.Paths.stands g.P.Paths.lists g.P.Paths.explains g.P.Paths.opens g.P.Paths.refuses g.P.Paths.lacks g.P.Paths.has g.P.Paths.lets_go g.P.Paths.leaves c.args.paths.now c.args.paths.now) c.args.config (g.R.Source.remaining c.args.input.now) (g.R.Source.has_failed c.begin_batch.new.input) c.in-Err.failure.fault c.in-Err.failure.cause c.tell_failure.result
+    (IsToldSince c.tell_failure.new.output.failed (g.V.Write.contents c.args.fault_output.now.writer) (g.V.Write.contents c.tell_failure.new.output.writer)) refl c.in-Err.ensures.refused
+    (told_caused c.tell_failure.new.output.failed c.in-Err.failure.fault c.in-Err.failure.cause c.tell_failure.result (g.V.Write.contents c.args.fault_output.now.writer) (g.V.Write.contents c.tell_failure.new.output.writer) c.tell_failure.ensures.memory c.tell_failure.ensures.told)
 
 pub returns-in_err-named-clause-store : goal.returns-in_err-named-clause-store
 returns-in_err-named-clause-store g c =
     let is : c.from_residual.result ≡ Err c.in_err-named.field-0.0 = search rules in
     inl (refl, inl (starved c.from_residual.result c.in_err-named.field-0.0 is))
+
+pub returns-in-Err-clause-grows : goal.returns-in-Err-clause-grows
+returns-in-Err-clause-grows g c = silent_grows (λ sink. g.V.Write.contents sink.writer) c.args.fault_output.now c.tell_failure.new.output c.tell_failure.result c.tell_failure.new.output.failed c.tell_failure.ensures.silent
+
+pub returns-in_err-named-clause-grows : goal.returns-in_err-named-clause-grows
+returns-in_err-named-clause-grows g c = unbegun_grows c.from_residual.result c.args.fault_output.now.failed (g.V.Write.contents c.args.fault_output.now.writer)

@@ -1,12 +1,14 @@
 use Rattle.std.proofs.Common.{◌≡◌, inl, refl, rules}
-use Rattle.std.specs.Prelude.{Err}
+use Rattle.std.specs.Prelude.{Err, string_bytes}
 use Rattle.zeb_change.specs.Conditions.{conditions}
 use Rattle.zeb_register.proofs.Calls.{on_err}
 use Rattle.zeb_register.specs.Formats.{version_of}
 use Rattle.zeb_program.specs.PrivateWordRuns.{format_of}
 use Rattle.zeb_program.specs.Registers.{places}
+use Rattle.zeb_program.specs.Unanswered.{IsToldSince}
 use Rattle.zeb_program.proofs.LeftLemmas.{left_served, left_unserved, starved}
 use Rattle.zeb_program.proofs.StopLemmas.{stop_serving, stop_unnamed, stop_unserved}
+use Rattle.zeb_program.proofs.ToldLemmas.{told_unanswered, unbegun_grows, unopened_grows}
 use Rattle.zeb_program.proofs.WordAnswerLemmas.{shell_read, shell_refused}
 use Rattle.zeb_program.proofs.WordRunLemmas.{shell_served, shell_unopened}
 use Rattle.zeb_program.proofs.command_line.run_shell.Goals as goal
@@ -50,13 +52,21 @@ returns-in-Ok-clause-store g c =
     let register = c.in-Ok.register in
     let format = format_of register.1 in
     left_served (places g.P.Store.Store g.P.Paths.tells g.P.Paths.stands g.P.Paths.lists g.P.Paths.explains g.P.Paths.opens g.P.Paths.refuses g.P.Paths.lacks g.P.Paths.has g.P.Paths.lets_go g.P.Paths.leaves c.args.paths.now c.open.new.paths) c.args.config format (conditions (version_of format) register.0.profile register.0.limits) register.0.connection
-    (g.R.Source.remaining c.args.input.now) c.serve_on.result c.in-Ok.ensures.opened c.serve_on.ensures.store
+    (g.R.Source.remaining c.args.input.now) c.serve_on.result (IsToldSince c.serve_on.new.fault_output.failed (g.V.Write.contents c.args.fault_output.now.writer) (g.V.Write.contents c.serve_on.new.fault_output.writer)) c.in-Ok.ensures.opened c.serve_on.ensures.store
 
 pub returns-in-Err-clause-store : goal.returns-in-Err-clause-store
 returns-in-Err-clause-store g c =
-    left_unserved (places g.P.Store.Store g.P.Paths.tells g.P.Paths.stands g.P.Paths.lists g.P.Paths.explains g.P.Paths.opens g.P.Paths.refuses g.P.Paths.lacks g.P.Paths.has g.P.Paths.lets_go g.P.Paths.leaves c.args.paths.now c.open.new.paths) c.args.config (g.R.Source.remaining c.args.input.now) c.in-Err.refused.failure.fault c.in-Err.refused.failure.cause c.in-Err.refused.closed c.tell_unanswered.result c.in-Err.ensures.failed
+    left_unserved (places g.P.Store.Store g.P.Paths.tells g.P.Paths.stands g.P.Paths.lists g.P.Paths.explains g.P.Paths.opens g.P.Paths.refuses g.P.Paths.lacks g.P.Paths.has g.P.Paths.lets_go g.P.Paths.leaves c.args.paths.now c.open.new.paths) c.args.config (g.R.Source.remaining c.args.input.now) c.in-Err.refused.failure.fault c.in-Err.refused.failure.cause c.in-Err.refused.closed c.tell_unanswered.result
+    (IsToldSince c.tell_unanswered.new.output.failed (g.V.Write.contents c.args.fault_output.now.writer) (g.V.Write.contents c.tell_unanswered.new.output.writer)) c.in-Err.ensures.failed
+    (told_unanswered c.tell_unanswered.new.output.failed (g.P.Paths.tells c.open.new.paths (string_bytes c.in_ok-named.named)) c.in_ok-named.named c.in-Err.refused.failure.fault c.in-Err.refused.failure.cause c.in-Err.refused.closed c.tell_unanswered.result (g.V.Write.contents c.args.fault_output.now.writer) (g.V.Write.contents c.tell_unanswered.new.output.writer) c.tell_unanswered.ensures.memory c.tell_unanswered.ensures.told)
 
 pub returns-in_err-named-clause-store : goal.returns-in_err-named-clause-store
 returns-in_err-named-clause-store g c =
     let is : c.from_residual.result ≡ Err c.in_err-named.field-0.0 = search rules in
     inl (refl, inl (starved c.from_residual.result c.in_err-named.field-0.0 is))
+
+pub returns-in-Err-clause-grows : goal.returns-in-Err-clause-grows
+returns-in-Err-clause-grows g c = unopened_grows c.in-Err.refused.closed (g.V.Write.contents c.args.fault_output.now.writer) (g.V.Write.contents c.tell_unanswered.new.output.writer) c.tell_unanswered.result c.tell_unanswered.new.output.failed c.tell_unanswered.ensures.stopped
+
+pub returns-in_err-named-clause-grows : goal.returns-in_err-named-clause-grows
+returns-in_err-named-clause-grows g c = unbegun_grows c.from_residual.result c.args.fault_output.now.failed (g.V.Write.contents c.args.fault_output.now.writer)

@@ -1,15 +1,21 @@
 use Rattle.std.proofs.Common.{[], map, string_bytes, inl, inr, arith, refl, subst}
 use Rattle.std.proofs.KnownBytes.{Consumes-nil}
+use Rattle.zeb_program.specs.FixedLines.{starved_line}
 use Rattle.zeb_program.specs.LeftStores.{LeavesByTask, left_alone, left_by_batch, left_by_shell, left_by_task}
 use Rattle.zeb_program.specs.Registers.{places}
+use Rattle.zeb_program.specs.Unanswered.{IsToldSince}
 use Rattle.zeb_program.specs.WordAnswers.{misused}
+use Rattle.zeb_program.proofs.ToldLemmas.{stopped_grows, told_alone}
 use Rattle.zeb_program.proofs.WordAnswerLemmas.{batch_words, shell_kept, shell_words, stopped_batch_words, stopped_shell_words, stopped_task_words, task_words}
 use Rattle.zeb_program.proofs.command_line.run_words.Goals as goal
 
 pub returns-in-Err-clause-answer : goal.returns-in-Err-clause-answer
 returns-in-Err-clause-answer g c = λ sound quiet. misused c.in-Err.usage c.in-Err.ensures.nameless c.in-Err.ensures.refused refl refl (c.refuse_words.ensures.told sound quiet)
 
--- a task takes nothing of the input
+-- words of which no command is read take nothing of the input, nor does a task
+pub returns-in-Err-clause-bounded : goal.returns-in-Err-clause-bounded
+returns-in-Err-clause-bounded g c = λ other. ([], omega (arith), Consumes-nil (g.R.Source.remaining c.args.input.now))
+
 pub returns-in-Task-clause-bounded : goal.returns-in-Task-clause-bounded
 returns-in-Task-clause-bounded g c = λ other. ([], omega (arith), Consumes-nil (g.R.Source.remaining c.args.input.now))
 
@@ -55,15 +61,22 @@ returns-in-Shell-clause-stopped g c =
     stopped_shell_words (places g.P.Store.Store g.P.Paths.tells g.P.Paths.stands g.P.Paths.lists g.P.Paths.explains g.P.Paths.opens g.P.Paths.refuses g.P.Paths.lacks g.P.Paths.has g.P.Paths.lets_go g.P.Paths.leaves c.args.paths.now c.run_shell.new.paths) (map string_bytes c.args.words.now) _ _ _ _ _ _ c.in-Ok.words _ _ c.run_shell.result c.in-Ok.ensures.named c.in-Shell.ensures c.run_shell.ensures.stopped
 
 pub returns-in-Err-clause-store : goal.returns-in-Err-clause-store
-returns-in-Err-clause-store g c = left_alone c.in-Err.usage c.in-Err.ensures.nameless refl
+returns-in-Err-clause-store g c =
+    left_alone c.in-Err.usage c.in-Err.ensures.nameless
+    (λ is. told_alone c.refuse_words.new.fault_output.failed (g.V.Write.contents c.args.fault_output.now.writer) (g.V.Write.contents c.refuse_words.new.fault_output.writer) starved_line (c.refuse_words.ensures.starved is)) refl
 
 pub returns-in-Task-clause-store : goal.returns-in-Task-clause-store
 returns-in-Task-clause-store g c =
     left_by_task c.in-Ok.words c.in-Task.task c.in-Ok.ensures.named c.in-Task.ensures
-    (subst (λ choice. LeavesByTask (places g.P.Store.Store g.P.Paths.tells g.P.Paths.stands g.P.Paths.lists g.P.Paths.explains g.P.Paths.opens g.P.Paths.refuses g.P.Paths.lacks g.P.Paths.has g.P.Paths.lets_go g.P.Paths.leaves c.args.paths.now c.run_task.new.paths) choice c.in-Ok.words.config c.in-Task.task c.run_task.result) c.layout_asked-choice.ensures c.run_task.ensures.store)
+    (subst (λ choice. LeavesByTask (places g.P.Store.Store g.P.Paths.tells g.P.Paths.stands g.P.Paths.lists g.P.Paths.explains g.P.Paths.opens g.P.Paths.refuses g.P.Paths.lacks g.P.Paths.has g.P.Paths.lets_go g.P.Paths.leaves c.args.paths.now c.run_task.new.paths) choice c.in-Ok.words.config c.in-Task.task c.run_task.result
+    (IsToldSince c.run_task.new.fault_output.failed (g.V.Write.contents c.args.fault_output.now.writer) (g.V.Write.contents c.run_task.new.fault_output.writer))) c.layout_asked-choice.ensures c.run_task.ensures.store)
 
 pub returns-in-Batch-clause-store : goal.returns-in-Batch-clause-store
 returns-in-Batch-clause-store g c = left_by_batch c.in-Ok.words c.in-Ok.ensures.named c.in-Batch.ensures c.run_batch.ensures.store
 
 pub returns-in-Shell-clause-store : goal.returns-in-Shell-clause-store
 returns-in-Shell-clause-store g c = left_by_shell c.in-Ok.words c.in-Ok.ensures.named c.in-Shell.ensures c.run_shell.ensures.store
+
+pub returns-in-Task-clause-grows : goal.returns-in-Task-clause-grows
+returns-in-Task-clause-grows g c =
+    stopped_grows (places g.P.Store.Store g.P.Paths.tells g.P.Paths.stands g.P.Paths.lists g.P.Paths.explains g.P.Paths.opens g.P.Paths.refuses g.P.Paths.lacks g.P.Paths.has g.P.Paths.lets_go g.P.Paths.leaves c.args.paths.now c.run_task.new.paths) c.layout_asked-choice.result c.in-Ok.words.config c.in-Task.task (g.V.Write.contents c.args.fault_output.now.writer) (g.V.Write.contents c.run_task.new.fault_output.writer) c.run_task.result c.run_task.new.fault_output.failed _ c.run_task.ensures.stopped

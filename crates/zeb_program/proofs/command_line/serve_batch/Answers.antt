@@ -1,13 +1,16 @@
 use Rattle.std.proofs.Common.{◌≡◌, false, true, refl, rules}
+use Rattle.std.specs.Prelude.{string_bytes}
 use Rattle.zeb_change.specs.Conditions.{conditions}
 use Rattle.zeb_register.specs.Formats.{version_of}
 use Rattle.zeb_program.specs.PrivateWordRuns.{format_of}
 use Rattle.zeb_program.specs.LeftStores.{unused as none_used}
 use Rattle.zeb_program.specs.Registers.{places}
 use Rattle.zeb_program.specs.Scripts.{BeginsRegister}
+use Rattle.zeb_program.specs.Unanswered.{IsToldSince}
 use Rattle.zeb_words.specs.declared.words.LayoutChoice.TheVariants.{Unsaid}
 use Rattle.zeb_program.proofs.LeftLemmas.{left_lines, left_unopened}
 use Rattle.zeb_program.proofs.StopLemmas.{stop_kept, stop_none, stop_unopened}
+use Rattle.zeb_program.proofs.ToldLemmas.{silent_grows, told_unanswered, unopened_grows}
 use Rattle.zeb_program.proofs.WordRunLemmas.{begun_or, run_kept, run_none, run_unopened}
 use Rattle.zeb_program.proofs.command_line.serve_batch.Goals as goal
 
@@ -68,10 +71,19 @@ returns-in-Ok-clause-store g c = λ first.
     let register = c.in-Ok.register in
     let format = format_of register.1 in
     left_lines (places g.P.Store.Store g.P.Paths.tells g.P.Paths.stands g.P.Paths.lists g.P.Paths.explains g.P.Paths.opens g.P.Paths.refuses g.P.Paths.lacks g.P.Paths.has g.P.Paths.lets_go g.P.Paths.leaves c.args.paths.now c.open_register.new.paths) c.args.profile format (conditions (version_of format) register.0.profile register.0.limits) register.0.connection c.args.batch.lines_before c.args.batch.text.now
-    c.run_on.result first may c.in-Ok.ensures.under c.in-Ok.ensures.opened c.run_on.ensures.store
+    c.run_on.result (IsToldSince c.run_on.new.fault_output.failed (g.V.Write.contents c.args.fault_output.now.writer) (g.V.Write.contents c.run_on.new.fault_output.writer)) first may c.in-Ok.ensures.under c.in-Ok.ensures.opened c.run_on.ensures.store
 
 pub returns-in-Err-clause-store : goal.returns-in-Err-clause-store
 returns-in-Err-clause-store g c = λ first.
     let uses : c.uses_store.result ≡ true = search rules in
     let may = begun_or _ _ c.begins.result (c.uses_store.ensures.used uses) c.begins.ensures.some in
-    left_unopened (places g.P.Store.Store g.P.Paths.tells g.P.Paths.stands g.P.Paths.lists g.P.Paths.explains g.P.Paths.opens g.P.Paths.refuses g.P.Paths.lacks g.P.Paths.has g.P.Paths.lets_go g.P.Paths.leaves c.args.paths.now c.open_register.new.paths) Unsaid c.args.profile (BeginsRegister c.args.batch.text.now) _ c.in-Err.refused.failure.fault c.in-Err.refused.failure.cause c.in-Err.refused.closed may c.in-Err.ensures.failed
+    left_unopened (places g.P.Store.Store g.P.Paths.tells g.P.Paths.stands g.P.Paths.lists g.P.Paths.explains g.P.Paths.opens g.P.Paths.refuses g.P.Paths.lacks g.P.Paths.has g.P.Paths.lets_go g.P.Paths.leaves c.args.paths.now c.open_register.new.paths) Unsaid c.args.profile c.tell_unanswered.result (IsToldSince c.tell_unanswered.new.output.failed (g.V.Write.contents c.args.fault_output.now.writer) (g.V.Write.contents c.tell_unanswered.new.output.writer)) (BeginsRegister c.args.batch.text.now) _
+    c.in-Err.refused.failure.fault c.in-Err.refused.failure.cause c.in-Err.refused.closed may c.in-Err.ensures.failed
+    (told_unanswered c.tell_unanswered.new.output.failed (g.P.Paths.tells c.open_register.new.paths (string_bytes c.args.config)) c.args.config c.in-Err.refused.failure.fault c.in-Err.refused.failure.cause c.in-Err.refused.closed c.tell_unanswered.result (g.V.Write.contents c.args.fault_output.now.writer) (g.V.Write.contents c.tell_unanswered.new.output.writer) c.tell_unanswered.ensures.memory c.tell_unanswered.ensures.told)
+
+pub returns-then-not-uses_store-clause-grows : goal.returns-then-not-uses_store-clause-grows
+returns-then-not-uses_store-clause-grows g c =
+    silent_grows (λ sink. g.V.Write.contents sink.writer) c.args.fault_output.now c.run_on_nothing.new.fault_output c.run_on_nothing.result c.run_on_nothing.new.fault_output.failed c.run_on_nothing.ensures.silent
+
+pub returns-in-Err-clause-grows : goal.returns-in-Err-clause-grows
+returns-in-Err-clause-grows g c = unopened_grows c.in-Err.refused.closed (g.V.Write.contents c.args.fault_output.now.writer) (g.V.Write.contents c.tell_unanswered.new.output.writer) c.tell_unanswered.result c.tell_unanswered.new.output.failed c.tell_unanswered.ensures.stopped

@@ -1,7 +1,8 @@
-use Rattle.std.proofs.Common.{◌≡◌, List, subst, ℕ}
+use Rattle.std.proofs.Common.{List, subst, ℕ}
 use Rattle.std.specs.Prelude.{IfOk, Option, string_bytes}
 use Rattle.std.specs.Option.{option_map}
 use Rattle.zeb_change.specs.Conditions.{conditions}
+use Rattle.zeb_paths.specs.Walks.{telling}
 use Rattle.zeb_register.specs.Formats.{version_of}
 use Rattle.zeb_program.specs.Registers.{places}
 use Rattle.zeb_program.specs.PrivateWordRuns.{ExplainsFailure, ServesHeld, format_of}
@@ -29,4 +30,6 @@ returns-in-Ok-clause-serves g c =
 
 pub returns-in-Ok-clause-warns : goal.returns-in-Ok-clause-warns
 returns-in-Ok-clause-warns g c =
-    subst (λ (tells : List ℕ → Option (List ℕ)). IfOk c.serve_task.result.told (λ told. WarnsOf tells c.args.task.now (option_map string_bytes told.warning))) c.open_register.ensures.told c.serve_task.ensures.warns
+    let later = c.open_register.new.paths in
+    let at = telling (g.P.Paths.tells later) (g.P.Paths.stands later) (g.P.Paths.lists later) in
+    subst (λ (tells : List ℕ → Option (List ℕ)). IfOk c.serve_task.result.told (λ told. WarnsOf tells at c.args.task.now (option_map string_bytes told.warning))) c.open_register.ensures.told c.serve_task.ensures.warns

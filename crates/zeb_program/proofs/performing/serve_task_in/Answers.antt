@@ -27,4 +27,6 @@ returns-clause-serves g c =
 
 pub returns-clause-warns : goal.returns-clause-warns
 returns-clause-warns g c =
-    warns_of (g.P.Paths.tells c.args.paths.now) c.args.task.now c.carry_out-served.result c.told_of.result c.told_of.ensures.warns c.told_of.ensures.warned c.carry_out-served.ensures.unmarked
+    let tells = g.P.Paths.tells c.args.paths.now in
+    let at = telling tells (g.P.Paths.stands c.args.paths.now) (g.P.Paths.lists c.args.paths.now) in
+    warns_of tells at c.args.task.now c.carry_out-served.result c.told_of.result c.told_of.ensures.warns c.told_of.ensures.warned c.carry_out-served.ensures.unmarked c.carry_out-served.ensures.below

@@ -1,13 +1,12 @@
-use Rattle.std.proofs.Common.{◌≡◌, ◌≢◌, [], false, map, refl, rules, string_bytes}
-use Rattle.std.specs.Prelude.{IfSome, Ok}
-use Rattle.zeb_words.specs.declared.words.Usage.TheVariants.{Memory}
-use Rattle.zeb_program.specs.LeftStores.{left_alone}
-use Rattle.zeb_program.specs.declared.statuses.Status.TheVariants.{Answered}
+use Rattle.std.proofs.Common.{◌≢◌, [], length, map, refl, rules, string_bytes, sym}
+use Rattle.std.proofs.lemmas.Bool.{eqb-true}
+use Rattle.std.proofs.lemmas.List.{nil_from_length}
+use Rattle.std.specs.Prelude.{IfSome}
 use Rattle.zeb_paths.specs.Walks.{telling}
 use Rattle.zeb_program.specs.Registers.{places}
 use Rattle.zeb_program.specs.ScriptAnswers.{EndsScript}
 use Rattle.zeb_program.specs.WordAnswers.{EndsWords}
-use Rattle.zeb_program.proofs.LeftLemmas.{starved_code}
+use Rattle.zeb_program.proofs.LeftLemmas.{ends_leaving}
 use Rattle.zeb_program.proofs.ScriptAnswerLemmas.{ended_script, ends_with, kept_script, tells_at_most}
 use Rattle.zeb_program.proofs.WordAnswerLemmas.{ended_words, kept_words}
 use Rattle.zeb_program.proofs.program.run.Goals as goal
@@ -37,17 +36,17 @@ returns-then-is_empty-clause-script g c = λ none quiet.
     )
 
 pub returns-then-is_empty-clause-store : goal.returns-then-is_empty-clause-store
-returns-then-is_empty-clause-store g c = (λ _. refl, λ _. (Ok Answered, left_alone Memory tt refl, tt))
+returns-then-is_empty-clause-store g c =
+    (λ _. refl, λ some. absurd (some (nil_from_length c.args.words.now (eqb-true (length c.args.words.now) 0 (sym c.if-is_empty.ensures)))))
 
 pub returns-clause-store : goal.returns-clause-store
 returns-clause-store g c =
     let some : c.args.words.now ≢ [] = search rules in (
       λ none. absurd (some none),
-      λ _. (
-        c.run_words-ended.result,
-        c.run_words-ended.ensures.store,
-        starved_code c.run_words-ended.result c.tell_starved-status.result c.finish-2.result c.code-2.result _ c.tell_starved-status.ensures.starved c.finish-2.ensures.status.0 c.code-2.ensures,
-      ),
+      λ _. ends_leaving (places g.P.Store.Store g.P.Paths.tells g.P.Paths.stands g.P.Paths.lists g.P.Paths.explains g.P.Paths.opens g.P.Paths.refuses g.P.Paths.lacks g.P.Paths.has g.P.Paths.lets_go g.P.Paths.leaves c.args.files.now c.run_words-ended.new.paths) (map string_bytes c.args.words.now) (g.R.Source.remaining c.args.input.now)
+          (g.V.Write.contents c.args.fault_output.now.writer) (λ sink. g.V.Write.contents sink.writer) (λ sink. sink.failed) c.run_words-ended.new.fault_output c.tell_starved-status.new.fault_output (g.V.Write.contents c.finish-2.new.fault_output.writer) c.finish-2.new.fault_output.failed
+          c.run_words-ended.result c.tell_starved-status.result c.finish-2.result _ c.run_words-ended.ensures.store c.run_words-ended.ensures.grows c.tell_starved-status.ensures.answered c.tell_starved-status.ensures.starved
+          c.tell_starved-status.ensures.sound (λ quiet. (c.finish-2.ensures.passed_fault quiet).0) (λ quiet. (c.finish-2.ensures.passed_fault quiet).2) c.finish-2.ensures.status.0 c.code-2.ensures,
     )
 
 pub returns-clause-words : goal.returns-clause-words

@@ -1,8 +1,8 @@
-use Rattle.std.proofs.Common.{ap, refl, rules, subst, sym}
-use Rattle.std.specs.Prelude.{Err, string_bytes}
+use Rattle.std.proofs.Common.{ap, refl, subst, sym}
+use Rattle.std.specs.Prelude.{Err}
 use Rattle.zeb_paths.specs.Walks.{telling}
 use Rattle.zeb_program.specs.Inputs.{IsInput}
-use Rattle.zeb_program.proofs.ScriptAnswerLemmas.{text_input, told_text, unread_script, silent_script}
+use Rattle.zeb_program.proofs.ScriptAnswerLemmas.{text_input, unread_script, silent_script}
 use Rattle.zeb_program.proofs.program.run_script.Goals as goal
 
 pub returns-in-Err-Unreadable-clause-answer : goal.returns-in-Err-Unreadable-clause-answer

@@ -10,6 +10,8 @@ use Rattle.zeb_program.specs.OverTables.{LinesOver}
 use Rattle.zeb_program.specs.declared.statuses.Status.{Status}
 use Rattle.zeb_program.specs.Serving.{LeadsOn}
 use Rattle.zeb_program.specs.PrivateWordRuns.{ClosesAloud, RunsIn, StopsIn}
+use Rattle.zeb_register.proofs.Calls.{on_err}
+use Rattle.zeb_program.proofs.ToldLemmas.{session_grows}
 use Rattle.zeb_program.proofs.SessionLemmas.{both_ok, ended_err, ended_ok, left_batch}
 use Rattle.zeb_program.proofs.register_lines.run_in.Goals as goal
 
@@ -76,3 +78,8 @@ returns-clause-store g c =
     let k = conditions (version_of g.L.Layout.format) c.args.session.profile c.args.session.limits in
     left_batch store (g.P.Paths.leaves c.args.paths.now) at g.L.Layout.format k c.args.batch.lines_before c.args.batch.text.now c.args.session.connection c.run_lines-answered.new.session.connection
     _ _ _ c.run_lines-answered.result c.end_session.result c.end_session.ensures.ends c.run_lines-answered.ensures.does
+
+pub returns-clause-grows : goal.returns-clause-grows
+returns-clause-grows g c =
+    session_grows g.P.Store.Store (g.P.Paths.leaves c.args.paths.now) c.run_lines-answered.new.session.connection (λ sink. g.V.Write.contents sink.writer) c.args.fault_output.now c.args.fault_output.now
+    (g.V.Write.contents c.end_session.new.fault_output.writer) c.end_session.new.fault_output.failed c.run_lines-answered.result c.end_session.result (on_err c.run_lines-answered.result _ refl) c.end_session.ensures.ends

@@ -10,6 +10,7 @@ use Rattle.zeb_program.specs.Closings.{TellsClosed}
 use Rattle.zeb_program.specs.Doing.{DoesShell, ServesText, StopsText}
 use Rattle.zeb_program.specs.declared.line_input.LineFault.TheVariants.{Memory}
 use Rattle.zeb_program.specs.PrivateWordRuns.{ClosesAloud, ServesIn, StopsServing}
+use Rattle.zeb_program.proofs.ToldLemmas.{session_grows}
 use Rattle.zeb_program.proofs.SessionLemmas.{both_err, ended_err, ended_ok, ended_failed, ended_whole, left_shell}
 use Rattle.zeb_program.proofs.register_lines.serve_in.Goals as goal
 
@@ -95,3 +96,8 @@ returns-clause-store g c =
     let k = conditions (version_of g.L.Layout.format) c.args.session.profile c.args.session.limits in
     left_shell store (g.P.Paths.leaves c.args.paths.now) c.args.session.connection c.serve_lines-answered.new.session.connection
     _ _ _ (DoesShell store at g.L.Layout.format k (g.R.Source.remaining c.args.input.now)) c.serve_lines-answered.result c.end_session.result c.end_session.ensures.ends c.serve_lines-answered.ensures.does
+
+pub returns-clause-grows : goal.returns-clause-grows
+returns-clause-grows g c =
+    session_grows g.P.Store.Store (g.P.Paths.leaves c.args.paths.now) c.serve_lines-answered.new.session.connection (λ sink. g.V.Write.contents sink.writer) c.args.fault_output.now c.serve_lines-answered.new.fault_output
+    (g.V.Write.contents c.end_session.new.fault_output.writer) c.end_session.new.fault_output.failed c.serve_lines-answered.result c.end_session.result c.serve_lines-answered.ensures.silent c.end_session.ensures.ends

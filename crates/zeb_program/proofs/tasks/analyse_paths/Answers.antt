@@ -53,5 +53,15 @@ returns-in-Ok-clause-unmarked g c = λ files known.
     ap (λ these. warning_of these c.in-Ok.lines.records) read.unmarked ∙ ap (warning_of (unmarked_of 1 read.texts)) counted
     ∙ ap (λ texts. warning_of (unmarked_of 1 texts) (records_in texts)) (read.these files known)
 
+-- of the files that were read, of folders too
+pub returns-in-Ok-clause-below : goal.returns-in-Ok-clause-below
+returns-in-Ok-clause-below g c =
+    let read = c.in_ok-lines.ensures.reads in
+    let profile = c.args.session.now.profile in
+    let limit = c.args.session.now.limits.records in
+    let are = subst (HasLines profile limit read.texts) c.in-Ok.is read.lines in
+    let counted = lines_counted (index_names profile) profile limit read.texts c.in-Ok.lines are in
+    (read.walked, read.texts, read.found, read.read, ap (λ these. warning_of these c.in-Ok.lines.records) read.unmarked ∙ ap (warning_of (unmarked_of 1 read.texts)) counted)
+
 pub returns-in-Ok-clause-reaches : goal.returns-in-Ok-clause-reaches
 returns-in-Ok-clause-reaches g c = (c.in_ok-lines.ensures.reads.walked, c.in_ok-lines.ensures.reads.found)

@@ -1,17 +1,36 @@
-use Rattle.zeb_program.proofs.TaskLemmas.{refused_command, replied_command}
+use Rattle.std.specs.Prelude.{IfErr, OnErr}
+use Rattle.sqlite.specs.Held.{state}
+use Rattle.zeb_change.specs.Conditions.{conditions}
+use Rattle.zeb_register.specs.Calls.{ChangesNothing}
+use Rattle.zeb_register.specs.Formats.{version_of}
+use Rattle.zeb_program.specs.FaultAnswers.{GivesAnswer}
+use Rattle.zeb_program.specs.OverTables.{ServesOver}
+use Rattle.zeb_program.specs.PrivateFaults.{IsUnread}
+use Rattle.zeb_program.specs.Serving.{AnswersFrom}
+use Rattle.zeb_program.specs.TaskAnswers.{AnswersCommand}
+use Rattle.zeb_program.proofs.OverLemmas.{as_given, given_read, given_refused, gives}
+use Rattle.zeb_program.proofs.TaskLemmas.{given_command}
 use Rattle.zeb_program.proofs.tasks.ask.Goals as goal
 
-pub returns-in-Ok-clause-answer : goal.returns-in-Ok-clause-answer
-returns-in-Ok-clause-answer g c = λ clean. replied_command _ _ _ _ c.in-Ok.reply (c.in-Ok.ensures.step clean)
+pub returns-clause-answer : goal.returns-clause-answer
+returns-clause-answer g c = λ clean.
+    let k = conditions (version_of g.L.Layout.format) c.args.session.now.profile c.args.session.now.limits in
+    let old = state g.S.Store c.args.session.now.connection in
+    let new = state g.S.Store c.command.new.self.connection in
+    as_given (λ it. AnswersFrom old new it (AnswersCommand k c.args.command.now)) c.command.result c.as_told.result c.as_told.ensures
+    (given_command k c.args.command.now old new c.command.result (c.command.ensures.step clean))
 
-pub returns-in-Err-clause-answer : goal.returns-in-Err-clause-answer
-returns-in-Err-clause-answer g c = λ clean. refused_command _ _ _ _ c.in-Err.refusal (c.in-Err.ensures.step clean)
+pub returns-clause-over : goal.returns-clause-over
+returns-clause-over g c = λ clean.
+    let k = conditions (version_of g.L.Layout.format) c.args.session.now.profile c.args.session.now.limits in
+    let Over = ServesOver g.L.Layout.format k c.args.command.now (state g.S.Store c.args.session.now.connection) (state g.S.Store c.command.new.self.connection) in
+    as_given (GivesAnswer Over) c.command.result c.as_told.result c.as_told.ensures
+    (gives Over c.command.result (c.command.ensures.step clean, c.command.ensures.tables clean, c.command.ensures.lasts, c.command.ensures.holds.0.durable clean))
 
-pub returns-in-Ok-clause-over : goal.returns-in-Ok-clause-over
-returns-in-Ok-clause-over g c = λ clean. (c.in-Ok.ensures.step clean, c.in-Ok.ensures.tables clean, c.in-Ok.ensures.lasts, c.in-Ok.ensures.holds.0.durable clean)
+pub returns-clause-refused : goal.returns-clause-refused
+returns-clause-refused g c = λ clean.
+    let Same = ChangesNothing (state g.S.Store c.args.session.now.connection) (state g.S.Store c.command.new.self.connection) in
+    as_given (λ it. OnErr it Same) c.command.result c.as_told.result c.as_told.ensures (given_refused Same c.command.result (c.command.ensures.tables clean).refused)
 
-pub returns-in-Err-clause-over : goal.returns-in-Err-clause-over
-returns-in-Err-clause-over g c = λ clean. (c.in-Err.ensures.step clean, c.in-Err.ensures.tables clean, c.in-Err.ensures.lasts, c.in-Err.ensures.holds.0.durable clean)
-
-pub returns-in-Err-clause-refused : goal.returns-in-Err-clause-refused
-returns-in-Err-clause-refused g c = λ clean. (c.in-Err.ensures.tables clean).refused
+pub returns-clause-read : goal.returns-clause-read
+returns-clause-read g c = as_given (λ it. IfErr it (λ why. ¬ IsUnread why)) c.command.result c.as_told.result c.as_told.ensures (given_read c.command.result)

@@ -6,7 +6,7 @@ use Rattle.zeb_register.specs.Formats.{version_of}
 use Rattle.zeb_program.specs.TaskAnswers.{ReadsWhole, paths_of}
 use Rattle.zeb_program.proofs.OverLemmas.{analysed_task_over, asked_task_over, changed_task_over}
 use Rattle.zeb_program.proofs.TaskLemmas.{analysed_files, analysed_task, analysis_reaches, asked_reaches, asked_task, change_reaches, changed_task}
-use Rattle.zeb_program.proofs.WarningLemmas.{served_whole}
+use Rattle.zeb_program.proofs.WarningLemmas.{below_task, served_whole}
 use Rattle.zeb_program.proofs.WordRunLemmas.{replied_reaches}
 use Rattle.zeb_program.proofs.tasks.carry_out.Goals as goal
 
@@ -74,3 +74,15 @@ returns-in-Change-clause-shown g c = c.to_serve-in-Change.ensures.shown c.args.t
 
 pub returns-in-Analyse-clause-shown : goal.returns-in-Analyse-clause-shown
 returns-in-Analyse-clause-shown g c = served_whole c.args.task.now c.analyse_paths.result (subst ReadsWhole (sym c.in-Analyse.is) tt)
+
+-- only an analysis reads files whole
+pub returns-in-Ask-clause-below : goal.returns-in-Ask-clause-below
+returns-in-Ask-clause-below g c = λ reads. absurd (subst ReadsWhole c.in-Ask.is reads)
+
+pub returns-in-Change-clause-below : goal.returns-in-Change-clause-below
+returns-in-Change-clause-below g c = λ reads. absurd (subst ReadsWhole c.in-Change.is reads)
+
+pub returns-in-Analyse-clause-below : goal.returns-in-Analyse-clause-below
+returns-in-Analyse-clause-below g c = λ reads.
+    let at = telling (g.P.Paths.tells c.args.paths.now) (g.P.Paths.stands c.args.paths.now) (g.P.Paths.lists c.args.paths.now) in
+    below_task at c.args.task.now c.in-Analyse.named c.deref-in-Analyse.result.now c.analyse_paths.result c.in-Analyse.is c.deref-in-Analyse.ensures.value c.analyse_paths.ensures.below

@@ -1,6 +1,11 @@
 use Rattle.zeb_text.proofs.Cited.{chars, sym, ◌∙◌, chars_from_encodes, nfd, default_case_fold}
 use Rattle.zeb_text.specs.Folding.{folded}
+use Rattle.std.proofs.lemmas.Result.{IfOk-weaker}
+use Rattle.zeb_text.proofs.AsciiFolding.{folded_ascii}
 use Rattle.zeb_text.proofs.folding.fold.Goals as goal
+
+pub returns-then-is_ascii : goal.returns-then-is_ascii
+returns-then-is_ascii c = IfOk-weaker c.to_ascii_lowercase.result _ _ (λ key lower. lower ∙ folded_ascii c.args.text.now c.if-is_ascii.ensures.cases) c.to_ascii_lowercase.ensures.ok
 
 pub returns : goal.returns
 unfolding folded

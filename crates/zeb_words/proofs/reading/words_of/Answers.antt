@@ -1,4 +1,4 @@
-use Rattle.zeb_words.proofs.Cited.{rules, ◌≡◌, ◌∙◌, Err, codes, subcommand_rows_of, box_value, found_of, one_of, rows_of, out-ArgMatches, out-SubCommand, one_text-rows, AreBad, IsFlagRead, IsBadAct, IsMisuseOf, IsMisusedAct, Misuses}
+use Rattle.zeb_words.proofs.Cited.{rules, ◌≡◌, ◌∙◌, Err, codes, subcommand_rows_of, box_value, found_of, one_of, rows_of, out-ArgMatches, out-SubCommand, one_text-rows, AreBad, IsFlagRead, IsBadAct, IsMisuseOf, IsMisusedAct}
 use Rattle.zeb_words.proofs.ReadingLemmas.{bad_words, flag_read, misused_words, other_misuse, own_cause, pair_read}
 use Rattle.zeb_words.proofs.reading.words_of.Goals as goal
 

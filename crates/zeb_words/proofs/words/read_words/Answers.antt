@@ -1,4 +1,4 @@
-use Rattle.zeb_words.proofs.Cited.{◌∙◌, sym, ap, map, subst, string_bytes, IfErr-weaker, IfOk-weaker, rows_of, found_of, is_simple, matches_of, subcommand_of, fault_of, is_simple_and_free, HasKind, NamesNone, NamesWords, AreBad, IsMisuseOf, IsParsedAs, IsReadFrom, IsRefusedAs, program_app, IsOwn, Misuses, help_word, ◌≡◌, ◌≢◌, true, false, rules, Err}
+use Rattle.zeb_words.proofs.Cited.{◌∙◌, sym, ap, map, subst, string_bytes, IfErr-weaker, IfOk-weaker, rows_of, found_of, is_simple, matches_of, subcommand_of, fault_of, is_simple_and_free, HasKind, NamesNone, NamesWords, IsParsedAs, IsReadFrom, IsRefusedAs, program_app, ◌≡◌, true, false, rules}
 use Rattle.zeb_words.proofs.Naming.{all_texts, names_parsed}
 use Rattle.zeb_words.proofs.ReadingLemmas.{OwnRefusal, both_errs, help_refused, own_refused, parser_refused}
 use Rattle.zeb_words.proofs.Taking.{none_named}

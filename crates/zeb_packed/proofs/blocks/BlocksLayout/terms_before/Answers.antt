@@ -1,4 +1,4 @@
-use Rattle.zeb_packed.proofs.Cited.{rules, List, ap, subst, sym, take, state, Row, TermCount, packed_blocks, refused_so}
+use Rattle.zeb_packed.proofs.Cited.{rules, List, subst, sym, state, Row, TermCount, packed_blocks, refused_so}
 use Rattle.zeb_packed.specs.PrivatePackedRows.{EndsCounting, TellTerms}
 use Rattle.zeb_register.specs.Terms.{ListsBefore}
 use Rattle.zeb_packed.proofs.DictTerms.{before_hide, before_listed, first_taken}

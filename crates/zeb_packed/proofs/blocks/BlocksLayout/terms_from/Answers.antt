@@ -1,4 +1,4 @@
-use Rattle.zeb_packed.proofs.Cited.{rules, List, ap, subst, sym, take, state, Row, TermCount, packed_blocks, refused_so}
+use Rattle.zeb_packed.proofs.Cited.{rules, List, subst, state, Row, refused_so}
 use Rattle.zeb_packed.specs.PrivatePackedRows.{EndsCounting, TellTerms}
 use Rattle.zeb_packed.proofs.DictTerms.{from_hide, from_listed, first_taken}
 use Rattle.zeb_packed.proofs.blocks.BlocksLayout.terms_from.Goals as goal

@@ -1,4 +1,4 @@
-use Rattle.zeb_packed.proofs.Cited.{rules, ap, subst, sym, state, Row, IsListOf, IsRest, dict_tree, register_front, refused_so}
+use Rattle.zeb_packed.proofs.Cited.{rules, subst, state, Row, refused_so}
 use Rattle.zeb_packed.specs.PrivatePackedRows.{EndsCounting, TellTerms}
 use Rattle.zeb_packed.proofs.DictTerms.{all_hide, all_listed}
 use Rattle.zeb_packed.proofs.blocks.BlocksLayout.terms_of.Goals as goal

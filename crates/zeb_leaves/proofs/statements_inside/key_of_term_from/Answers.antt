@@ -1,15 +1,15 @@
-use Rattle.zeb_leaves.proofs.Cited.{pos, register_code, to_z-of_z, IsLeast}
+use Rattle.zeb_leaves.proofs.Cited.{pos, register_code, to_z-of_z, IsLeast, TellsKey}
 use Rattle.zeb_register.proofs.Columns.{column_is}
 use Rattle.zeb_leaves.proofs.BehindStatements.{own_query, own_shown}
-use Rattle.zeb_leaves.proofs.CoveringLeaves.{shown_least}
 use Rattle.zeb_leaves.proofs.InsideCalls.{finds}
+use Rattle.zeb_leaves.proofs.KeysTold.{key_shown}
 use Rattle.zeb_leaves.specs.PrivateLeafReads.{IsOfTermFrom}
-use Rattle.zeb_leaves.proofs.statements_inside.leaf_of_term_from.Goals as goal
+use Rattle.zeb_leaves.proofs.statements_inside.key_of_term_from.Goals as goal
 
 pub last_shown-requires : goal.last_shown-requires
 last_shown-requires g c = (own_query c.args.at.db.0 (pos c.args.at.index) (pos (register_code c.args.at.register)) c.args.term.now c.args.first).silent
 
 pub returns-clause-finds : goal.returns-clause-finds
-returns-clause-finds g c = finds (λ trees found. IsLeast (IsOfTermFrom c.args.at c.args.term.now c.args.first trees) found) _ _ c.last_shown.result
-    (λ rows found store shown last. shown_least _ rows found last (own_shown _ store c.args.at.db.0 (pos c.args.at.index) (pos (register_code c.args.at.register)) c.args.term.now c.args.first _ rows shown))
+returns-clause-finds g c = finds (λ trees key. TellsKey (IsLeast (IsOfTermFrom c.args.at c.args.term.now c.args.first trees)) key) _ _ c.last_shown.result
+    (λ rows found store shown last. key_shown _ rows found last (own_shown _ store c.args.at.db.0 (pos c.args.at.index) (pos (register_code c.args.at.register)) c.args.term.now c.args.first _ rows shown))
     (simp (c.params-to_sql.ensures, c.params-to_sql-2.ensures, c.params-to_sql-3.ensures, c.params-to_sql-4.ensures, c.params-to_sql-5.ensures, to_z-of_z, column_is c.column-db.ensures.fits c.column-db.ensures.value, c.from-reg.ensures, c.code.ensures, c.ranges.first) at c.last_shown.ensures.shows)

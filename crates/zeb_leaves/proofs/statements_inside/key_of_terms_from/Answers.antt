@@ -1,15 +1,15 @@
-use Rattle.zeb_leaves.proofs.Cited.{pos, register_code, IsLeast}
+use Rattle.zeb_leaves.proofs.Cited.{pos, register_code, IsLeast, TellsKey}
 use Rattle.zeb_register.proofs.Columns.{column_is}
 use Rattle.zeb_leaves.proofs.BehindStatements.{from_query, from_shown}
-use Rattle.zeb_leaves.proofs.CoveringLeaves.{shown_least}
 use Rattle.zeb_leaves.proofs.InsideCalls.{finds}
+use Rattle.zeb_leaves.proofs.KeysTold.{key_shown}
 use Rattle.zeb_leaves.specs.PrivateTermReads.{IsRowFrom}
-use Rattle.zeb_leaves.proofs.statements_inside.leaf_of_terms_from.Goals as goal
+use Rattle.zeb_leaves.proofs.statements_inside.key_of_terms_from.Goals as goal
 
 pub last_shown-requires : goal.last_shown-requires
 last_shown-requires g c = (from_query c.args.at.db.0 (pos c.args.at.index) (pos (register_code c.args.at.register)) c.args.first.now).silent
 
 pub returns-clause-finds : goal.returns-clause-finds
-returns-clause-finds g c = finds (λ trees found. IsLeast (IsRowFrom c.args.at c.args.first.now trees) found) _ _ c.last_shown.result
-    (λ rows found store shown last. shown_least _ rows found last (from_shown _ store c.args.at.db.0 (pos c.args.at.index) (pos (register_code c.args.at.register)) c.args.first.now _ rows shown))
+returns-clause-finds g c = finds (λ trees key. TellsKey (IsLeast (IsRowFrom c.args.at c.args.first.now trees)) key) _ _ c.last_shown.result
+    (λ rows found store shown last. key_shown _ rows found last (from_shown _ store c.args.at.db.0 (pos c.args.at.index) (pos (register_code c.args.at.register)) c.args.first.now _ rows shown))
     (simp (c.params-to_sql.ensures, c.params-to_sql-2.ensures, c.params-to_sql-3.ensures, c.params-to_sql-4.ensures, c.params-to_sql-5.ensures, column_is c.column-db.ensures.fits c.column-db.ensures.value, c.from-reg.ensures, c.code.ensures) at c.last_shown.ensures.shows)

@@ -1,16 +1,21 @@
-use Rattle.zeb_leaves.proofs.Cited.{HasCleanDisk, ℕ, List, arith, state, subst, IsLeafIn, IsNextBehind, IsUpTo, leaf_key}
+use Rattle.zeb_leaves.proofs.Cited.{HasCleanDisk, ◌∙◌, ℕ, List, ap, arith, state, subst, IsLeafIn, IsNextBehind, IsUpTo, TellsKey, leaf_key, own_key}
 use Rattle.sqlite.specs.Effect.{Database}
 use Rattle.std.proofs.lemmas.Result.{IfOk-weaker}
+use Rattle.std.specs.Option.{option_map}
 use Rattle.zeb_leaves.proofs.InsideCalls.{inside_then}
 use Rattle.zeb_leaves.proofs.NextLeaves.{behind_from}
 use Rattle.zeb_register.proofs.Calls.{store_same}
-use Rattle.zeb_leaves.proofs.inside.leaf_behind.Goals as goal
+use Rattle.zeb_leaves.proofs.inside.key_behind.Goals as goal
 
 pub returns-then-is_above-clause-finds : goal.returns-then-is_above-clause-finds
 returns-then-is_above-clause-finds g c clean inside store =
     let s0 = state g.S.Store c.args.tx.now.conn.now in
-    behind_from s0 store c.args.at.db.0 c.args.at.index c.args.at.register c.args.term.now c.args.block c.in_ok-next.next (c.in_ok-next.ensures.finds clean inside store)
-    (λ leaf is. subst (λ (t : List ℕ). ¬ IsUpTo (leaf_key t c.args.block) leaf) c.as_bytes.ensures.value (c.is_above.ensures c.if-is_above.true leaf is))
+    let told = c.in_ok-next.ensures.finds clean inside store in (
+      told.0,
+      told.1,
+      behind_from s0 store c.args.at.db.0 c.args.at.index c.args.at.register c.args.term.now c.args.block told.0 told.2
+          (λ leaf is. subst (λ (t : List ℕ). ¬ IsUpTo (leaf_key t c.args.block) leaf) c.as_bytes.ensures.value (c.is_above.ensures c.if-is_above.true (own_key leaf) (told.1 ∙ ap (option_map own_key) is))),
+    )
 
 pub returns-clause-call : goal.returns-clause-call
 returns-clause-call g c = inside_then _ _ _ _ _ c.in_ok-next.ensures.call c.behind_by_term.ensures.call
@@ -18,8 +23,8 @@ returns-clause-call g c = inside_then _ _ _ _ _ c.in_ok-next.ensures.call c.behi
 pub returns-clause-finds : goal.returns-clause-finds
 returns-clause-finds g c clean inside store =
     let s0 = state g.S.Store c.args.tx.now.conn.now in
-    let s1 = state g.S.Store c.leaf_of_terms_from.new.tx.conn.now in
+    let s1 = state g.S.Store c.key_of_terms_from.new.tx.conn.now in
     let clean1 : HasCleanDisk s1 = omega (arith, c.behind_by_term.ensures.call.crash.clean) in
     let read = c.in_ok-next.ensures.call.ok clean1 inside in
-    IfOk-weaker c.behind_by_term.result _ _ (λ found behind. subst (λ (d : Database). IsNextBehind (IsLeafIn d.trees c.args.at) (leaf_key c.args.term.now c.args.block) found) read.now_is behind)
+    IfOk-weaker c.behind_by_term.result _ _ (λ key behind. subst (λ (d : Database). TellsKey (IsNextBehind (IsLeafIn d.trees c.args.at) (leaf_key c.args.term.now c.args.block)) key) read.now_is behind)
     (c.behind_by_term.ensures.finds clean read.mode (store_same s0 s1 read.now_is store))

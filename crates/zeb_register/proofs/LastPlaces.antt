@@ -1,17 +1,14 @@
 -- The places of a record put behind all postings of a list: nothing else of it is changed.
-use Rattle.zeb_leaves.proofs.Cited.{◌≡◌, ◌∙◌, ◌<◌, ◌≤◌, ◌/◌, ◌++◌, ◌∷◌, ℕ, true, false, Ok, Err, Result, List, [], map, filter, refl, sym, ap, ap₂, subst, inl, inr, arith, Ordering, Less, Equal, Greater, nat_cmp, nat_tests, ordering_then, all_has, has_right, Has, is_less, numbers_apart, place_of, LiesIn, Posting, places_in, posting_cmp}
-use Rattle.std.proofs.Common.{◌==◌, Bool, Global, Vec, cond, nat_lt}
-use Rattle.std.proofs.lemmas.List.{append-nil}
-use Rattle.std.specs.List.Sorted.{IsStrictlySortedBy}
-use Rattle.std.specs.Prelude.{IfOk}
-use Rattle.zeb_register.proofs.RecordParts.{IsPutTogether, Refuses, next_lies, places_turned, want_refused}
+use Rattle.zeb_register.proofs.Cited.{◌≡◌, ◌∙◌, ◌<◌, ◌≤◌, ◌/◌, ◌++◌, ◌∷◌, ℕ, true, false, Ok, Err, Result, List, [], map, filter, refl, sym, ap, ap₂, subst, inl, inr, arith, Ordering, Less, Equal, Greater, nat_cmp, nat_tests, ordering_then, all_has, has_right, Has, numbers_apart, LiesIn, Posting, posting_cmp, ◌==◌, Bool, Global, Vec, cond, nat_lt, append-nil, IfOk, posting_at, RegFault, RecordChange}
+use Rattle.zeb_register.proofs.CountLemmas.{is_less}
+use Rattle.zeb_register.proofs.KeyPlaces.{place_of}
 use Rattle.zeb_register.specs.Answers.{Answers}
-use Rattle.zeb_register.specs.Content.{posting_at}
+use Rattle.zeb_register.specs.Content.{places_in}
+use Rattle.std.specs.List.Sorted.{IsStrictlySortedBy}
+use Rattle.zeb_register.proofs.RecordParts.{IsPutTogether, Refuses, next_lies, places_turned, want_refused}
 use Rattle.zeb_register.specs.UnitChanges.{IsStorableChange, TurnsPlaces}
-use Rattle.zeb_register.specs.declared.faults.RegFault.{RegFault}
 use Rattle.zeb_register.specs.declared.faults.RegFault.TheVariants.{Memory}
-use Rattle.zeb_register.specs.declared.registers.RecordChange.{RecordChange}
-use Rattle.zeb_leaves.specs.PrivatePieces.{ComesLast}
+use Rattle.zeb_register.specs.PrivateRecordParts.{ComesLast}
 
 -- ---- what a test keeps
 

@@ -1,0 +1,9 @@
+use Rattle.zeb_leaves.proofs.Cited.{◌∙◌, ℕ, List, IsLeast, TellsKey, state, subst}
+use Rattle.std.proofs.lemmas.Result.{IfOk-weaker}
+use Rattle.zeb_leaves.specs.PrivateTermReads.{IsRowFrom}
+use Rattle.zeb_leaves.proofs.inside.key_of_terms_above.Goals as goal
+
+pub returns-clause-finds : goal.returns-clause-finds
+returns-clause-finds g c clean inside store =
+    let trees = (state g.S.Store c.args.tx.now.conn.now).now.trees in
+    IfOk-weaker c.key_of_terms_from.result _ _ (λ key least. subst (λ (first : List ℕ). TellsKey (IsLeast (IsRowFrom c.args.at first trees)) key) (c.as_str.ensures.value ∙ c.in_ok-first.ensures) least) (c.key_of_terms_from.ensures.finds clean inside store)

@@ -1,5 +1,0 @@
-use Rattle.zeb_register.proofs.Cited.{◌≡◌, ◌++◌, map, take, posting_at}
-use Rattle.zeb_register.proofs.record_parts.joined.Given as goal
-
-abbrev pub invariant-loop-place : goal.invariant-loop-place
-invariant-loop-place l = l.list.items ≡ l.fn.before.items ++ map (posting_at l.sysno) (take l.place-index l.places)
