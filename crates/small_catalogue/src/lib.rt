@@ -46,7 +46,8 @@ pub fn take_in<S: Alter, L: Layout, R: Source>(
     readers: &mut [R],
 ) -> Result<Reply, Refusal>
     ensures refused { HasCleanDisk (state S.Store session.new.connection)
-        → OnErr result (ChangesNothing (state S.Store session.old.connection) (state S.Store session.new.connection)) }
+        → OnErr result (ChangesNothing (state S.Store session.old.connection)
+        (state S.Store session.new.connection)) }
 {
     session.update_from(database, Kind::Update, readers)
 }
@@ -62,7 +63,8 @@ pub fn find<S: Alter, L: Layout>(
     query: &str,
 ) -> Result<Reply, Refusal>
     ensures reads { HasCleanDisk (state S.Store session.new.connection)
-        → ChangesNothing (state S.Store session.old.connection) (state S.Store session.new.connection) }
+        → ChangesNothing (state S.Store session.old.connection)
+        (state S.Store session.new.connection) }
 {
     let query = String::from_str(alloc, query)?;
     session.command(&Command::Find {

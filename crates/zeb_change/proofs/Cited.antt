@@ -50,7 +50,7 @@ pub use Rattle.zeb_change.specs.Folding.{Progress, files_folded, ident_in, Chang
 pub use Rattle.zeb_change.specs.Holding.{HoldsSome}
 pub use Rattle.zeb_change.specs.Inside.{Continues, WorksInside}
 pub use Rattle.zeb_change.specs.NoteWords.{KeyChange, change_words, number_words, place_words}
-pub use Rattle.zeb_change.specs.Noted.{IsDueFor, IsNothingNoted, AreTurns, noted_count, IsSettled, LeadsList, LeadsTo, WillHold, notes_at, IsNotedIn, AreNoted, changes_among, Settles}
+pub use Rattle.zeb_change.specs.Noted.{IsDueFor, IsNothingNoted, AreTurns, noted_count, IsSettled, LeadsList, LeadsTo, WillHold, notes_at, IsNotedIn, AreNoted, changes_among, KeepsUnwritten, Settles}
 pub use Rattle.zeb_change.specs.Occurs.{AreOccurrencesOf, OccursIn, occurs}
 pub use Rattle.zeb_change.specs.Outcomes.{register_refusal, marc_refusal, identifier_refusal, change_refusal, fold_refusal, take_refusal, turn_refusal}
 pub use Rattle.zeb_change.specs.PrivateChangedKeys.{AreChangedKeys, key_in, old_in, new_in, IsAddedIfChanged, place_in}

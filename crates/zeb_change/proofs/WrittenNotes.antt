@@ -1,5 +1,5 @@
 -- What is noted is written in runs of keys: that is what all keys come to as one run, and the registers hold what they would have held then.
-use Rattle.zeb_change.proofs.Cited.{◌≡◌, ◌∙◌, ◌++◌, ℕ, ℤ, List, [], ◌∷◌, Result, Ok, Err, OnOk, map, sym, subst, inl, inr, AllZip, Has, all_from, has_left, has_mapped, has_right, State, Trees, Int, Key, key_order, RegFault, Work, AreListChanges, OldsRise, Content, Format, holds_in, IsStore, KeepsRowsBeside, keeps_malformed, registers_rise, with_list, KeyNotes, Pending, IsNothingNoted, LeadsList, Settles, IsSettled, WillHold, notes_at, CountsInStore, HasCleanDisk, IsTrue}
+use Rattle.zeb_change.proofs.Cited.{◌≡◌, ◌∙◌, ◌++◌, ℕ, ℤ, List, [], Result, Ok, Err, OnOk, map, sym, subst, inl, inr, AllZip, Has, all_from, has_left, has_mapped, has_right, State, Trees, Key, key_order, RegFault, Work, AreListChanges, OldsRise, Content, Format, holds_in, IsStore, registers_rise, with_list, KeyNotes, Pending, IsNothingNoted, LeadsList, Settles, IsSettled, KeepsUnwritten, WillHold, notes_at, CountsInStore, HasCleanDisk, IsTrue}
 use Rattle.std.specs.List.Sorted.{IsStrictlySortedBy}
 use Rattle.zeb_register.specs.declared.faults.RegFault.TheVariants.{Damaged, Memory}
 use Rattle.zeb_register.specs.Answers.{IfDamaged}
@@ -174,11 +174,11 @@ module _ (format : Format) (db : ℤ) (before : Pending) (s t : State) where
       lacking (Ok done) it told ahead will = absurd (cc)
       lacking (Err fault) it told ahead will = not_lacking format db before s.now.trees ahead will (it.1 (let e : fault ≡ Damaged = cc in e))
 
-  pub settled_malformed : (result : Result (Unit {0}) RegFault) → Writes result → InStore s t (λ trees. OnOk result (keeps_malformed format trees t.now.trees))
-  settled_malformed (Ok done) writes clean mode store = let it = (writes clean mode store).1 in run_malformed format db it.run s.now.trees t.now.trees it.rising it.puts
-  settled_malformed (Err fault) writes clean mode store = tt
-
-  pub settled_beside : (result : Result (Unit {0}) RegFault) → Writes result → InStore s t (λ trees. OnOk result (KeepsRowsBeside (Int db ∷ []) trees t.now.trees))
-  settled_beside (Ok done) writes clean mode store =
-      let it = (writes clean mode store).1 in beside_database format db it.run s.now.trees t.now.trees (run_beside format db it.run s.now.trees t.now.trees it.puts)
-  settled_beside (Err fault) writes clean mode store = tt
+  pub settled_keeps : (result : Result (Unit {0}) RegFault) → Writes result → InStore s t (λ trees. OnOk result (KeepsUnwritten format db trees t.now.trees))
+  settled_keeps (Ok done) writes clean mode store =
+      let it = (writes clean mode store).1 in
+      record {
+        beside = beside_database format db it.run s.now.trees t.now.trees (run_beside format db it.run s.now.trees t.now.trees it.puts);
+        malformed = run_malformed format db it.run s.now.trees t.now.trees it.rising it.puts;
+      }
+  settled_keeps (Err fault) writes clean mode store = tt

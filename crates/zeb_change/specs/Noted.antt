@@ -2,6 +2,7 @@
 use Rattle.std.specs.Prelude.{◌≡◌, ◌≢◌, ◌+◌, ℕ, ℤ, List, [], ◌∷◌, length, Option, Some, None, IsTrue, Result, Err, OnOk}
 use Rattle.std.specs.BTreeMap.{get}
 use Rattle.std.specs.List.Sorted.{IsStrictlySortedBy}
+use Rattle.sqlite.specs.declared.types.Value.TheVariants.{Int}
 use Rattle.sqlite.specs.State.{HasCleanDisk, State, Survives}
 use Rattle.sqlite.specs.Tree.{Trees}
 use Rattle.zeb_keys.specs.declared.keys.Key.{Key}
@@ -11,6 +12,7 @@ use Rattle.zeb_register.specs.declared.faults.RegFault.TheVariants.{Damaged}
 use Rattle.zeb_register.specs.declared.registers.Work.{Work}
 use Rattle.zeb_register.specs.Content.{ArePlacesOf, Content, IsListChanged, IsStorable, Posting, place_cmp}
 use Rattle.zeb_register.specs.Formats.{Format, holds_in}
+use Rattle.zeb_register.specs.Sound.{KeepsRowsBeside, keeps_malformed}
 use Rattle.zeb_register.specs.Store.{IsStore, KeepsLists}
 use Rattle.zeb_register.specs.Tallies.{works_for}
 use Rattle.zeb_change.specs.declared.key_notes.KeyNotes.{KeyNotes}
@@ -83,6 +85,11 @@ IsSettled format row_work db old new before after work worked =
     IsStore new × KeepsLists old.now.trees new.now.trees
     × ((ahead : Content) → IsStorable ahead → WillHold format old.now.trees db before ahead
     → WillHold format new.now.trees db after ahead × IsDueFor format row_work 0 old.now.trees new.now.trees work worked before after)
+
+-- each row of the registers that isn't the database's is as it was, and what is malformed, a row or in leaves a unit, is so still
+pub record KeepsUnwritten (format : Format) (db : ℤ) (old new : Trees) : Type 0 where
+  pub beside : KeepsRowsBeside (Int db ∷ []) old new
+  pub malformed : keeps_malformed format old new
 
 -- What a call does that writes noted changes. It tells damage only of registers that don't hold what the changes say stood there.
 pub record Settles {T : Type 0} (format : Format) (row_work : ℕ) (db : ℤ) (old new : State) (before after : Pending) (work worked : Work) (result : Result T RegFault) : Type 0 where

@@ -1,19 +1,17 @@
 //! Noted changes of keys, written into the registers in runs of keys.
 
-ghost use Rattle.std.specs.Prelude.{◌≡◌, List, [], ◌∷◌, IfOk, OnOk, length, map};
+ghost use Rattle.std.specs.Prelude.{◌≡◌, List, IfOk, OnOk, length, map};
 ghost use Rattle.std.specs.List.{AllZip};
 ghost use Rattle.std.specs.List.Sorted.{IsStrictlySortedBy};
-ghost use Rattle.sqlite.specs.declared.types.Value.TheVariants.{Int};
 ghost use Rattle.sqlite.specs.Held.{state};
 ghost use Rattle.zeb_keys.specs.Order.{key_order};
 ghost use Rattle.zeb_register.specs.Calls.{GoesOn, Inside};
 ghost use Rattle.zeb_register.specs.Clauses.{InStore};
-ghost use Rattle.zeb_register.specs.Sound.{KeepsRowsBeside, keeps_malformed};
 ghost use Rattle.zeb_register.specs.Tallies.{CountsNothing, works_for};
 ghost use Rattle.zeb_register.specs.UnitChanges.{NumbersRise};
 ghost use Rattle.zeb_change.specs.declared.key_notes.KeyNotes.{KeyNotes};
 ghost use Rattle.zeb_change.specs.NoteWords.{KeyChange};
-ghost use Rattle.zeb_change.specs.Noted.{IsNothingNoted, Settles, changes_among};
+ghost use Rattle.zeb_change.specs.Noted.{IsNothingNoted, KeepsUnwritten, Settles, changes_among};
 ghost use Rattle.zeb_change.specs.Inside.{WorksInside};
 ghost use Rattle.zeb_change.specs.PrivateNoteWords.{IsCutOff, counts_in, places_in};
 ghost use Rattle.zeb_change.specs.PrivatePending.{AreGivenInOrder, IsGivenFrom, IsTakenFrom};
@@ -176,12 +174,9 @@ pub fn write_pending<S: Alter, L: Layout>(
         (state S.Store tx.new.conn.now) pending.old pending.new
         work.old work.new result }
     ensures all { OnOk result (IsNothingNoted pending.new) }
-    ensures malformed { InStore (state S.Store tx.old.conn.now) (state S.Store tx.new.conn.now)
+    ensures keeps { InStore (state S.Store tx.old.conn.now) (state S.Store tx.new.conn.now)
         (λ trees. OnOk result
-        (keeps_malformed L.format trees (state S.Store tx.new.conn.now).now.trees)) }
-    ensures beside { InStore (state S.Store tx.old.conn.now) (state S.Store tx.new.conn.now)
-        (λ trees. OnOk result
-        (KeepsRowsBeside (Int db.0 ∷ []) trees (state S.Store tx.new.conn.now).now.trees)) }
+        (KeepsUnwritten L.format db.0 trees (state S.Store tx.new.conn.now).now.trees)) }
     // Over a layout that counts nothing the counts stay, also where it is refused.
     ensures no_work { CountsNothing L.format L.row_work → work.new ≡ work.old }
 {
@@ -200,12 +195,9 @@ pub fn write_where_full<S: Alter, L: Layout>(
     ensures call { Settles L.format L.row_work db.0 (state S.Store tx.old.conn.now)
         (state S.Store tx.new.conn.now) pending.old pending.new
         work.old work.new result }
-    ensures malformed { InStore (state S.Store tx.old.conn.now) (state S.Store tx.new.conn.now)
+    ensures keeps { InStore (state S.Store tx.old.conn.now) (state S.Store tx.new.conn.now)
         (λ trees. OnOk result
-        (keeps_malformed L.format trees (state S.Store tx.new.conn.now).now.trees)) }
-    ensures beside { InStore (state S.Store tx.old.conn.now) (state S.Store tx.new.conn.now)
-        (λ trees. OnOk result
-        (KeepsRowsBeside (Int db.0 ∷ []) trees (state S.Store tx.new.conn.now).now.trees)) }
+        (KeepsUnwritten L.format db.0 trees (state S.Store tx.new.conn.now).now.trees)) }
     ensures no_work { CountsNothing L.format L.row_work → work.new ≡ work.old }
 {
     if pending.is_full() {

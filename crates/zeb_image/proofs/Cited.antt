@@ -58,7 +58,7 @@ pub use Rattle.zeb_image.specs.Image.{IsImage, IsImageOf, IsImageUnder, AreBases
 pub use Rattle.zeb_image.specs.Names.{IsDatabaseName, is_name_byte}
 pub use Rattle.zeb_image.specs.PrivateChecking.{CanAllBeHeld, IsExpectation, AreRecordsPostings, CanBeHeld, CanKeep, CanKeepAll, kept_of, occurrence_of, posting_of, AreMade, IsMadeOf, IsExpectationOrNone, ArePostingsOrNone, IsMadeOrNone, bare, AreOccurrencesOrNone}
 pub use Rattle.zeb_image.specs.PrivateRebuilding.{PostsDatabase, IsRecordPosted, LacksRecord, WillHoldSuch, IsPosted, LacksDatabase, RowOccurs, HoldsSuch}
-pub use Rattle.zeb_image.specs.Rebuilding.{AreReadableLists, AreSound, IsSound, AreSoundIn}
+pub use Rattle.zeb_image.specs.Rebuilding.{AreReadableLists, AreSound, IsSound, AreSoundIn, Rebuilds}
 pub use Rattle.zeb_keys.proofs.Rising.{key_total, keys_apart, both_equal, numbers_apart}
 pub use Rattle.zeb_keys.proofs.SortedLists.{members_from_dedup, rising_from_dedup}
 pub use Rattle.zeb_keys.specs.Order.{TellsApart, key_order}

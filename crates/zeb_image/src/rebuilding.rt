@@ -1,15 +1,11 @@
 //! The registers made anew from the kept records.
 
-ghost use Rattle.std.specs.Prelude.{◌≡◌, IsTrue, OnOk, List};
+ghost use Rattle.std.specs.Prelude.{◌≡◌};
 ghost use Rattle.sqlite.specs.Held.{state};
-ghost use Rattle.sqlite.specs.State.{HasCleanDisk};
 ghost use Rattle.zeb_register.specs.Calls.{GoesOn, Inside};
 ghost use Rattle.zeb_register.specs.Clauses.{InStore};
-ghost use Rattle.zeb_register.specs.Store.{IsStore, KeepsLists};
-ghost use Rattle.zeb_change.specs.Base.{Base};
 ghost use Rattle.zeb_change.specs.Inside.{WorksInside};
-ghost use Rattle.zeb_image.specs.Image.{AreBases, AreListsOf, IsImageOf};
-ghost use Rattle.zeb_image.specs.Rebuilding.{AreReadableLists, AreSound};
+ghost use Rattle.zeb_image.specs.Rebuilding.{Rebuilds};
 ghost use Rattle.zeb_image.specs.PrivateRebuilding.{PostsDatabase};
 
 use crate::rebuilding_records::record_note;
@@ -41,30 +37,9 @@ pub fn rebuild<S: Alter, L: Layout>(
     ensures same { tx.new.conn.ghost_name ≡ tx.old.conn.ghost_name }
     ensures call { Inside (state S.Store tx.old.conn.now) (state S.Store tx.new.conn.now) result
         (λ _. GoesOn) }
-    ensures built { HasCleanDisk (state S.Store tx.new.conn.now)
-        → IsTrue (state S.Store tx.old.conn.now).in_transaction
-        → IsStore (state S.Store tx.old.conn.now)
-        → OnOk result (IsStore (state S.Store tx.new.conn.now)
-        × KeepsLists (state S.Store tx.old.conn.now).now.trees
-        (state S.Store tx.new.conn.now).now.trees
-        × ((bases : List Base)
-        → AreListsOf (state S.Store tx.old.conn.now).now.trees bases → AreBases profile.now bases
-        → IsImageOf L.format profile.now (state S.Store tx.new.conn.now).now.trees bases)) }
-    ensures honest { HasCleanDisk (state S.Store tx.new.conn.now)
-        → IsTrue (state S.Store tx.old.conn.now).in_transaction
-        → IsStore (state S.Store tx.old.conn.now) → result ≡ Err RegFault.Damaged
-        → (bases : List Base)
-        → AreListsOf (state S.Store tx.old.conn.now).now.trees bases
-        → ¬ AreBases profile.now bases }
-    ensures checked { HasCleanDisk (state S.Store tx.new.conn.now)
-        → IsTrue (state S.Store tx.old.conn.now).in_transaction
-        → IsStore (state S.Store tx.old.conn.now)
-        → OnOk result (AreSound profile.now (state S.Store tx.old.conn.now).now.trees) }
-    ensures damaged { HasCleanDisk (state S.Store tx.new.conn.now)
-        → IsTrue (state S.Store tx.old.conn.now).in_transaction
-        → IsStore (state S.Store tx.old.conn.now) → result ≡ Err RegFault.Damaged
-        → AreReadableLists (state S.Store tx.old.conn.now).now.trees
-        → ¬ AreSound profile.now (state S.Store tx.old.conn.now).now.trees }
+    ensures rebuilds { InStore (state S.Store tx.old.conn.now) (state S.Store tx.new.conn.now)
+        (λ _. Rebuilds L.format profile.now (state S.Store tx.old.conn.now)
+        (state S.Store tx.new.conn.now) result) }
 {
     registers_wipe(tx)?;
     let databases = databases_inside(alloc, tx)?;

@@ -1,6 +1,7 @@
 -- What only the contracts of private functions speak of; no public clause reaches it.
 -- Why a command that words or a line name isn't answered: what couldn't be read, and failures to open a register.
-use Rattle.std.specs.Prelude.{◌≡◌, ⊤, ℕ, List, Option, IfSome, string_bytes}
+use Rattle.std.specs.Prelude.{◌≡◌, ⊤, ℕ, List, Option, IfOk, IfSome, IsErr, Result, string_bytes}
+use Rattle.std.specs.declared.alloc.AllocError.{AllocError}
 use Rattle.zeb_profile.specs.declared.directives.Directive.{Directive}
 use Rattle.zeb_paths.specs.declared.causes.Closed.{Closed}
 use Rattle.zeb_program.specs.Explanations.{refusal_cause}
@@ -13,6 +14,9 @@ use Rattle.zeb_program.specs.declared.faults.Fault.TheVariants.{Profile, Unreada
 use Rattle.zeb_program.specs.declared.failures.Cause.{Cause}
 use Rattle.zeb_program.specs.FaultAnswers.{NamesMet, NamesUntold}
 use Rattle.zeb_program.specs.Inputs.{IsShort}
+use Rattle.zeb_program.specs.Statuses.{IsFaultStatus}
+use Rattle.zeb_program.specs.declared.statuses.Status.{Status}
+use Rattle.zeb_program.specs.declared.statuses.Status.TheVariants.{Failed}
 
 -- something couldn't be read, or memory ran out in the program itself
 abbrev pub IsUnread : Fault → Type 0
@@ -20,6 +24,11 @@ IsUnread (Profile file fault) = ⊥
 IsUnread (Unreadable path) = ⊤
 IsUnread (Refused refusal) = ⊥
 IsUnread Memory = ⊤
+
+-- The status of a fault that is told is that of a refusal or of a failure, and of what couldn't be read it is `Failed`; for want of memory in the program
+-- itself there is none.
+abbrev pub EndsTold : Fault → Result Status AllocError → Type 0
+EndsTold fault result = (fault ≡ Memory → IsErr result) × IfOk result IsFaultStatus × (IsUnread fault → IfOk result (λ status. status ≡ Failed))
 
 -- the same of files that are read whole: no file's bytes are told at that path, or too many
 abbrev pub IsUnreadAt : (List ℕ → Option (List ℕ)) → Fault → Type 0

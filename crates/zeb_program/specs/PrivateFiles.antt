@@ -1,6 +1,6 @@
 -- What only the contracts of private functions speak of; no public clause reaches it.
 -- What is read of files that are read whole, those of an analysis, and what their readers are sure to give (this program's own).
-use Rattle.std.specs.Prelude.{◌≡◌, ◌||◌, ⊤, Bool, ℕ, List, Option, None, Some, IfSome, Result, Ok, Err, String, Vec, if◌then◌else◌, map}
+use Rattle.std.specs.Prelude.{◌≡◌, ◌≤◌, ◌||◌, ⊤, Bool, ℕ, List, Option, None, Some, IfSome, Result, Ok, Err, String, Vec, if◌then◌else◌, map, string_bytes, string_len}
 use Rattle.std.specs.declared.alloc.Global.{Global}
 use Rattle.zeb_paths.specs.Walks.{Tells}
 use Rattle.zeb_paths.specs.declared.walk.WalkFault.{WalkFault}
@@ -32,3 +32,7 @@ sure_bytes remaining may_fail has_failed reader = if may_fail reader || has_fail
 abbrev pub IsGiven : Result (Option (String Global)) WalkFault → Option (String Global) → Type 0
 IsGiven found (Some path) = found ≡ Ok (Some path)
 IsGiven found None = GivesNone found
+
+-- this text is all that is left of a source, where that is told, and has at most so many bytes
+abbrev pub IsWholeText : ℕ → Option (List ℕ) → String Global → Type 0
+IsWholeText most left text = (string_len text ≤ most) × IfSome left (λ bytes. string_bytes text ≡ bytes)

@@ -1,6 +1,8 @@
 -- What only the contracts of private functions speak of; no public clause reaches it.
-use Rattle.std.specs.Prelude.{◌≡◌, ℕ, List, length, Option, Result, Ok, Err, string_bytes}
+use Rattle.std.specs.Prelude.{◌≡◌, ℕ, List, length, Option, IfErr, Result, Ok, Err, string_bytes}
+use Rattle.sqlite.specs.Held.{Held, state}
 use Rattle.sqlite.specs.State.{HasCleanDisk, State}
+use Rattle.sqlite.specs.Store.{Ghosts}
 use Rattle.zeb_change.specs.Conditions.{Conditions}
 use Rattle.zeb_engine.specs.Replies.{reply_text}
 use Rattle.zeb_engine.specs.declared.replies.Reply.{Reply}
@@ -14,6 +16,7 @@ use Rattle.zeb_program.specs.declared.tasks.Served.TheVariants.{Replied, Shown}
 use Rattle.zeb_program.specs.declared.tasks.Task.{Task}
 use Rattle.zeb_program.specs.FaultAnswers.{Reaches}
 use Rattle.zeb_program.specs.OverTables.{PathOver, TaskOver}
+use Rattle.zeb_program.specs.PrivateFaults.{IsUnread}
 use Rattle.zeb_program.specs.declared.path_changes.PathChange.{PathChange}
 use Rattle.zeb_program.specs.declared.statuses.Status.{Status}
 use Rattle.zeb_program.specs.Serving.{ServesTask}
@@ -49,3 +52,9 @@ pub record CarriesOut (told : List ℕ → Option (List ℕ)) (at : Tells) (form
   pub over : HasCleanDisk new → TaskOver at format c task old new answer
   -- it is accepted only where all files at and below its paths are found, and a path that can't be read is one that a walk over these comes to
   pub reaches : Reaches at (ReadsWhole task) (paths_of task) answer
+
+-- Whatever the disk does, an analysis leaves the connection as it is, and where something couldn't be read the whole session is the same; and the disk was
+-- clean where it is.
+abbrev pub KeepsStill : {S : Type 0} → Ghosts S → Task → Result Served Fault → (old new : Held S) → Type 0 → Type 0
+KeepsStill g task result old new Same =
+    (HasCleanDisk (state g new) → HasCleanDisk (state g old)) × (ReadsWhole task → new ≡ old) × IfErr result (λ fault. IsUnread fault → Same)

@@ -1,7 +1,7 @@
 -- What only the contracts of private functions speak of; no public clause reaches it.
 -- What the next line of a shell comes to (this program's own).
-use Rattle.std.specs.Prelude.{◌≡◌, ◌<◌, ℕ, Bool, false, List, [], length, Option, Some, None, IfSome, Result, Ok, Err}
-use Rattle.std.specs.Io.KnownBytes.{Consumes}
+use Rattle.std.specs.Prelude.{◌≡◌, ◌<◌, ◌⊎◌, ◌↔◌, ℕ, Bool, false, true, List, [], length, Option, Some, None, IfOk, IfSome, Result, Ok, Err}
+use Rattle.std.specs.Io.KnownBytes.{Consumes, IsAtEnd}
 use Rattle.sqlite.specs.Held.{Held, state}
 use Rattle.sqlite.specs.State.{HasCleanDisk}
 use Rattle.sqlite.specs.Store.{Ghosts}
@@ -15,8 +15,11 @@ use Rattle.zeb_program.specs.Lines.{first_line}
 use Rattle.zeb_program.specs.OverTables.{LineOver}
 use Rattle.zeb_program.specs.PrivateLines.{whole_first_line}
 use Rattle.zeb_program.specs.Serving.{LeadsOn}
+use Rattle.zeb_program.specs.declared.line_input.InputCause.TheVariants.{FailedRead}
 use Rattle.zeb_program.specs.declared.line_input.LineFault.{LineFault}
+use Rattle.zeb_program.specs.declared.line_input.LineFault.TheVariants.{Unreadable}
 use Rattle.zeb_program.specs.declared.statuses.Status.{Status}
+use Rattle.zeb_program.specs.declared.statuses.Status.TheVariants.{Failed}
 
 -- what comes of the next line: it is answered, with this status; there is none; or it can't be read, or isn't answered
 abbrev pub ComesTo : (Status → Type 0) → Type 0 → (LineFault → Type 0) → Result (Option Status) LineFault → Type 0
@@ -41,3 +44,9 @@ pub record AnswersNextLine {S : Type 0} (g : Ghosts S) (at : Tells) (format : Fo
 abbrev pub StopsAtLine : {S : Type 0} → Ghosts S → Tells → Format → Conditions → Option (List ℕ) → Option (List ℕ) → Held S → Held S → LineFault → Type 0
 StopsAtLine g at format c left later old new fault =
     (HasCleanDisk (state g new) → IfSome left (λ l. KeepsUnread g at format c fault l old new)) × IfSome left (λ l. EndsInLine 16777216 fault l later)
+
+-- How the lines of a shell end shows how far its input was read: one failed to be read just where they end by that, and with a status the input is at
+-- its end, or a write has failed, which is `Failed`.
+abbrev pub EndsInput : (read_failed failed : Bool) → (left : Option (List ℕ)) → Result Status LineFault → Type 0
+EndsInput read_failed failed left result =
+    ((result ≡ Err (Unreadable FailedRead)) ↔ (read_failed ≡ true)) × IfOk result (λ status. ((status ≡ Failed) × (failed ≡ true)) ⊎ IsAtEnd left)

@@ -1,6 +1,6 @@
 -- What only the contracts of private functions speak of; no public clause reaches it.
 -- The parts of what comes of words (this program's own).
-use Rattle.std.specs.Prelude.{◌≡◌, ◌⊎◌, ⊤, ℕ, Bool, false, Option, None, IfErr, IfSome, IsTrue, Result, Ok, Err, List, String}
+use Rattle.std.specs.Prelude.{◌≡◌, ◌≢◌, ◌⊎◌, ⊤, ℕ, Bool, false, true, Option, None, IfErr, IfOk, IfSome, IsTrue, OnErr, Result, Ok, Err, List, String}
 use Rattle.std.specs.declared.alloc.AllocError.{AllocError}
 use Rattle.std.specs.declared.alloc.Global.{Global}
 use Rattle.sqlite.specs.Held.{Held, state}
@@ -34,12 +34,15 @@ use Rattle.zeb_program.specs.Doing.{DoesOnNothing, DoesTask, RunsText, ServesTex
 use Rattle.zeb_program.specs.FaultAnswers.{IsOpeningFailure}
 use Rattle.zeb_program.specs.Registers.{ClosesStore, IsTakenOver, OpensStore, Places, UsedAs}
 use Rattle.zeb_program.specs.ScriptAnswers.{AreConditionsIn, AreScriptConditions, RunsFromNothing}
-use Rattle.std.specs.Io.KnownBytes.{Appends, Keeps as Stays}
+use Rattle.std.specs.Io.KnownBytes.{Appends, IsAtEnd, Keeps as Stays}
 use Rattle.zeb_program.specs.Explanations.{Explains}
 use Rattle.zeb_program.specs.FaultLines.{TellsCaused}
+use Rattle.zeb_program.specs.Inputs.{TakesAtMost}
 use Rattle.zeb_program.specs.Statuses.{closing_status, greater}
 use Rattle.zeb_program.specs.declared.statuses.Status.{Status}
+use Rattle.zeb_program.specs.declared.statuses.Status.TheVariants.{Failed}
 use Rattle.zeb_program.specs.Closings.{TellsClosed}
+use Rattle.zeb_program.specs.WordAnswers.{NamesLines, NamesShell}
 use Rattle.zeb_program.specs.WordRuns.{ExplainsTask, IsOwnOr, ReadsAt}
 
 -- ---- a register that is opened
@@ -129,6 +132,17 @@ pub record LeavesHeld {S : Type 0} (g : Ghosts S) (leaves : Closed → S → Typ
 abbrev pub Grows : Option (List ℕ) → Option (List ℕ) → Type 0
 Grows old new = (bytes : List ℕ) × Appends old new bytes
 
+-- Where memory ran out for the program itself, what is known of what was written to the fault output stays, and grows by some bytes, maybe none,
+-- unless a write to that has failed; and where no write to either output has, what was run stops so.
+abbrev pub EndsStarved : Result Status AllocError → (failed fault_failed : Bool) → (fault_old fault_new : Option (List ℕ)) → Type 0 → Type 0
+EndsStarved result failed fault_failed fault_old fault_new Stops =
+    OnErr result (fault_failed ≡ false → Grows fault_old fault_new) × OnErr result (failed ≡ false → fault_failed ≡ false → Stops)
+
+-- The status shows how far a shell has read its input: a failed read ends in `Failed`, and with another status the input is at its end.
+abbrev pub ShowsReading : (read_failed : Bool) → (left : Option (List ℕ)) → Result Status AllocError → Type 0
+ShowsReading read_failed left result =
+    (read_failed ≡ true → IfOk result (λ status. status ≡ Failed)) × IfOk result (λ status. status ≢ Failed → IsAtEnd left)
+
 -- Lines are run over a connection, which is then closed. What is said of them is said of the connection as it was before.
 pub record Closes {S : Type 0} (g : Ghosts S) (leaves : Closed → S → Type 0) (held : Held S) (Said : Held S → Type 0) (fault_old fault_new : Option (List ℕ)) (closed : Closed) : Type 0 where
   pub last : Held S
@@ -173,3 +187,9 @@ StopsIn g leaves at format c n text held old new fault_old fault_new =
 abbrev pub StopsServing : {S : Type 0} → Ghosts S → (Closed → S → Type 0) → Tells → Format → Conditions → Option (List ℕ) → Option (List ℕ) → Held S → Option (List ℕ) → Option (List ℕ) → Option (List ℕ) → Option (List ℕ) → Type 0
 StopsServing g leaves at format c given left held old new fault_old fault_new =
     (closed : Closed) × Closes g leaves held (λ last. IfSome given (λ text. StopsText g at format c Starved text left old new held last)) fault_old fault_new closed
+
+-- ---- the input
+
+-- At most so many bytes are taken from the input, unless the words name a shell; words that name neither a batch nor a shell leave it as it is.
+abbrev pub TakesByWords : {R : Type 0} → ℕ → (R → Option (List ℕ)) → List (List ℕ) → (old new : R) → Type 0
+TakesByWords most left words old new = (¬ NamesShell words → TakesAtMost most (left old) (left new)) × (¬ NamesLines words → new ≡ old)

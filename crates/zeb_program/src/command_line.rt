@@ -6,7 +6,7 @@ ghost use Rattle.zeb_paths.specs.Walks.{telling};
 ghost use Rattle.zeb_words.specs.declared.words.LayoutChoice.TheVariants.{Unsaid};
 ghost use Rattle.zeb_program.specs.Doing.{DoesBatch};
 ghost use Rattle.zeb_program.specs.LeftStores.{LeavesAt, LeavesByBatch, LeavesByShell, LeavesByTask, LeavesStore};
-ghost use Rattle.zeb_program.specs.PrivateWordRuns.{Grows};
+ghost use Rattle.zeb_program.specs.PrivateWordRuns.{EndsStarved, Grows, TakesByWords};
 ghost use Rattle.zeb_program.specs.Scripts.{BeginsRegister};
 ghost use Rattle.zeb_program.specs.ProfileFiles.{ReadsProfile};
 ghost use Rattle.zeb_program.specs.Registers.{places};
@@ -17,7 +17,7 @@ ghost use Rattle.std.specs.Io.KnownBytes.{Appends, IsAtEnd};
 ghost use Rattle.zeb_program.specs.PrivateFaults.{IsUnread};
 ghost use Rattle.zeb_program.specs.Inputs.{TakesAtMost};
 ghost use Rattle.zeb_program.specs.FixedLines.{misuse_line, starved_line, usage_line};
-ghost use Rattle.zeb_program.specs.WordAnswers.{AnswersWords, NamesLines, NamesShell, StopsWords, TellsApart, TellsUsage};
+ghost use Rattle.zeb_program.specs.WordAnswers.{AnswersWords, StopsWords, TellsApart, TellsUsage};
 ghost use Rattle.zeb_program.specs.Warnings.{warning_bytes};
 ghost use Rattle.zeb_program.specs.Closings.{TellsClosed};
 ghost use Rattle.zeb_program.specs.Unanswered.{IsToldSince};
@@ -51,16 +51,13 @@ pub fn run_words<R: Source, W: Output, V: Write, P: Paths>(
     fault_output: &mut Sink<V>,
 ) -> Result<Status, AllocError>
     requires { R.has_failed input.old ≡ false }
-    ensures bounded { ¬ NamesShell (map string_bytes words.now) →
-        TakesAtMost (GREATEST_INPUT + 1) (R.remaining input.old) (R.remaining input.new) }
-    ensures unread { ¬ NamesLines (map string_bytes words.now) → input.new ≡ input.old }
+    ensures input { TakesByWords (GREATEST_INPUT + 1) R.remaining (map string_bytes words.now)
+        input.old input.new }
     ensures store { LeavesStore (places P.Store.Store P.tells P.stands P.lists P.explains P.opens
         P.refuses P.lacks P.has P.lets_go P.leaves paths.old paths.new)
         (map string_bytes words.now) (R.remaining input.old) result
         (IsToldSince fault_output.new.failed (V.contents fault_output.old.writer)
         (V.contents fault_output.new.writer)) }
-    ensures grows { OnErr result (fault_output.new.failed ≡ false
-        → Grows (V.contents fault_output.old.writer) (V.contents fault_output.new.writer)) }
     ensures failed_read { R.has_failed input.new ≡ true
         → IfOk result (λ status. status ≡ Status.Failed) }
     ensures answer { IfOk result (λ status. output.new.failed ≡ false
@@ -69,8 +66,9 @@ pub fn run_words<R: Source, W: Output, V: Write, P: Paths>(
         (map string_bytes words.now) (R.remaining input.old) (R.remaining input.new)
         (R.has_failed input.new) (W.contents output.old.writer) (W.contents output.new.writer)
         (V.contents fault_output.old.writer) (V.contents fault_output.new.writer) status) }
-    ensures stopped { OnErr result (output.new.failed ≡ false → fault_output.new.failed ≡ false
-        → StopsWords (places P.Store.Store P.tells P.stands P.lists P.explains P.opens P.refuses
+    ensures stopped { EndsStarved result output.new.failed fault_output.new.failed
+        (V.contents fault_output.old.writer) (V.contents fault_output.new.writer)
+        (StopsWords (places P.Store.Store P.tells P.stands P.lists P.explains P.opens P.refuses
         P.lacks P.has P.lets_go P.leaves paths.old paths.new) (map string_bytes words.now)
         (R.remaining input.old) (R.remaining input.new) (W.contents output.old.writer)
         (W.contents output.new.writer) (V.contents fault_output.old.writer)
@@ -229,13 +227,12 @@ fn run_batch<R: Source, W: Write, V: Write, P: Paths>(
         (R.remaining input.old) (R.has_failed input.new) (W.contents output.old.writer)
         (W.contents output.new.writer) (V.contents fault_output.old.writer)
         (V.contents fault_output.new.writer) status) }
-    ensures stopped { OnErr result (output.new.failed ≡ false → fault_output.new.failed ≡ false
-        → StopsBatch (places P.Store.Store P.tells P.stands P.lists P.explains P.opens P.refuses
+    ensures stopped { EndsStarved result output.new.failed fault_output.new.failed
+        (V.contents fault_output.old.writer) (V.contents fault_output.new.writer)
+        (StopsBatch (places P.Store.Store P.tells P.stands P.lists P.explains P.opens P.refuses
         P.lacks P.has P.lets_go P.leaves paths.old paths.new) config (R.remaining input.old)
         (W.contents output.old.writer) (W.contents output.new.writer)
         (V.contents fault_output.old.writer) (V.contents fault_output.new.writer)) }
-    ensures grows { OnErr result (fault_output.new.failed ≡ false
-        → Grows (V.contents fault_output.old.writer) (V.contents fault_output.new.writer)) }
     ensures store { LeavesByBatch (places P.Store.Store P.tells P.stands P.lists P.explains
         P.opens P.refuses P.lacks P.has P.lets_go P.leaves paths.old paths.new) config
         (R.remaining input.old) result (IsToldSince fault_output.new.failed
@@ -299,8 +296,8 @@ fn serve_batch<W: Write, V: Write, P: Paths>(
 ) -> Result<Status, AllocError>
     ensures answer { batch.entry.lines_before ≡ 0 → IfOk result (λ status. output.new.failed ≡ false
         → fault_output.new.failed ≡ false → RunsLines (places P.Store.Store P.tells P.stands P.lists
-        P.explains P.opens P.refuses P.lacks P.has P.lets_go P.leaves paths.old paths.new) config profile
-        batch.entry.text.now (W.contents output.old.writer) (W.contents output.new.writer)
+        P.explains P.opens P.refuses P.lacks P.has P.lets_go P.leaves paths.old paths.new) config
+        profile batch.entry.text.now (W.contents output.old.writer) (W.contents output.new.writer)
         (V.contents fault_output.old.writer) (V.contents fault_output.new.writer) status) }
     ensures stopped { batch.entry.lines_before ≡ 0 → OnErr result (output.new.failed ≡ false
         → fault_output.new.failed ≡ false → StopsLines (places P.Store.Store P.tells P.stands
@@ -353,13 +350,12 @@ fn run_shell<R: Source, W: Output, V: Write, P: Paths>(
         (R.remaining input.old) (R.remaining input.new) (R.has_failed input.new)
         (W.contents output.old.writer) (W.contents output.new.writer)
         (V.contents fault_output.old.writer) (V.contents fault_output.new.writer) status) }
-    ensures stopped { OnErr result (output.new.failed ≡ false → fault_output.new.failed ≡ false
-        → StopsShell (places P.Store.Store P.tells P.stands P.lists P.explains P.opens P.refuses
+    ensures stopped { EndsStarved result output.new.failed fault_output.new.failed
+        (V.contents fault_output.old.writer) (V.contents fault_output.new.writer)
+        (StopsShell (places P.Store.Store P.tells P.stands P.lists P.explains P.opens P.refuses
         P.lacks P.has P.lets_go P.leaves paths.old paths.new) config (R.remaining input.old)
         (R.remaining input.new) (W.contents output.old.writer) (W.contents output.new.writer)
         (V.contents fault_output.old.writer) (V.contents fault_output.new.writer)) }
-    ensures grows { OnErr result (fault_output.new.failed ≡ false
-        → Grows (V.contents fault_output.old.writer) (V.contents fault_output.new.writer)) }
     ensures store { LeavesByShell (places P.Store.Store P.tells P.stands P.lists P.explains
         P.opens P.refuses P.lacks P.has P.lets_go P.leaves paths.old paths.new) config
         (R.remaining input.old) result (IsToldSince fault_output.new.failed

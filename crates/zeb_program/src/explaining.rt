@@ -7,8 +7,9 @@ ghost use Rattle.zeb_program.specs.FaultLines.{file_in};
 ghost use Rattle.zeb_program.specs.PrivateWordRuns.{ExplainsFailure};
 ghost use Rattle.zeb_program.specs.declared.faults.Fault.TheVariants.{Refused};
 
-use crate::failures::{Cause, Failure, of_file, of_path, of_store};
+use crate::failures::{Cause, Failure, of_path, of_store};
 use crate::faults::Fault;
+use crate::file_causes::of_file;
 use crate::files::path_of_file;
 use std::alloc::{AllocError, Global};
 use zeb_engine::Refusal;

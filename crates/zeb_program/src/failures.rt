@@ -7,12 +7,10 @@ ghost use Rattle.zeb_program.specs.Closings.{TellsClosed, TellsLeft};
 ghost use Rattle.zeb_program.specs.Unanswered.{TellsUnanswered};
 ghost use Rattle.zeb_program.specs.FaultLines.{IsCauseOf, TellsCaused, TellsPlaced, cause_line, cause_lines, file_lines, met_line, register_lines, unread_lines};
 ghost use Rattle.zeb_program.specs.declared.failures.Cause.TheVariants.{Path as PathOf, Store as StoreOf};
-ghost use Rattle.zeb_program.specs.Explanations as spec;
 ghost use Rattle.zeb_program.specs.FaultLines as lines;
-ghost use Rattle.zeb_program.specs.Explanations.{ExplainsUnread, IsFileCause, MeetsFile, MeetsRecord, NamesRegister, refusal_cause};
+ghost use Rattle.zeb_program.specs.Explanations.{ExplainsUnread, NamesRegister, refusal_cause};
 ghost use Rattle.zeb_program.specs.Diagnostics.{meaning_lines};
-ghost use Rattle.zeb_program.specs.declared.failures.FileCause.TheVariants.{Path as PathMet};
-ghost use Rattle.zeb_program.specs.PrivateFaults.{IsUnread};
+ghost use Rattle.zeb_program.specs.PrivateFaults.{EndsTold};
 ghost use Rattle.zeb_program.specs.Statuses.{IsFaultStatus, closing_status};
 ghost use Rattle.zeb_program.specs.declared.faults.Fault.TheVariants.{Memory, Refused};
 ghost use Rattle.std.specs.Io.KnownBytes.{Appends};
@@ -20,14 +18,14 @@ ghost use Rattle.std.specs.Io.KnownBytes.{Appends};
 use crate::diagnostics::{is_placed, meaning_of};
 use crate::faults::{Fault, tell};
 use crate::files::read_profile;
-use crate::forms::{Form, form_at};
+use crate::forms::Form;
 use crate::input::TextCause;
 use crate::line_input::InputCause;
 use crate::sinks::Sink;
 use crate::statuses::Status;
 use std::alloc::{AllocError, Global};
 use std::io::Write;
-use zeb_engine::{RecordFault, Refusal};
+use zeb_engine::Refusal;
 use zeb_paths::{Asked, Closed, PathCause, Paths, StoreCause};
 
 /// What is known of why there is a fault.
@@ -121,88 +119,6 @@ fn store_cause(met: Option<StoreCause>) -> Option<Cause>
     met.map(Cause::Store)
 }
 
-/// The path of the file that a refusal is about, which has this number, as a cause, with what is told of it.
-pub fn of_file<P: Paths>(
-    alloc: Global,
-    paths: &P,
-    refusal: &Refusal,
-    number: u64,
-    found: Option<String>,
-) -> Result<Option<Cause>, AllocError>
-    ensures { IfOk result
-        (IsFileCause (P.tells paths.now) (P.explains paths.now) refusal.now number found) }
-{
-    match found {
-        Some(path) => {
-            let met = file_met(alloc, paths, refusal, path.as_str())?;
-            Ok(Some(Cause::File { number, path, met }))
-        }
-        None => Ok(None),
-    }
-}
-
-/// What is told of the file at this path that a refusal is about: why a read failed, or what it is, where it begins with no record.
-fn file_met<P: Paths>(
-    alloc: Global,
-    paths: &P,
-    refusal: &Refusal,
-    path: &str,
-) -> Result<Option<FileCause>, AllocError>
-    ensures { IfOk result
-        (MeetsFile (P.tells paths.now) (P.explains paths.now) refusal.now path.now) }
-{
-    match refusal {
-        Refusal::ReadFault { .. } => Ok(path_met(paths.why_unread(path, Asked::Bytes))),
-        Refusal::Record { nth, fault, .. } => {
-            record_met(alloc, paths, path, lacks_record(*nth, *fault))
-        }
-        _ => Ok(None),
-    }
-}
-
-/// What a path is met with, as what is told of its file.
-fn path_met(met: Option<PathCause>) -> Option<FileCause>
-    ensures { result ≡ option_map PathMet met }
-{
-    met.map(FileCause::Path)
-}
-
-/// Whether a file with this fault of the record of this number begins with no record.
-fn lacks_record(nth: u64, fault: RecordFault) -> bool
-    ensures { result ≡ spec.lacks_record nth fault }
-{
-    match fault {
-        RecordFault::LengthDigits => nth == 1,
-        _ => false,
-    }
-}
-
-/// What is told of the file at this path, which has a faulty record, and begins with no record or with one.
-fn record_met<P: Paths>(
-    alloc: Global,
-    paths: &P,
-    path: &str,
-    lacks: bool,
-) -> Result<Option<FileCause>, AllocError>
-    ensures { IfOk result (MeetsRecord (P.tells paths.now path.now) lacks) }
-{
-    if !lacks {
-        return Ok(None);
-    }
-    let form = form_at(alloc, paths, String::from_str(alloc, path)?)?;
-    Ok(Some(form_cause(form)))
-}
-
-/// What is told of a file that begins with no record, by its form.
-fn form_cause(form: Option<Form>) -> FileCause
-    ensures { result ≡ spec.form_cause form }
-{
-    match form {
-        Some(form) => FileCause::Form(form),
-        None => FileCause::Path(PathCause::NoRecord),
-    }
-}
-
 /// A refusal; of a failed store the cause is this one, of a diagnostic its meaning.
 pub fn of_store(refusal: Refusal, cause: Option<StoreCause>) -> Failure
     ensures fault { result.fault ≡ Refused refusal }
@@ -232,9 +148,7 @@ pub fn tell_failure<W: Write>(
         Writes (W.contents output.old.writer) (W.contents output.new.writer)
         (λ bytes. TellsCaused failure.now.fault failure.now.cause bytes status)) }
     ensures sound { output.new.failed ≡ false → output.old.failed ≡ false }
-    ensures memory { failure.now.fault ≡ Memory → IsErr result }
-    ensures status { IfOk result IsFaultStatus }
-    ensures unread { IsUnread failure.now.fault → IfOk result (λ status. status ≡ Status.Failed) }
+    ensures status { EndsTold failure.now.fault result }
     ensures silent { OnErr result (output.new ≡ output.old) }
 {
     let status = tell(alloc, &failure.fault, output)?;
@@ -252,7 +166,8 @@ pub fn tell_task_failure<P: Paths, W: Write>(
     output: &mut Sink<W>,
 ) -> Result<Status, AllocError>
     ensures told { IfOk result (λ status. output.new.failed ≡ false →
-        Writes (W.contents output.old.writer) (W.contents output.new.writer) (λ bytes. (register : _)
+        Writes (W.contents output.old.writer) (W.contents output.new.writer)
+        (λ bytes. (register : _)
         × NamesRegister (P.tells paths.now (string_bytes config)) config failure.now.fault register
         × TellsPlaced failure.now.fault failure.now.cause register bytes status)) }
     ensures memory { failure.now.fault ≡ Memory → IsErr result }

@@ -1,11 +1,10 @@
 //! Why a command that words or a line name isn't answered, and what is written of it.
 
-ghost use Rattle.std.specs.Prelude.{◌≡◌, false, IfOk, IsErr, OnErr};
+ghost use Rattle.std.specs.Prelude.{◌≡◌, false, IfOk, OnErr};
 ghost use Rattle.zeb_program.specs.Answers.{Writes};
 ghost use Rattle.zeb_program.specs.FaultLines.{TellsFault};
-ghost use Rattle.zeb_program.specs.PrivateFaults.{IsUnread, fault_of};
+ghost use Rattle.zeb_program.specs.PrivateFaults.{EndsTold, IsUnread, fault_of};
 ghost use Rattle.zeb_program.specs.declared.faults.Fault.TheVariants.{Memory};
-ghost use Rattle.zeb_program.specs.Statuses.{IsFaultStatus};
 
 use crate::batch::refuse;
 use crate::sinks::Sink;
@@ -66,9 +65,7 @@ pub fn tell<W: Write>(
         → Writes (W.contents output.old.writer) (W.contents output.new.writer)
         (λ line. TellsFault fault.now line status)) }
     ensures sound { output.new.failed ≡ false → output.old.failed ≡ false }
-    ensures memory { fault.now ≡ Memory → IsErr result }
-    ensures status { IfOk result IsFaultStatus }
-    ensures unread { IsUnread fault.now → IfOk result (λ status. status ≡ Status.Failed) }
+    ensures status { EndsTold fault.now result }
     ensures silent { OnErr result (output.new ≡ output.old) }
 {
     match fault {

@@ -31,11 +31,13 @@ pub fn read_profile<P: Paths>(alloc: Global, paths: &P, file: String) -> Result<
 /// Reads the profile that stands in this file, whose bytes the source gives.
 fn profile_from<R: Source>(alloc: Global, source: &mut R, file: String) -> Result<Profile, Fault>
     requires { R.has_failed source.old ≡ false }
-    ensures read { R.has_failed source.new ≡ false → ReadsProfile (R.remaining source.old) file result }
+    ensures read { R.has_failed source.new ≡ false
+        → ReadsProfile (R.remaining source.old) file result }
     ensures failed { R.has_failed source.new ≡ true → result ≡ Err (Unreadable file) }
     ensures able { R.may_fail source.old ≡ false → R.has_failed source.new ≡ false }
     // Whatever the answer.
-    ensures taken { TakesAtMost (GREATEST_PROFILE + 1) (R.remaining source.old) (R.remaining source.new) }
+    ensures taken { TakesAtMost (GREATEST_PROFILE + 1) (R.remaining source.old)
+        (R.remaining source.new) }
 {
     let text = match read_text(alloc, source, GREATEST_PROFILE) {
         Ok(text) => text,
@@ -67,10 +69,13 @@ pub fn readers_of<P: Paths>(
 ) -> Result<Vec<P::Reader>, Fault>
     // Where the bytes of a file at each path are told, just the readers of these files are given, of which none can fail, or memory
     // runs out.
-    ensures told { (files : List (List ℕ)) → AreTold (P.tells paths.now) (map string_bytes named.now) files
+    ensures told { (files : List (List ℕ))
+        → AreTold (P.tells paths.now) (map string_bytes named.now) files
         → IfOk result (λ readers.
-        map (sure_bytes P.Reader.remaining P.Reader.may_fail P.Reader.has_failed) readers.items ≡ map Some files) }
-    ensures memory { (files : List (List ℕ)) → AreTold (P.tells paths.now) (map string_bytes named.now) files
+        map (sure_bytes P.Reader.remaining P.Reader.may_fail P.Reader.has_failed) readers.items
+        ≡ map Some files) }
+    ensures memory { (files : List (List ℕ))
+        → AreTold (P.tells paths.now) (map string_bytes named.now) files
         → IfErr result (λ fault. fault ≡ Memory) }
     // Of folders too, as far as the paths tell what stands in them.
     ensures given { IfOk result (λ readers. ReadsBelow
@@ -133,11 +138,13 @@ pub fn content_of<P: Paths>(alloc: Global, paths: &P, path: String) -> Result<Ve
 /// The bytes of the file at this path, which the source gives.
 fn content_from<R: Source>(alloc: Global, source: &mut R, path: String) -> Result<Vec<u8>, Fault>
     requires { R.has_failed source.old ≡ false }
-    ensures read { R.has_failed source.new ≡ false → ReadsContent (R.remaining source.old) path result }
+    ensures read { R.has_failed source.new ≡ false
+        → ReadsContent (R.remaining source.old) path result }
     ensures failed { R.has_failed source.new ≡ true → result ≡ Err (Unreadable path) }
     ensures able { R.may_fail source.old ≡ false → R.has_failed source.new ≡ false }
     // Whatever the answer.
-    ensures taken { TakesAtMost (GREATEST_INPUT + 1) (R.remaining source.old) (R.remaining source.new) }
+    ensures taken { TakesAtMost (GREATEST_INPUT + 1) (R.remaining source.old)
+        (R.remaining source.new) }
 {
     match read_whole(alloc, source, GREATEST_INPUT) {
         Ok(content) => Ok(content),

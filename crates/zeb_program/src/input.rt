@@ -1,9 +1,10 @@
 //! Reading a source whole.
 
-ghost use Rattle.std.specs.Prelude.{◌≡◌, ◌↔◌, ◌≤◌, ◌+◌, true, false, length, vec_len, string_bytes, string_len, IfOk, IfSome};
+ghost use Rattle.std.specs.Prelude.{◌≡◌, ◌↔◌, ◌≤◌, ◌+◌, true, false, length, vec_len, IfOk, IfSome};
 ghost use Rattle.std.specs.Io.KnownBytes.{Consumes, IsAtEnd};
 ghost use Rattle.zeb_program.specs.Inputs.{IsTextWithin, TakesAtMost};
 ghost use Rattle.zeb_program.specs.InputCauses.{IsTextCause};
+ghost use Rattle.zeb_program.specs.PrivateFiles.{IsWholeText};
 ghost use Rattle.zeb_program.specs.declared.input.InputFault.TheVariants.{Unreadable, Memory};
 ghost use Rattle.zeb_program.specs.declared.input.TextCause.{TextCause};
 ghost use Rattle.zeb_program.specs.declared.input.TextCause.TheVariants.{FailedRead};
@@ -80,13 +81,12 @@ pub enum TextFault {
 /// taken from it.
 pub fn read_input<R: Source>(alloc: Global, input: &mut R) -> Result<String, TextFault>
     requires sound { R.has_failed input.old ≡ false }
-    ensures text { IfOk result (λ text. IfSome (R.remaining input.old)
-        (λ bytes. string_bytes text ≡ bytes)) }
-    ensures short { IfOk result (λ text. string_len text ≤ GREATEST_INPUT) }
+    ensures text { IfOk result (IsWholeText GREATEST_INPUT (R.remaining input.old)) }
     ensures unreadable { (cause : TextCause) → result ≡ Err (TextUnreadable cause)
         → IsTextCause (R.remaining input.old) (R.has_failed input.new) cause }
     ensures failed { R.has_failed input.new ≡ true → result ≡ Err (TextUnreadable FailedRead) }
-    ensures taken { TakesAtMost (GREATEST_INPUT + 1) (R.remaining input.old) (R.remaining input.new) }
+    ensures taken { TakesAtMost (GREATEST_INPUT + 1) (R.remaining input.old)
+        (R.remaining input.new) }
 {
     match read_whole(alloc, input, GREATEST_INPUT) {
         Ok(bytes) => match String::from_utf8(bytes) {
@@ -110,9 +110,7 @@ pub fn read_text<R: Source>(
 ) -> Result<String, InputFault>
     requires sound { R.has_failed source.old ≡ false }
     requires bounded { most ≤ GREATEST_INPUT }
-    ensures text { IfOk result (λ text. IfSome (R.remaining source.old)
-        (λ bytes. string_bytes text ≡ bytes)) }
-    ensures short { IfOk result (λ text. string_len text ≤ most) }
+    ensures text { IfOk result (IsWholeText most (R.remaining source.old)) }
     // A source that tells its bytes and doesn't fail is refused only for what they are, or for memory.
     ensures unreadable { result ≡ Err Unreadable → R.has_failed source.new ≡ false →
         IfSome (R.remaining source.old) (λ bytes. ¬ IsTextWithin most bytes) }

@@ -9,6 +9,7 @@ mod digits;
 mod explaining;
 mod failures;
 mod faults;
+mod file_causes;
 mod files;
 mod forms;
 mod input;

@@ -80,8 +80,9 @@ pub fn perform<P: Paths>(
         (telling (P.tells paths.new) (P.stands paths.new) (P.lists paths.new)) task.now
         (option_map string_bytes told.warning)) }
     ensures performs { GivesClosed result (Performs (places P.Store.Store P.tells P.stands P.lists
-        P.explains P.opens P.refuses P.lacks P.has P.lets_go P.leaves paths.old paths.new) choice config
-        task.now) (ExplainsRun (places P.Store.Store P.tells P.stands P.lists P.explains P.opens
+        P.explains P.opens P.refuses P.lacks P.has P.lets_go P.leaves paths.old paths.new) choice
+        config task.now)
+        (ExplainsRun (places P.Store.Store P.tells P.stands P.lists P.explains P.opens
         P.refuses P.lacks P.has P.lets_go P.leaves paths.old paths.new) config task.now) }
 {
     let profile = match profile_at(alloc, paths, config) {

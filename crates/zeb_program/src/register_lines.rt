@@ -1,12 +1,11 @@
 //! The lines of the input on a register that is open: they are run, and it is closed behind the last.
 
-ghost use Rattle.std.specs.Prelude.{◌≡◌, ◌≢◌, false, true, IfOk, OnErr};
-ghost use Rattle.std.specs.Io.KnownBytes.{IsAtEnd};
+ghost use Rattle.std.specs.Prelude.{◌≡◌, false, IfOk};
 ghost use Rattle.zeb_change.specs.Conditions.{conditions};
 ghost use Rattle.zeb_paths.specs.Walks.{telling};
 ghost use Rattle.zeb_register.specs.Formats.{version_of};
 ghost use Rattle.zeb_program.specs.Doing.{DoesBatch, DoesShell};
-ghost use Rattle.zeb_program.specs.PrivateWordRuns.{ClosesAloud, EndsSession, Grows, LeavesHeld, RunsIn, ServesIn, StopsIn, StopsServing, format_of};
+ghost use Rattle.zeb_program.specs.PrivateWordRuns.{ClosesAloud, EndsSession, EndsStarved, LeavesHeld, RunsIn, ServesIn, ShowsReading, StopsIn, StopsServing, format_of};
 
 use crate::batch::run_lines;
 use crate::failures::tell_closed;
@@ -42,15 +41,14 @@ pub fn run_on<W: Write, V: Write, P: Paths>(
         batch.entry.lines_before batch.entry.text.now register.0.connection
         (W.contents output.old.writer) (W.contents output.new.writer)
         (V.contents fault_output.old.writer) (V.contents fault_output.new.writer) status) }
-    ensures stopped { OnErr result (output.new.failed ≡ false → fault_output.new.failed ≡ false
-        → StopsIn P.Store.Store (P.leaves paths.now) (telling (P.tells paths.now)
+    ensures stopped { EndsStarved result output.new.failed fault_output.new.failed
+        (V.contents fault_output.old.writer) (V.contents fault_output.new.writer)
+        (StopsIn P.Store.Store (P.leaves paths.now) (telling (P.tells paths.now)
         (P.stands paths.now) (P.lists paths.now)) (format_of register.1)
         (conditions (version_of (format_of register.1)) register.0.profile register.0.limits)
         batch.entry.lines_before batch.entry.text.now
         register.0.connection (W.contents output.old.writer) (W.contents output.new.writer)
         (V.contents fault_output.old.writer) (V.contents fault_output.new.writer)) }
-    ensures grows { OnErr result (fault_output.new.failed ≡ false
-        → Grows (V.contents fault_output.old.writer) (V.contents fault_output.new.writer)) }
     // What becomes of the store, whatever is written.
     ensures store { LeavesHeld P.Store.Store (P.leaves paths.now) register.0.connection
         (DoesBatch P.Store.Store (telling (P.tells paths.now) (P.stands paths.now)
@@ -84,14 +82,13 @@ fn run_in<L: Layout, W: Write, V: Write, P: Paths>(
         batch.entry.lines_before batch.entry.text.now session.connection
         (W.contents output.old.writer) (W.contents output.new.writer)
         (V.contents fault_output.old.writer) (V.contents fault_output.new.writer) status) }
-    ensures stopped { OnErr result (output.new.failed ≡ false → fault_output.new.failed ≡ false
-        → StopsIn P.Store.Store (P.leaves paths.now) (telling (P.tells paths.now)
+    ensures stopped { EndsStarved result output.new.failed fault_output.new.failed
+        (V.contents fault_output.old.writer) (V.contents fault_output.new.writer)
+        (StopsIn P.Store.Store (P.leaves paths.now) (telling (P.tells paths.now)
         (P.stands paths.now) (P.lists paths.now)) L.format (conditions (version_of L.format)
         session.profile session.limits) batch.entry.lines_before batch.entry.text.now
         session.connection (W.contents output.old.writer) (W.contents output.new.writer)
         (V.contents fault_output.old.writer) (V.contents fault_output.new.writer)) }
-    ensures grows { OnErr result (fault_output.new.failed ≡ false
-        → Grows (V.contents fault_output.old.writer) (V.contents fault_output.new.writer)) }
     ensures store { LeavesHeld P.Store.Store (P.leaves paths.now) session.connection
         (DoesBatch P.Store.Store (telling (P.tells paths.now) (P.stands paths.now)
         (P.lists paths.now)) L.format (conditions (version_of L.format) session.profile
@@ -112,10 +109,7 @@ pub fn serve_on<R: Source, W: Output, V: Write, P: Paths>(
     fault_output: &mut Sink<V>,
 ) -> Result<Status, AllocError>
     requires { R.has_failed input.old ≡ false }
-    ensures failed_read { R.has_failed input.new ≡ true
-        → IfOk result (λ status. status ≡ Status.Failed) }
-    ensures whole { IfOk result (λ status. status ≢ Status.Failed
-        → IsAtEnd (R.remaining input.new)) }
+    ensures read { ShowsReading (R.has_failed input.new) (R.remaining input.new) result }
     ensures answer { IfOk result (λ status. output.new.failed ≡ false
         → fault_output.new.failed ≡ false → ServesIn P.Store.Store (P.leaves paths.now)
         (telling (P.tells paths.now) (P.stands paths.now) (P.lists paths.now))
@@ -124,15 +118,14 @@ pub fn serve_on<R: Source, W: Output, V: Write, P: Paths>(
         (R.remaining input.old) (R.remaining input.new) (R.has_failed input.new)
         register.0.connection (W.contents output.old.writer) (W.contents output.new.writer)
         (V.contents fault_output.old.writer) (V.contents fault_output.new.writer) status) }
-    ensures stopped { OnErr result (output.new.failed ≡ false → fault_output.new.failed ≡ false
-        → StopsServing P.Store.Store (P.leaves paths.now) (telling (P.tells paths.now)
+    ensures stopped { EndsStarved result output.new.failed fault_output.new.failed
+        (V.contents fault_output.old.writer) (V.contents fault_output.new.writer)
+        (StopsServing P.Store.Store (P.leaves paths.now) (telling (P.tells paths.now)
         (P.stands paths.now) (P.lists paths.now)) (format_of register.1)
         (conditions (version_of (format_of register.1)) register.0.profile register.0.limits)
         (R.remaining input.old) (R.remaining input.new)
         register.0.connection (W.contents output.old.writer) (W.contents output.new.writer)
         (V.contents fault_output.old.writer) (V.contents fault_output.new.writer)) }
-    ensures grows { OnErr result (fault_output.new.failed ≡ false
-        → Grows (V.contents fault_output.old.writer) (V.contents fault_output.new.writer)) }
     // What becomes of the store, whatever is written.
     ensures store { LeavesHeld P.Store.Store (P.leaves paths.now) register.0.connection
         (DoesShell P.Store.Store (telling (P.tells paths.now) (P.stands paths.now)
@@ -159,10 +152,7 @@ fn serve_in<L: Layout, R: Source, W: Output, V: Write, P: Paths>(
     fault_output: &mut Sink<V>,
 ) -> Result<Status, AllocError>
     requires { R.has_failed input.old ≡ false }
-    ensures failed_read { R.has_failed input.new ≡ true
-        → IfOk result (λ status. status ≡ Status.Failed) }
-    ensures whole { IfOk result (λ status. status ≢ Status.Failed
-        → IsAtEnd (R.remaining input.new)) }
+    ensures read { ShowsReading (R.has_failed input.new) (R.remaining input.new) result }
     ensures answer { IfOk result (λ status. output.new.failed ≡ false
         → fault_output.new.failed ≡ false → ServesIn P.Store.Store (P.leaves paths.now)
         (telling (P.tells paths.now) (P.stands paths.now) (P.lists paths.now)) L.format
@@ -170,15 +160,14 @@ fn serve_in<L: Layout, R: Source, W: Output, V: Write, P: Paths>(
         (R.remaining input.old) (R.remaining input.new) (R.has_failed input.new)
         session.connection (W.contents output.old.writer) (W.contents output.new.writer)
         (V.contents fault_output.old.writer) (V.contents fault_output.new.writer) status) }
-    ensures stopped { OnErr result (output.new.failed ≡ false → fault_output.new.failed ≡ false
-        → StopsServing P.Store.Store (P.leaves paths.now) (telling (P.tells paths.now)
+    ensures stopped { EndsStarved result output.new.failed fault_output.new.failed
+        (V.contents fault_output.old.writer) (V.contents fault_output.new.writer)
+        (StopsServing P.Store.Store (P.leaves paths.now) (telling (P.tells paths.now)
         (P.stands paths.now) (P.lists paths.now)) L.format
         (conditions (version_of L.format)
         session.profile session.limits) (R.remaining input.old) (R.remaining input.new)
         session.connection (W.contents output.old.writer) (W.contents output.new.writer)
         (V.contents fault_output.old.writer) (V.contents fault_output.new.writer)) }
-    ensures grows { OnErr result (fault_output.new.failed ≡ false
-        → Grows (V.contents fault_output.old.writer) (V.contents fault_output.new.writer)) }
     ensures store { LeavesHeld P.Store.Store (P.leaves paths.now) session.connection
         (DoesShell P.Store.Store (telling (P.tells paths.now) (P.stands paths.now)
         (P.lists paths.now)) L.format (conditions (version_of L.format) session.profile

@@ -1,6 +1,6 @@
 //! A shell: the lines of the input in one session, each answered before the next is read.
 
-ghost use Rattle.std.specs.Prelude.{◌≡◌, ◌≢◌, ◌⊎◌, ◌↔◌, [], true, false, IfErr, IfOk, IfSome, MatchResult, OnErr};
+ghost use Rattle.std.specs.Prelude.{◌≡◌, ◌↔◌, [], true, false, IfErr, IfOk, IfSome, MatchResult, OnErr};
 ghost use Rattle.std.specs.Io.KnownBytes.{IsAtEnd};
 ghost use Rattle.sqlite.specs.Held.{state};
 ghost use Rattle.sqlite.specs.State.{HasCleanDisk};
@@ -11,7 +11,8 @@ ghost use Rattle.zeb_program.specs.Answers.{AnswersAsTold, Writes};
 ghost use Rattle.zeb_program.specs.Doing.{DoesLine, DoesShell, RunsText, ServesText, StopsLine, StopsText};
 ghost use Rattle.zeb_program.specs.Lines.{first_line, after_first_line};
 ghost use Rattle.zeb_program.specs.OverTables.{LineOver};
-ghost use Rattle.zeb_program.specs.PrivateShell.{AnswersNextLine, ComesTo, StopsAtLine};
+ghost use Rattle.zeb_program.specs.PrivateShell.{AnswersNextLine, ComesTo, EndsInput, StopsAtLine};
+ghost use Rattle.zeb_program.specs.PrivateWordRuns.{ShowsReading};
 ghost use Rattle.zeb_program.specs.Serving.{LeadsOn};
 ghost use Rattle.zeb_program.specs.declared.line_input.InputCause.TheVariants.{FailedRead};
 ghost use Rattle.zeb_program.specs.declared.line_input.LineFault.TheVariants.{Unreadable, Memory};
@@ -65,10 +66,7 @@ pub fn serve_lines<R: Source, S: Alter, L: Layout, P: Paths, W: Output, V: Write
         (telling (P.tells paths.now) (P.stands paths.now) (P.lists paths.now)) L.format
         (conditions (version_of L.format) session.old.profile session.old.limits)
         (R.remaining input.old) session.old.connection session.new.connection }
-    ensures failed_read { R.has_failed input.new ≡ true
-        → IfOk result (λ status. status ≡ Status.Failed) }
-    ensures whole { IfOk result (λ status. status ≢ Status.Failed
-        → IsAtEnd (R.remaining input.new)) }
+    ensures read { ShowsReading (R.has_failed input.new) (R.remaining input.new) result }
 {
     match run_shell_lines(alloc, session, paths, input, output) {
         Ok(status) => Ok(status),
@@ -118,10 +116,9 @@ pub fn run_shell_lines<R: Source, S: Alter, L: Layout, P: Paths, W: Output>(
         (telling (P.tells paths.now) (P.stands paths.now) (P.lists paths.now)) L.format
         (conditions (version_of L.format) session.old.profile session.old.limits)
         (R.remaining input.old) session.old.connection session.new.connection }
-    ensures failed { result ≡ Err (Unreadable FailedRead) ↔ R.has_failed input.new ≡ true }
     // Only where a write failed a line may be left.
-    ensures whole { IfOk result (λ status. ((status ≡ Status.Failed) × (output.new.failed ≡ true))
-        ⊎ IsAtEnd (R.remaining input.new)) }
+    ensures ends { EndsInput (R.has_failed input.new) output.new.failed (R.remaining input.new)
+        result }
 {
     let mut greatest = Status::Answered;
     // It has no measure: only its writer ends an input, and a line's number is told.
@@ -208,8 +205,9 @@ fn run_bytes<S: Alter, L: Layout, P: Paths, W: Write>(
         session.old.limits) number
         (first_line bytes.items) session.old.connection written status session.new.connection)) }
     ensures does { MatchResult result
-        (λ _. HasCleanDisk (state S.Store session.new.connection) → after_first_line bytes.items ≡ []
-        → DoesLine S.Store (telling (P.tells paths.now) (P.stands paths.now) (P.lists paths.now))
+        (λ _. HasCleanDisk (state S.Store session.new.connection)
+        → after_first_line bytes.items ≡ [] → DoesLine S.Store
+        (telling (P.tells paths.now) (P.stands paths.now) (P.lists paths.now))
         L.format (conditions (version_of L.format) session.old.profile session.old.limits) number
         (first_line bytes.items) session.old.connection session.new.connection)
         (λ _. (output.new ≡ output.old)

@@ -13,7 +13,7 @@ ghost use Rattle.zeb_program.specs.PrivateFaults.{IsUnread};
 ghost use Rattle.zeb_program.specs.Errands.{choice_of};
 ghost use Rattle.zeb_program.specs.FaultAnswers.{GivesAnswer, Reaches};
 ghost use Rattle.zeb_program.specs.OverTables.{AnalysesOver, ChangesOver, ServesOver};
-ghost use Rattle.zeb_program.specs.PrivateServing.{CarriesOut, StandsFor};
+ghost use Rattle.zeb_program.specs.PrivateServing.{CarriesOut, KeepsStill, StandsFor};
 ghost use Rattle.zeb_program.specs.Serving.{AnswersFrom};
 ghost use Rattle.zeb_program.specs.TaskAnswers.{AnswersCommand, AreTold, ReadsWhole, paths_of};
 ghost use Rattle.zeb_program.specs.PrivateWarnings as spec;
@@ -179,11 +179,9 @@ pub fn carry_out<S: Alter, L: Layout, P: Paths>(
         (telling (P.tells paths.now) (P.stands paths.now) (P.lists paths.now)) L.format
         (conditions (version_of L.format) session.old.profile session.old.limits) task.now
         (state S.Store session.old.connection) (state S.Store session.new.connection) answer }
-    ensures clean { HasCleanDisk (state S.Store session.new.connection)
-        → HasCleanDisk (state S.Store session.old.connection) }
     // An analysis leaves the connection as it is, whatever it is answered. Where something couldn't be read, the register was asked for nothing.
-    ensures still { (ReadsWhole task.now → session.new.connection ≡ session.old.connection)
-        × IfErr result (λ fault. IsUnread fault → session.new ≡ session.old) }
+    ensures still { KeepsStill S.Store task.now result session.old.connection
+        session.new.connection (session.new ≡ session.old) }
     // Where the bytes of a file at each path are told; and of another task than an analysis nothing is to be warned of.
     ensures unmarked { (files : List (List ℕ)) → AreTold (P.tells paths.now) (paths_of task.now)
         files → IfOk result (λ served. spec.warned_in served

@@ -112,8 +112,8 @@ returns-clause-changes g c clean mode store =
           takes.0.2,
           settled_at g.L.Layout.format g.L.Layout.row_work c.args.fold.now.progress.database.0 mid new c.fold_readers.new.pending c.write_pending.new.pending c.fold_readers.new.fold c.write_pending.new.work
               (does.written clean takes.1 takes.2)
-              (beside_id c.fold_readers.new.fold.progress.database.0 c.args.fold.now.progress.database.0 mid.now.trees new.now.trees same (c.in_ok-write_pending.ensures.beside clean takes.1 takes.2))
-              (c.in_ok-write_pending.ensures.malformed clean takes.1 takes.2) c.counts_are_numbers.ensures,
+              (beside_id c.fold_readers.new.fold.progress.database.0 c.args.fold.now.progress.database.0 mid.now.trees new.now.trees same (c.in_ok-write_pending.ensures.keeps clean takes.1 takes.2).beside)
+              (c.in_ok-write_pending.ensures.keeps clean takes.1 takes.2).malformed c.counts_are_numbers.ensures,
         ),
         c.in_ok-write_pending.ensures.all,
       ),

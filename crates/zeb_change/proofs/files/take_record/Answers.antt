@@ -78,6 +78,6 @@ returns-clause-takes g c clean mode store =
       folds.0,
       settled_at g.L.Layout.format g.L.Layout.row_work c.args.fold.now.progress.database.0 mid new c.note_record.new.pending c.write_where_full.new.pending c.note_record.new.fold c.write_where_full.new.work
           (does.written clean folds.1 folds.2)
-          (beside_id c.note_record.new.fold.progress.database.0 c.args.fold.now.progress.database.0 mid.now.trees new.now.trees same (c.in_ok-write_where_full.ensures.beside clean folds.1 folds.2))
-          (c.in_ok-write_where_full.ensures.malformed clean folds.1 folds.2) c.counts_are_numbers.ensures,
+          (beside_id c.note_record.new.fold.progress.database.0 c.args.fold.now.progress.database.0 mid.now.trees new.now.trees same (c.in_ok-write_where_full.ensures.keeps clean folds.1 folds.2).beside)
+          (c.in_ok-write_where_full.ensures.keeps clean folds.1 folds.2).malformed c.counts_are_numbers.ensures,
     )

@@ -10,8 +10,7 @@ returns-clause-call g c = record {
   crash = search rules;
 }
 
-pub returns-clause-malformed : goal.returns-clause-malformed
-returns-clause-malformed g c clean mode store = malformed_seen g.L.Layout.format (state g.S.Store c.args.tx.now.conn.now).now (state g.S.Store c.args.tx.now.conn.now).now refl
-
-pub returns-clause-beside : goal.returns-clause-beside
-returns-clause-beside g c clean mode store = beside_seen (Int c.args.db.0 ∷ []) (state g.S.Store c.args.tx.now.conn.now).now (state g.S.Store c.args.tx.now.conn.now).now refl
+pub returns-clause-keeps : goal.returns-clause-keeps
+returns-clause-keeps g c clean mode store =
+    let same = (state g.S.Store c.args.tx.now.conn.now).now in
+    record { beside = beside_seen (Int c.args.db.0 ∷ []) same same refl; malformed = malformed_seen g.L.Layout.format same same refl }

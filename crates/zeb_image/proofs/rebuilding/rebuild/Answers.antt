@@ -1,4 +1,4 @@
-use Rattle.zeb_image.proofs.Cited.{◌≡◌, ◌∙◌, ◌+◌, ◌++◌, ◌∷◌, ℤ, [], pos, IsTrue, List, Result, Err, map, take, drop, suc, inl, inr, refl, sym, ap, subst, arith, rules, string_bytes, map-append, take_more, take_all, split_at, Database, state, HasCleanDisk, State, Has, has_either, has_right, Directive, ListedDatabase, RegFault, Damaged, GoesOn, OnlyReads, AreDatabases, Format, holds_in, HasDatabase, IsStore, KeepsLists, store_same, registers_empty, Continues, keeps_then, goes_on, kept_then, HoldsSuch, LacksDatabase, AreSoundIn}
+use Rattle.zeb_image.proofs.Cited.{◌≡◌, ◌∙◌, ◌+◌, ◌++◌, ◌∷◌, ℤ, [], pos, IsTrue, List, Result, Err, map, take, drop, suc, inl, inr, refl, sym, ap, subst, arith, rules, string_bytes, map-append, take_more, take_all, split_at, Database, state, HasCleanDisk, State, Has, has_either, has_right, Directive, ListedDatabase, RegFault, Damaged, GoesOn, OnlyReads, AreDatabases, Format, holds_in, HasDatabase, IsStore, KeepsLists, store_same, registers_empty, Continues, keeps_then, goes_on, kept_then, HoldsSuch, LacksDatabase, AreReadableLists, AreSound, AreSoundIn, Rebuilds}
 use Rattle.zeb_image.proofs.RebuiltImages.{id_in, listed_id, listed_there, lists_readable, lists_sound, new_id, readable_databases, rebuilt, same_databases}
 use Rattle.zeb_image.proofs.RebuiltPostings.{ArePostedIn, more_posted, new_lacks, nothing_posted, posted_still, readable_still, sound_still, sound_then}
 use Rattle.zeb_image.proofs.rebuilding.rebuild.Given as given
@@ -127,62 +127,70 @@ loop-database-preserved g c =
           };
     }
 
-pub returns-clause-built : goal.returns-clause-built
-returns-clause-built g c = λ clean mode store.
+pub returns-clause-rebuilds : goal.returns-clause-rebuilds
+returns-clause-rebuilds g c clean mode store =
     let old = state g.S.Store c.args.tx.now.conn.now in
     let new = state g.S.Store c.loop-database.tx.conn.now in
+    let profile = c.args.profile.now in
     let items = c.deref-database-items.result.now in
     let index = c.loop-database.database-index in
     let all : take index items ≡ items = take_all index items (omega (arith, c.loop-database-test.false, c.loop-database.auto.database-index-end)) in
     let kept = c.loop-database.invariant.kept clean mode store in
     let are = c.loop-database.invariant.listed clean mode store in
     let such = c.loop-database.invariant.posted clean mode store in
-    let posted = subst (λ l. ArePostedIn c.args.profile.now old.now.trees (map id_in l) such.content) all such.is in (
-      kept.0,
-      kept.1,
-      λ bases these sound.
-          rebuilt c.args.profile.now old.now.trees bases these g.L.Layout.format new.now.trees kept.1 (map id_in items) (listed_id old store items are) such.content such.held posted,
-    )
+    let posted = subst (λ l. ArePostedIn profile old.now.trees (map id_in l) such.content) all such.is in
+    record {
+      built = (
+        kept.0,
+        kept.1,
+        λ bases these sound. rebuilt profile old.now.trees bases these g.L.Layout.format new.now.trees kept.1 (map id_in items) (listed_id old store items are) such.content such.held posted,
+      );
+      checked = λ id name last there.
+          let it = (are.each id name last).0 there in
+          subst (AreSoundIn profile old.now.trees) (sym it.2) (c.loop-database.invariant.checked clean mode store it.0 (subst (λ l. Has l it.0) (sym all) it.1));
+      damaged = λ told. absurd cc;
+      honest = λ told. absurd cc;
+    }
 
-pub returns-clause-checked : goal.returns-clause-checked
-returns-clause-checked g c = λ clean mode store id name last there.
-    let profile = c.args.profile.now in
-    let items = c.deref-database-items.result.now in
-    let index = c.loop-database.database-index in
-    let all : take index items ≡ items = take_all index items (omega (arith, c.loop-database-test.false, c.loop-database.auto.database-index-end)) in
-    let it = ((c.loop-database.invariant.listed clean mode store).each id name last).0 there in
-    subst (AreSoundIn profile (state g.S.Store c.args.tx.now.conn.now).now.trees) (sym it.2) (c.loop-database.invariant.checked clean mode store it.0 (subst (λ l. Has l it.0) (sym all) it.1))
+-- where damage is told of no sound lists that can be read, it is told of none of databases that can be held
+refused_so : (format : Format) (profile : List Directive) (old new : State) (fault : RegFault) (result : Result (Unit {0}) RegFault) → result ≡ Err fault
+    → (result ≡ Err Damaged → AreReadableLists old.now.trees → ¬ AreSound profile old.now.trees) → Rebuilds format profile old new result
+refused_so format profile old new fault result is damaged =
+    let lists = old.now.trees in
+    record {
+      built = rw is tt;
+      checked = rw is tt;
+      damaged = damaged;
+      honest = λ told bases these are. damaged told (lists_readable profile lists bases these are) (lists_sound profile lists bases these are);
+    }
 
 -- what can be read is read
-pub returns-in_err-databases-clause-damaged : goal.returns-in_err-databases-clause-damaged
-returns-in_err-databases-clause-damaged g c = λ clean mode store told readable sound.
+pub returns-in_err-databases-clause-rebuilds : goal.returns-in_err-databases-clause-rebuilds
+returns-in_err-databases-clause-rebuilds g c clean mode store =
     let old = state g.S.Store c.args.tx.now.conn.now in
     let wiped = state g.S.Store c.registers_wipe.new.tx.conn.now in
+    let new = state g.S.Store c.databases_inside.new.tx.conn.now in
     let clean_wiped : HasCleanDisk wiped = omega (arith, c.databases_inside.ensures.call.crash.clean) in
     let done = c.in_ok-registers_wipe.ensures.call.ok clean_wiped mode in
+    refused_so g.L.Layout.format c.args.profile.now old new c.in_err-databases.field-0.0 c.from_residual-in_err-databases.result (search rules) (λ told readable sound.
     let fault : c.databases_inside.result ≡ Err Damaged = search rules in
-    c.databases_inside.ensures.honest clean done.0.mode (done.1 store).0 fault (readable_databases old.now.trees wiped.now.trees (done.1 store).2 readable.databases)
-
-pub returns-in_err-databases-clause-honest : goal.returns-in_err-databases-clause-honest
-returns-in_err-databases-clause-honest g c = λ clean mode store told bases these are.
-    let lists = (state g.S.Store c.args.tx.now.conn.now).now.trees in
-    returns-in_err-databases-clause-damaged g c clean mode store told (lists_readable c.args.profile.now lists bases these are) (lists_sound c.args.profile.now lists bases these are)
+    c.databases_inside.ensures.honest clean done.0.mode (done.1 store).0 fault (readable_databases old.now.trees wiped.now.trees (done.1 store).2 readable.databases))
 
 -- the database has no posting yet, and so one of its records isn't sound
-pub returns-in_err-database_post-clause-damaged : goal.returns-in_err-database_post-clause-damaged
-returns-in_err-database_post-clause-damaged g c = λ clean mode store told readable sound.
-    let base = next_listed g (goal.at.returns-in_err-database_post-clause-damaged g c).After-database_post clean mode store in
+pub returns-in_err-database_post-clause-rebuilds : goal.returns-in_err-database_post-clause-rebuilds
+returns-in_err-database_post-clause-rebuilds g c clean mode store =
+    let base = next_listed g (goal.at.returns-in_err-database_post-clause-rebuilds g c).After-database_post clean mode store in
     let old = state g.S.Store c.args.tx.now.conn.now in
     let now = state g.S.Store c.loop-database.tx.conn.now in
+    let new = state g.S.Store c.database_post.new.tx.conn.now in
+    let profile = c.args.profile.now in
     let item = c.database-item.result in
-    let passed : c.from_residual-in_err-database_post.result ≡ Err c.in_err-database_post.field-0.0 = search rules in
-    c.in_err-database_post.ensures.posts clean base.on.mode base.kept.0 (fault_same c.in_err-database_post.field-0.0 c.from_residual-in_err-database_post.result passed told) base.such.content base.such.held base.such.storable base.lacks
-    (readable_still old.now.trees now.now.trees base.kept.1 item.id.0 (readable.records item.id.0 (string_bytes item.name) (pos item.last) base.there), sound_then old.now.trees now.now.trees base.kept.1 c.args.profile.now item.id.0 (sound item.id.0 (string_bytes item.name) (pos item.last) base.there))
-
-pub returns-in_err-database_post-clause-honest : goal.returns-in_err-database_post-clause-honest
-returns-in_err-database_post-clause-honest g c = λ clean mode store told bases these are.
-    let lists = (state g.S.Store c.args.tx.now.conn.now).now.trees in
-    returns-in_err-database_post-clause-damaged g c clean mode store told (lists_readable c.args.profile.now lists bases these are) (lists_sound c.args.profile.now lists bases these are)
+    let failed = c.in_err-database_post.field-0.0 in
+    let result = c.from_residual-in_err-database_post.result in
+    let passed : result ≡ Err failed = search rules in
+    refused_so g.L.Layout.format profile old new failed result passed (λ told readable sound.
+    c.in_err-database_post.ensures.posts clean base.on.mode base.kept.0 (fault_same failed result passed told) base.such.content base.such.held base.such.storable base.lacks
+    (readable_still old.now.trees now.now.trees base.kept.1 item.id.0 (readable.records item.id.0 (string_bytes item.name) (pos item.last) base.there), sound_then old.now.trees now.now.trees base.kept.1 profile item.id.0 (sound item.id.0 (string_bytes item.name) (pos item.last) base.there)))
 
 pub returns-in_err-database_post-clause-call : goal.returns-in_err-database_post-clause-call
 returns-in_err-database_post-clause-call g c =

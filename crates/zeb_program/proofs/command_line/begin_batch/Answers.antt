@@ -8,7 +8,7 @@ use Rattle.zeb_program.proofs.WordRunLemmas.{profile_fault}
 use Rattle.zeb_program.proofs.command_line.begin_batch.Goals as goal
 
 pub returns-in-Ok-clause-begun : goal.returns-in-Ok-clause-begun
-returns-in-Ok-clause-begun g c = (c.in_ok-profile.ensures.read, (text_input c.in-Ok.text c.in-Ok.ensures.short, c.in-Ok.ensures.text))
+returns-in-Ok-clause-begun g c = (c.in_ok-profile.ensures.read, (text_input c.in-Ok.text c.in-Ok.ensures.text.0, c.in-Ok.ensures.text.1))
 
 pub returns-in_err-profile-clause-refused : goal.returns-in_err-profile-clause-refused
 returns-in_err-profile-clause-refused g c =

@@ -14,7 +14,7 @@ use Rattle.zeb_program.proofs.WordRunLemmas.{shell_served, shell_unopened}
 use Rattle.zeb_program.proofs.command_line.run_shell.Goals as goal
 
 pub returns-in-Ok-clause-whole : goal.returns-in-Ok-clause-whole
-returns-in-Ok-clause-whole g c = shell_read c.serve_on.result _ _ c.serve_on.ensures.whole
+returns-in-Ok-clause-whole g c = shell_read c.serve_on.result _ _ c.serve_on.ensures.read.1
 
 pub returns-in-Err-clause-whole : goal.returns-in-Err-clause-whole
 returns-in-Err-clause-whole g c = shell_refused c.tell_unanswered.result _ _ refl
@@ -34,18 +34,24 @@ returns-in-Err-clause-answer g c =
 pub returns-in-Ok-clause-stopped : goal.returns-in-Ok-clause-stopped
 returns-in-Ok-clause-stopped g c =
     let register = c.in-Ok.register in
-    let format = format_of register.1 in
-    stop_serving (places g.P.Store.Store g.P.Paths.tells g.P.Paths.stands g.P.Paths.lists g.P.Paths.explains g.P.Paths.opens g.P.Paths.refuses g.P.Paths.lacks g.P.Paths.has g.P.Paths.lets_go g.P.Paths.leaves c.args.paths.now c.open.new.paths) c.args.config format (conditions (version_of format) register.0.profile register.0.limits) register.0.connection
-    _ _ _ _ _ _ _ _ c.serve_on.result c.in-Ok.ensures.opened c.serve_on.ensures.stopped
+    let format = format_of register.1 in (
+      c.serve_on.ensures.stopped.0,
+      stop_serving (places g.P.Store.Store g.P.Paths.tells g.P.Paths.stands g.P.Paths.lists g.P.Paths.explains g.P.Paths.opens g.P.Paths.refuses g.P.Paths.lacks g.P.Paths.has g.P.Paths.lets_go g.P.Paths.leaves c.args.paths.now c.open.new.paths) c.args.config format (conditions (version_of format) register.0.profile register.0.limits) register.0.connection
+          _ _ _ _ _ _ _ _ c.serve_on.result c.in-Ok.ensures.opened c.serve_on.ensures.stopped.1,
+    )
 
 pub returns-in-Err-clause-stopped : goal.returns-in-Err-clause-stopped
-returns-in-Err-clause-stopped g c =
-    stop_unserved (places g.P.Store.Store g.P.Paths.tells g.P.Paths.stands g.P.Paths.lists g.P.Paths.explains g.P.Paths.opens g.P.Paths.refuses g.P.Paths.lacks g.P.Paths.has g.P.Paths.lets_go g.P.Paths.leaves c.args.paths.now c.open.new.paths) c.args.config _ _ _ _ c.in-Err.refused.failure.fault c.in-Err.refused.failure.cause c.in-Err.refused.closed _ _ c.tell_unanswered.result c.in-Err.ensures.failed c.tell_unanswered.ensures.stopped
+returns-in-Err-clause-stopped g c = (
+  unopened_grows c.in-Err.refused.closed (g.V.Write.contents c.args.fault_output.now.writer) (g.V.Write.contents c.tell_unanswered.new.output.writer) c.tell_unanswered.result c.tell_unanswered.new.output.failed c.tell_unanswered.ensures.stopped,
+  stop_unserved (places g.P.Store.Store g.P.Paths.tells g.P.Paths.stands g.P.Paths.lists g.P.Paths.explains g.P.Paths.opens g.P.Paths.refuses g.P.Paths.lacks g.P.Paths.has g.P.Paths.lets_go g.P.Paths.leaves c.args.paths.now c.open.new.paths) c.args.config _ _ _ _ c.in-Err.refused.failure.fault c.in-Err.refused.failure.cause c.in-Err.refused.closed _ _ c.tell_unanswered.result c.in-Err.ensures.failed c.tell_unanswered.ensures.stopped,
+)
 
 -- there is no memory for the name of the profile's file
 pub returns-in_err-named-clause-stopped : goal.returns-in_err-named-clause-stopped
-returns-in_err-named-clause-stopped g c =
-    on_err c.from_residual.result _ (λ _ _. stop_unnamed (places g.P.Store.Store g.P.Paths.tells g.P.Paths.stands g.P.Paths.lists g.P.Paths.explains g.P.Paths.opens g.P.Paths.refuses g.P.Paths.lacks g.P.Paths.has g.P.Paths.lets_go g.P.Paths.leaves c.args.paths.now c.args.paths.now) c.args.config _ (g.W.Write.contents c.args.output.now.writer) (g.V.Write.contents c.args.fault_output.now.writer) refl)
+returns-in_err-named-clause-stopped g c = (
+  unbegun_grows c.from_residual.result c.args.fault_output.now.failed (g.V.Write.contents c.args.fault_output.now.writer),
+  on_err c.from_residual.result _ (λ _ _. stop_unnamed (places g.P.Store.Store g.P.Paths.tells g.P.Paths.stands g.P.Paths.lists g.P.Paths.explains g.P.Paths.opens g.P.Paths.refuses g.P.Paths.lacks g.P.Paths.has g.P.Paths.lets_go g.P.Paths.leaves c.args.paths.now c.args.paths.now) c.args.config _ (g.W.Write.contents c.args.output.now.writer) (g.V.Write.contents c.args.fault_output.now.writer) refl),
+)
 
 pub returns-in-Ok-clause-store : goal.returns-in-Ok-clause-store
 returns-in-Ok-clause-store g c =
@@ -64,9 +70,3 @@ pub returns-in_err-named-clause-store : goal.returns-in_err-named-clause-store
 returns-in_err-named-clause-store g c =
     let is : c.from_residual.result ≡ Err c.in_err-named.field-0.0 = search rules in
     inl (refl, inl (starved c.from_residual.result c.in_err-named.field-0.0 is))
-
-pub returns-in-Err-clause-grows : goal.returns-in-Err-clause-grows
-returns-in-Err-clause-grows g c = unopened_grows c.in-Err.refused.closed (g.V.Write.contents c.args.fault_output.now.writer) (g.V.Write.contents c.tell_unanswered.new.output.writer) c.tell_unanswered.result c.tell_unanswered.new.output.failed c.tell_unanswered.ensures.stopped
-
-pub returns-in_err-named-clause-grows : goal.returns-in_err-named-clause-grows
-returns-in_err-named-clause-grows g c = unbegun_grows c.from_residual.result c.args.fault_output.now.failed (g.V.Write.contents c.args.fault_output.now.writer)

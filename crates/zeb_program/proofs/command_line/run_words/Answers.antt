@@ -13,11 +13,11 @@ pub returns-in-Err-clause-answer : goal.returns-in-Err-clause-answer
 returns-in-Err-clause-answer g c = λ sound quiet. misused c.in-Err.usage c.in-Err.ensures.nameless c.in-Err.ensures.refused refl refl (c.refuse_words.ensures.told sound quiet)
 
 -- words of which no command is read take nothing of the input, nor does a task
-pub returns-in-Err-clause-bounded : goal.returns-in-Err-clause-bounded
-returns-in-Err-clause-bounded g c = λ other. ([], omega (arith), Consumes-nil (g.R.Source.remaining c.args.input.now))
+pub returns-in-Err-clause-input : goal.returns-in-Err-clause-input
+returns-in-Err-clause-input g c = (λ other. ([], omega (arith), Consumes-nil (g.R.Source.remaining c.args.input.now)), λ other. refl)
 
-pub returns-in-Task-clause-bounded : goal.returns-in-Task-clause-bounded
-returns-in-Task-clause-bounded g c = λ other. ([], omega (arith), Consumes-nil (g.R.Source.remaining c.args.input.now))
+pub returns-in-Task-clause-input : goal.returns-in-Task-clause-input
+returns-in-Task-clause-input g c = (λ other. ([], omega (arith), Consumes-nil (g.R.Source.remaining c.args.input.now)), λ other. refl)
 
 pub returns-in-Task-clause-answer : goal.returns-in-Task-clause-answer
 returns-in-Task-clause-answer g c =
@@ -25,13 +25,14 @@ returns-in-Task-clause-answer g c =
     c.in-Ok.ensures.named c.in-Task.ensures c.layout_asked-choice.ensures c.run_task.ensures.apart
 
 pub returns-in-Task-clause-stopped : goal.returns-in-Task-clause-stopped
-returns-in-Task-clause-stopped g c =
-    stopped_task_words (places g.P.Store.Store g.P.Paths.tells g.P.Paths.stands g.P.Paths.lists g.P.Paths.explains g.P.Paths.opens g.P.Paths.refuses g.P.Paths.lacks g.P.Paths.has g.P.Paths.lets_go g.P.Paths.leaves c.args.paths.now c.run_task.new.paths) (λ sink. g.W.Write.contents sink.writer) (map string_bytes c.args.words.now) _ _ c.args.output.now c.run_task.new.output
-    _ _ c.in-Ok.words c.layout_asked-choice.result c.in-Task.task _ _ c.run_task.result c.in-Ok.ensures.named c.in-Task.ensures c.layout_asked-choice.ensures c.run_task.ensures.stopped
+returns-in-Task-clause-stopped g c = (
+  stopped_grows (places g.P.Store.Store g.P.Paths.tells g.P.Paths.stands g.P.Paths.lists g.P.Paths.explains g.P.Paths.opens g.P.Paths.refuses g.P.Paths.lacks g.P.Paths.has g.P.Paths.lets_go g.P.Paths.leaves c.args.paths.now c.run_task.new.paths) c.layout_asked-choice.result c.in-Ok.words.config c.in-Task.task (g.V.Write.contents c.args.fault_output.now.writer) (g.V.Write.contents c.run_task.new.fault_output.writer) c.run_task.result c.run_task.new.fault_output.failed _ c.run_task.ensures.stopped,
+  stopped_task_words (places g.P.Store.Store g.P.Paths.tells g.P.Paths.stands g.P.Paths.lists g.P.Paths.explains g.P.Paths.opens g.P.Paths.refuses g.P.Paths.lacks g.P.Paths.has g.P.Paths.lets_go g.P.Paths.leaves c.args.paths.now c.run_task.new.paths) (λ sink. g.W.Write.contents sink.writer) (map string_bytes c.args.words.now) _ _ c.args.output.now c.run_task.new.output
+      _ _ c.in-Ok.words c.layout_asked-choice.result c.in-Task.task _ _ c.run_task.result c.in-Ok.ensures.named c.in-Task.ensures c.layout_asked-choice.ensures c.run_task.ensures.stopped,
+)
 
-pub returns-in-Batch-clause-unread : goal.returns-in-Batch-clause-unread
-returns-in-Batch-clause-unread g c = λ other.
-    absurd (other (inl (c.in-Ok.words, c.in-Ok.ensures.named, c.in-Batch.ensures)))
+pub returns-in-Batch-clause-input : goal.returns-in-Batch-clause-input
+returns-in-Batch-clause-input g c = (λ other. c.run_batch.ensures.bounded, λ other. absurd (other (inl (c.in-Ok.words, c.in-Ok.ensures.named, c.in-Batch.ensures))))
 
 pub returns-in-Batch-clause-answer : goal.returns-in-Batch-clause-answer
 returns-in-Batch-clause-answer g c =
@@ -39,16 +40,16 @@ returns-in-Batch-clause-answer g c =
     c.in-Ok.ensures.named c.in-Batch.ensures c.run_batch.ensures.answer
 
 pub returns-in-Batch-clause-stopped : goal.returns-in-Batch-clause-stopped
-returns-in-Batch-clause-stopped g c =
-    stopped_batch_words (places g.P.Store.Store g.P.Paths.tells g.P.Paths.stands g.P.Paths.lists g.P.Paths.explains g.P.Paths.opens g.P.Paths.refuses g.P.Paths.lacks g.P.Paths.has g.P.Paths.lets_go g.P.Paths.leaves c.args.paths.now c.run_batch.new.paths) (map string_bytes c.args.words.now) _ _ _ _ _ _ c.in-Ok.words _ _ c.run_batch.result c.in-Ok.ensures.named c.in-Batch.ensures c.run_batch.ensures.stopped
+returns-in-Batch-clause-stopped g c = (
+  c.run_batch.ensures.stopped.0,
+  stopped_batch_words (places g.P.Store.Store g.P.Paths.tells g.P.Paths.stands g.P.Paths.lists g.P.Paths.explains g.P.Paths.opens g.P.Paths.refuses g.P.Paths.lacks g.P.Paths.has g.P.Paths.lets_go g.P.Paths.leaves c.args.paths.now c.run_batch.new.paths) (map string_bytes c.args.words.now) _ _ _ _ _ _ c.in-Ok.words _ _ c.run_batch.result c.in-Ok.ensures.named c.in-Batch.ensures c.run_batch.ensures.stopped.1,
+)
 
-pub returns-in-Shell-clause-bounded : goal.returns-in-Shell-clause-bounded
-returns-in-Shell-clause-bounded g c = λ other.
-    absurd (other (c.in-Ok.words, c.in-Ok.ensures.named, c.in-Shell.ensures))
-
-pub returns-in-Shell-clause-unread : goal.returns-in-Shell-clause-unread
-returns-in-Shell-clause-unread g c = λ other.
-    absurd (other (inr (c.in-Ok.words, c.in-Ok.ensures.named, c.in-Shell.ensures)))
+pub returns-in-Shell-clause-input : goal.returns-in-Shell-clause-input
+returns-in-Shell-clause-input g c = (
+  λ other. absurd (other (c.in-Ok.words, c.in-Ok.ensures.named, c.in-Shell.ensures)),
+  λ other. absurd (other (inr (c.in-Ok.words, c.in-Ok.ensures.named, c.in-Shell.ensures))),
+)
 
 pub returns-in-Shell-clause-answer : goal.returns-in-Shell-clause-answer
 returns-in-Shell-clause-answer g c =
@@ -57,8 +58,10 @@ returns-in-Shell-clause-answer g c =
     (shell_kept (λ sink. g.W.Write.contents sink.writer) c.args.output.now c.run_shell.new.output c.run_shell.result _ c.run_shell.ensures.whole) c.run_shell.ensures.answer
 
 pub returns-in-Shell-clause-stopped : goal.returns-in-Shell-clause-stopped
-returns-in-Shell-clause-stopped g c =
-    stopped_shell_words (places g.P.Store.Store g.P.Paths.tells g.P.Paths.stands g.P.Paths.lists g.P.Paths.explains g.P.Paths.opens g.P.Paths.refuses g.P.Paths.lacks g.P.Paths.has g.P.Paths.lets_go g.P.Paths.leaves c.args.paths.now c.run_shell.new.paths) (map string_bytes c.args.words.now) _ _ _ _ _ _ c.in-Ok.words _ _ c.run_shell.result c.in-Ok.ensures.named c.in-Shell.ensures c.run_shell.ensures.stopped
+returns-in-Shell-clause-stopped g c = (
+  c.run_shell.ensures.stopped.0,
+  stopped_shell_words (places g.P.Store.Store g.P.Paths.tells g.P.Paths.stands g.P.Paths.lists g.P.Paths.explains g.P.Paths.opens g.P.Paths.refuses g.P.Paths.lacks g.P.Paths.has g.P.Paths.lets_go g.P.Paths.leaves c.args.paths.now c.run_shell.new.paths) (map string_bytes c.args.words.now) _ _ _ _ _ _ c.in-Ok.words _ _ c.run_shell.result c.in-Ok.ensures.named c.in-Shell.ensures c.run_shell.ensures.stopped.1,
+)
 
 pub returns-in-Err-clause-store : goal.returns-in-Err-clause-store
 returns-in-Err-clause-store g c =
@@ -76,7 +79,3 @@ returns-in-Batch-clause-store g c = left_by_batch c.in-Ok.words c.in-Ok.ensures.
 
 pub returns-in-Shell-clause-store : goal.returns-in-Shell-clause-store
 returns-in-Shell-clause-store g c = left_by_shell c.in-Ok.words c.in-Ok.ensures.named c.in-Shell.ensures c.run_shell.ensures.store
-
-pub returns-in-Task-clause-grows : goal.returns-in-Task-clause-grows
-returns-in-Task-clause-grows g c =
-    stopped_grows (places g.P.Store.Store g.P.Paths.tells g.P.Paths.stands g.P.Paths.lists g.P.Paths.explains g.P.Paths.opens g.P.Paths.refuses g.P.Paths.lacks g.P.Paths.has g.P.Paths.lets_go g.P.Paths.leaves c.args.paths.now c.run_task.new.paths) c.layout_asked-choice.result c.in-Ok.words.config c.in-Task.task (g.V.Write.contents c.args.fault_output.now.writer) (g.V.Write.contents c.run_task.new.fault_output.writer) c.run_task.result c.run_task.new.fault_output.failed _ c.run_task.ensures.stopped

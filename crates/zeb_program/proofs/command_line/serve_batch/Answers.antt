@@ -50,7 +50,7 @@ returns-in-Ok-clause-stopped g c = λ first.
     let register = c.in-Ok.register in
     let format = format_of register.1 in
     stop_kept (places g.P.Store.Store g.P.Paths.tells g.P.Paths.stands g.P.Paths.lists g.P.Paths.explains g.P.Paths.opens g.P.Paths.refuses g.P.Paths.lacks g.P.Paths.has g.P.Paths.lets_go g.P.Paths.leaves c.args.paths.now c.open_register.new.paths) format c.args.profile c.args.batch.text.now (conditions (version_of format) register.0.profile register.0.limits) register.0.connection c.args.batch.lines_before
-    _ _ _ _ _ _ c.run_on.result first may c.in-Ok.ensures.under c.in-Ok.ensures.opened c.run_on.ensures.stopped
+    _ _ _ _ _ _ c.run_on.result first may c.in-Ok.ensures.under c.in-Ok.ensures.opened c.run_on.ensures.stopped.1
 
 pub returns-in-Err-clause-stopped : goal.returns-in-Err-clause-stopped
 returns-in-Err-clause-stopped g c = λ first.
@@ -84,6 +84,9 @@ returns-in-Err-clause-store g c = λ first.
 pub returns-then-not-uses_store-clause-grows : goal.returns-then-not-uses_store-clause-grows
 returns-then-not-uses_store-clause-grows g c =
     silent_grows (λ sink. g.V.Write.contents sink.writer) c.args.fault_output.now c.run_on_nothing.new.fault_output c.run_on_nothing.result c.run_on_nothing.new.fault_output.failed c.run_on_nothing.ensures.silent
+
+pub returns-in-Ok-clause-grows : goal.returns-in-Ok-clause-grows
+returns-in-Ok-clause-grows g c = c.run_on.ensures.stopped.0
 
 pub returns-in-Err-clause-grows : goal.returns-in-Err-clause-grows
 returns-in-Err-clause-grows g c = unopened_grows c.in-Err.refused.closed (g.V.Write.contents c.args.fault_output.now.writer) (g.V.Write.contents c.tell_unanswered.new.output.writer) c.tell_unanswered.result c.tell_unanswered.new.output.failed c.tell_unanswered.ensures.stopped

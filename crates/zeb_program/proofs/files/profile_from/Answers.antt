@@ -12,7 +12,7 @@ returns-in-Err-clause-read g c = λ sound.
 pub returns-in-Ok-read-clause-read : goal.returns-in-Ok-read-clause-read
 returns-in-Ok-read-clause-read g c = λ _. (
   string_bytes c.in-Ok.text,
-  profile_text (g.R.Source.remaining c.args.source.now) c.in-Ok.text c.in-Ok.ensures.text c.in-Ok.ensures.short,
+  profile_text (g.R.Source.remaining c.args.source.now) c.in-Ok.text c.in-Ok.ensures.text.1 c.in-Ok.ensures.text.0,
   subst (λ text. profile_of text ≡ Ok c.in-Ok-read.profile) c.as_str.ensures.value c.in-Ok-read.ensures,
 )
 
@@ -20,6 +20,6 @@ pub returns-in-Err-read-clause-read : goal.returns-in-Err-read-clause-read
 returns-in-Err-read-clause-read g c = λ _. (
   refl,
   string_bytes c.in-Ok.text,
-  profile_text (g.R.Source.remaining c.args.source.now) c.in-Ok.text c.in-Ok.ensures.text c.in-Ok.ensures.short,
+  profile_text (g.R.Source.remaining c.args.source.now) c.in-Ok.text c.in-Ok.ensures.text.1 c.in-Ok.ensures.text.0,
   subst (λ text. FailsPlaced c.in-Err-read.fault (profile_of text)) c.as_str.ensures.value c.in-Err-read.ensures,
 )

@@ -64,7 +64,7 @@ returns-in-Err-clause-does g c =
     met_either c.tell.result _ _ _ c.tell.ensures.silent
     (λ told clean. done_fault g.S.Store (telling (g.P.Paths.tells c.args.paths.now) (g.P.Paths.stands c.args.paths.now) (g.P.Paths.lists c.args.paths.now)) g.L.Layout.format (conditions (version_of g.L.Layout.format) c.args.session.now.profile c.args.session.now.limits) c.args.change.now
     c.args.session.now.connection c.change_by_paths.new.session.connection c.from_ref-named.result.now c.from_ref-named.ensures.value c.in-Err.fault
-    (λ is. told (c.tell.ensures.memory is)) c.in-Err.ensures.reaches (c.in-Err.ensures.changes clean))
+    (λ is. told (c.tell.ensures.status.0 is)) c.in-Err.ensures.reaches (c.in-Err.ensures.changes clean))
     (λ clean. stopped_fault g.S.Store (telling (g.P.Paths.tells c.args.paths.now) (g.P.Paths.stands c.args.paths.now) (g.P.Paths.lists c.args.paths.now)) g.L.Layout.format (conditions (version_of g.L.Layout.format) c.args.session.now.profile c.args.session.now.limits) c.args.change.now
     c.args.session.now.connection c.change_by_paths.new.session.connection c.from_ref-named.result.now c.from_ref-named.ensures.value c.in-Err.fault
     (λ unread. ap (λ session. session.connection) (c.in-Err.ensures.unread unread)) c.in-Err.ensures.reaches (c.in-Err.ensures.changes clean))

@@ -45,7 +45,7 @@ returns-clause-store g c =
       λ none. absurd (some none),
       λ _. ends_leaving (places g.P.Store.Store g.P.Paths.tells g.P.Paths.stands g.P.Paths.lists g.P.Paths.explains g.P.Paths.opens g.P.Paths.refuses g.P.Paths.lacks g.P.Paths.has g.P.Paths.lets_go g.P.Paths.leaves c.args.files.now c.run_words-ended.new.paths) (map string_bytes c.args.words.now) (g.R.Source.remaining c.args.input.now)
           (g.V.Write.contents c.args.fault_output.now.writer) (λ sink. g.V.Write.contents sink.writer) (λ sink. sink.failed) c.run_words-ended.new.fault_output c.tell_starved-status.new.fault_output (g.V.Write.contents c.finish-2.new.fault_output.writer) c.finish-2.new.fault_output.failed
-          c.run_words-ended.result c.tell_starved-status.result c.finish-2.result _ c.run_words-ended.ensures.store c.run_words-ended.ensures.grows c.tell_starved-status.ensures.answered c.tell_starved-status.ensures.starved
+          c.run_words-ended.result c.tell_starved-status.result c.finish-2.result _ c.run_words-ended.ensures.store c.run_words-ended.ensures.stopped.0 c.tell_starved-status.ensures.answered c.tell_starved-status.ensures.starved
           c.tell_starved-status.ensures.sound (λ quiet. (c.finish-2.ensures.passed_fault quiet).0) (λ quiet. (c.finish-2.ensures.passed_fault quiet).2) c.finish-2.ensures.status.0 c.code-2.ensures,
     )
 
@@ -64,7 +64,7 @@ returns-clause-words g c = λ some sound quiet.
     let fault_new = g.V.Write.contents c.finish-2.new.fault_output.writer in
     let still = (c.finish-2.ensures.passed_fault quiet).0 in
     let told = ended_words at words given left unread old mid fault_old (λ sink. g.V.Write.contents sink.writer) c.run_words-ended.new.fault_output c.tell_starved-status.new.fault_output _ _ _ c.tell_starved-status.result c.run_words-ended.result
-    c.run_words-ended.ensures.answer c.run_words-ended.ensures.stopped c.tell_starved-status.ensures.answered c.tell_starved-status.ensures.starved ((c.finish-2.ensures.passed sound).0) (c.tell_starved-status.ensures.sound still) still in
+    c.run_words-ended.ensures.answer c.run_words-ended.ensures.stopped.1 c.tell_starved-status.ensures.answered c.tell_starved-status.ensures.starved ((c.finish-2.ensures.passed sound).0) (c.tell_starved-status.ensures.sound still) still in
     let kept : EndsWords at words given left unread old new fault_old fault_new c.finish-2.result = rw (c.finish-2.ensures.status.1 sound quiet)
     (kept_words at words given left unread old mid new fault_old fault_mid fault_new _ ((c.finish-2.ensures.passed sound).2) ((c.finish-2.ensures.passed_fault quiet).2) told) in
     (c.finish-2.result, c.code-2.ensures, kept)

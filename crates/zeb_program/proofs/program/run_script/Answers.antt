@@ -10,7 +10,7 @@ returns-in-Err-Unreadable-clause-answer g c = λ read sound.
     unread_script (telling (g.P.Paths.tells c.args.paths.now) (g.P.Paths.stands c.args.paths.now) (g.P.Paths.lists c.args.paths.now)) _ _ _ _ refl (c.in-Err-Unreadable.ensures.unreadable (ap Err c.in-Err-Unreadable.field-0-is) read) (c.write_line.ensures.bytes sound)
 
 pub run_text-requires : goal.run_text-requires
-run_text-requires g c = subst IsInput (sym c.as_str-text.ensures.value) (text_input c.in-Ok.text c.in-Ok.ensures.short)
+run_text-requires g c = subst IsInput (sym c.as_str-text.ensures.value) (text_input c.in-Ok.text c.in-Ok.ensures.text.0)
 
 pub returns-in-Err-Memory-clause-stopped : goal.returns-in-Err-Memory-clause-stopped
 returns-in-Err-Memory-clause-stopped g c = λ _ _. silent_script (telling (g.P.Paths.tells c.args.paths.now) (g.P.Paths.stands c.args.paths.now) (g.P.Paths.lists c.args.paths.now)) _ _

@@ -64,12 +64,15 @@ returns-clause-stopped g c =
     let old = g.W.Write.contents c.args.output.now.writer in
     let new = g.W.Write.contents c.run_lines-answered.new.output.writer in
     let fault_old = g.V.Write.contents c.args.fault_output.now.writer in
-    let fault_new = g.V.Write.contents c.end_session.new.fault_output.writer in
-    ended_err c.run_lines-answered.result c.end_session.result (ClosesAloud store leaves last c.end_session.new.fault_output.failed fault_old fault_new)
-    (c.run_lines-answered.new.output.failed ≡ false → HasCleanDisk (state store last) → StopsPart store at g.L.Layout.format k n text old new held last)
-    (c.run_lines-answered.new.output.failed ≡ false → c.end_session.new.fault_output.failed ≡ false → StopsIn store leaves at g.L.Layout.format k n text held old new fault_old fault_new)
-    c.end_session.ensures.ends c.run_lines-answered.ensures.stopped
-    (λ closed lines closes sound quiet. (closed, record { last = last; clean = λ whole. (c.run_lines-answered.ensures.does whole).0; lines = lines sound; ends = closes.0; closes = closes.1 quiet }))
+    let fault_new = g.V.Write.contents c.end_session.new.fault_output.writer in (
+      session_grows g.P.Store.Store (g.P.Paths.leaves c.args.paths.now) c.run_lines-answered.new.session.connection (λ sink. g.V.Write.contents sink.writer) c.args.fault_output.now c.args.fault_output.now
+          (g.V.Write.contents c.end_session.new.fault_output.writer) c.end_session.new.fault_output.failed c.run_lines-answered.result c.end_session.result (on_err c.run_lines-answered.result _ refl) c.end_session.ensures.ends,
+      ended_err c.run_lines-answered.result c.end_session.result (ClosesAloud store leaves last c.end_session.new.fault_output.failed fault_old fault_new)
+          (c.run_lines-answered.new.output.failed ≡ false → HasCleanDisk (state store last) → StopsPart store at g.L.Layout.format k n text old new held last)
+          (c.run_lines-answered.new.output.failed ≡ false → c.end_session.new.fault_output.failed ≡ false → StopsIn store leaves at g.L.Layout.format k n text held old new fault_old fault_new)
+          c.end_session.ensures.ends c.run_lines-answered.ensures.stopped
+          (λ closed lines closes sound quiet. (closed, record { last = last; clean = λ whole. (c.run_lines-answered.ensures.does whole).0; lines = lines sound; ends = closes.0; closes = closes.1 quiet })),
+    )
 
 pub returns-clause-store : goal.returns-clause-store
 returns-clause-store g c =
@@ -78,8 +81,3 @@ returns-clause-store g c =
     let k = conditions (version_of g.L.Layout.format) c.args.session.profile c.args.session.limits in
     left_batch store (g.P.Paths.leaves c.args.paths.now) at g.L.Layout.format k c.args.batch.lines_before c.args.batch.text.now c.args.session.connection c.run_lines-answered.new.session.connection
     _ _ _ c.run_lines-answered.result c.end_session.result c.end_session.ensures.ends c.run_lines-answered.ensures.does
-
-pub returns-clause-grows : goal.returns-clause-grows
-returns-clause-grows g c =
-    session_grows g.P.Store.Store (g.P.Paths.leaves c.args.paths.now) c.run_lines-answered.new.session.connection (λ sink. g.V.Write.contents sink.writer) c.args.fault_output.now c.args.fault_output.now
-    (g.V.Write.contents c.end_session.new.fault_output.writer) c.end_session.new.fault_output.failed c.run_lines-answered.result c.end_session.result (on_err c.run_lines-answered.result _ refl) c.end_session.ensures.ends

@@ -14,13 +14,11 @@ use Rattle.zeb_program.proofs.ToldLemmas.{session_grows}
 use Rattle.zeb_program.proofs.SessionLemmas.{both_err, ended_err, ended_ok, ended_failed, ended_whole, left_shell}
 use Rattle.zeb_program.proofs.register_lines.serve_in.Goals as goal
 
-pub returns-clause-failed_read : goal.returns-clause-failed_read
-returns-clause-failed_read g c = λ failed.
-    ended_failed c.serve_lines-answered.result c.end_session.result _ c.end_session.ensures.ends (c.serve_lines-answered.ensures.failed_read failed)
-
-pub returns-clause-whole : goal.returns-clause-whole
-returns-clause-whole g c =
-    ended_whole c.serve_lines-answered.result c.end_session.result _ (IsAtEnd (g.R.Source.remaining c.serve_lines-answered.new.input)) c.end_session.ensures.ends c.serve_lines-answered.ensures.whole
+pub returns-clause-read : goal.returns-clause-read
+returns-clause-read g c = (
+  λ failed. ended_failed c.serve_lines-answered.result c.end_session.result _ c.end_session.ensures.ends (c.serve_lines-answered.ensures.read.0 failed),
+  ended_whole c.serve_lines-answered.result c.end_session.result _ (IsAtEnd (g.R.Source.remaining c.serve_lines-answered.new.input)) c.end_session.ensures.ends c.serve_lines-answered.ensures.read.1,
+)
 
 pub returns-clause-answer : goal.returns-clause-answer
 returns-clause-answer g c =
@@ -74,20 +72,23 @@ returns-clause-stopped g c =
     let fault_new = g.V.Write.contents c.end_session.new.fault_output.writer in
     let said = (c.serve_lines-answered.new.output.failed ≡ false → HasCleanDisk (state store last)
     → IfSome given (λ text. StopsText store at g.L.Layout.format k Memory text left old new held last)) in
-    let same = (c.serve_lines-answered.new.fault_output ≡ c.args.fault_output.now) in
-    ended_err c.serve_lines-answered.result c.end_session.result (ClosesAloud store leaves last c.end_session.new.fault_output.failed between fault_new) (said × same)
-    (c.serve_lines-answered.new.output.failed ≡ false → c.end_session.new.fault_output.failed ≡ false → StopsServing store leaves at g.L.Layout.format k given left held old new fault_old fault_new)
-    c.end_session.ensures.ends (both_err c.serve_lines-answered.result said same c.serve_lines-answered.ensures.stopped c.serve_lines-answered.ensures.silent)
-    (λ closed facts closes sound quiet. (
-      closed,
-      record {
-        last = last;
-        clean = λ whole. (c.serve_lines-answered.ensures.does whole).0;
-        lines = facts.0 sound;
-        closes = subst (λ sink. TellsClosed (g.V.Write.contents sink.writer) fault_new closed) facts.1 (closes.1 quiet);
-        ends = closes.0;
-      },
-    ))
+    let same = (c.serve_lines-answered.new.fault_output ≡ c.args.fault_output.now) in (
+      session_grows g.P.Store.Store (g.P.Paths.leaves c.args.paths.now) c.serve_lines-answered.new.session.connection (λ sink. g.V.Write.contents sink.writer) c.args.fault_output.now c.serve_lines-answered.new.fault_output
+          (g.V.Write.contents c.end_session.new.fault_output.writer) c.end_session.new.fault_output.failed c.serve_lines-answered.result c.end_session.result c.serve_lines-answered.ensures.silent c.end_session.ensures.ends,
+      ended_err c.serve_lines-answered.result c.end_session.result (ClosesAloud store leaves last c.end_session.new.fault_output.failed between fault_new) (said × same)
+          (c.serve_lines-answered.new.output.failed ≡ false → c.end_session.new.fault_output.failed ≡ false → StopsServing store leaves at g.L.Layout.format k given left held old new fault_old fault_new)
+          c.end_session.ensures.ends (both_err c.serve_lines-answered.result said same c.serve_lines-answered.ensures.stopped c.serve_lines-answered.ensures.silent)
+          (λ closed facts closes sound quiet. (
+            closed,
+            record {
+              last = last;
+              clean = λ whole. (c.serve_lines-answered.ensures.does whole).0;
+              lines = facts.0 sound;
+              closes = subst (λ sink. TellsClosed (g.V.Write.contents sink.writer) fault_new closed) facts.1 (closes.1 quiet);
+              ends = closes.0;
+            },
+          )),
+    )
 
 pub returns-clause-store : goal.returns-clause-store
 returns-clause-store g c =
@@ -96,8 +97,3 @@ returns-clause-store g c =
     let k = conditions (version_of g.L.Layout.format) c.args.session.profile c.args.session.limits in
     left_shell store (g.P.Paths.leaves c.args.paths.now) c.args.session.connection c.serve_lines-answered.new.session.connection
     _ _ _ (DoesShell store at g.L.Layout.format k (g.R.Source.remaining c.args.input.now)) c.serve_lines-answered.result c.end_session.result c.end_session.ensures.ends c.serve_lines-answered.ensures.does
-
-pub returns-clause-grows : goal.returns-clause-grows
-returns-clause-grows g c =
-    session_grows g.P.Store.Store (g.P.Paths.leaves c.args.paths.now) c.serve_lines-answered.new.session.connection (λ sink. g.V.Write.contents sink.writer) c.args.fault_output.now c.serve_lines-answered.new.fault_output
-    (g.V.Write.contents c.end_session.new.fault_output.writer) c.end_session.new.fault_output.failed c.serve_lines-answered.result c.end_session.result c.serve_lines-answered.ensures.silent c.end_session.ensures.ends

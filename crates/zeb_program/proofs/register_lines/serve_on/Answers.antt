@@ -1,8 +1,8 @@
 use Rattle.std.proofs.Common.{◌≡◌, false}
-use Rattle.std.specs.Prelude.{IfOk, OnErr}
+use Rattle.std.specs.Prelude.{IfOk}
 use Rattle.zeb_paths.specs.Walks.{telling}
 use Rattle.zeb_program.specs.Doing.{DoesShell}
-use Rattle.zeb_program.specs.PrivateWordRuns.{LeavesHeld, ServesIn, StopsServing}
+use Rattle.zeb_program.specs.PrivateWordRuns.{EndsStarved, LeavesHeld, ServesIn, StopsServing}
 use Rattle.zeb_program.proofs.LayoutLemmas.{in_blocks, in_leaves}
 use Rattle.zeb_program.proofs.register_lines.serve_on.Goals as goal
 
@@ -17,8 +17,8 @@ returns-in-Blocks-clause-answer g c =
 pub returns-in-Blocks-clause-stopped : goal.returns-in-Blocks-clause-stopped
 returns-in-Blocks-clause-stopped g c =
     let session = c.args.register.0 in
-    in_blocks (λ format k held. OnErr c.serve_in.result (c.serve_in.new.output.failed ≡ false → c.serve_in.new.fault_output.failed ≡ false
-    → StopsServing g.P.Store.Store (g.P.Paths.leaves c.args.paths.now) (telling (g.P.Paths.tells c.args.paths.now) (g.P.Paths.stands c.args.paths.now) (g.P.Paths.lists c.args.paths.now)) format k (g.R.Source.remaining c.args.input.now) (g.R.Source.remaining c.serve_in.new.input) held
+    in_blocks (λ format k held. EndsStarved c.serve_in.result c.serve_in.new.output.failed c.serve_in.new.fault_output.failed (g.V.Write.contents c.args.fault_output.now.writer) (g.V.Write.contents c.serve_in.new.fault_output.writer)
+    (StopsServing g.P.Store.Store (g.P.Paths.leaves c.args.paths.now) (telling (g.P.Paths.tells c.args.paths.now) (g.P.Paths.stands c.args.paths.now) (g.P.Paths.lists c.args.paths.now)) format k (g.R.Source.remaining c.args.input.now) (g.R.Source.remaining c.serve_in.new.input) held
     (g.W.Write.contents c.args.output.now.writer) (g.W.Write.contents c.serve_in.new.output.writer) (g.V.Write.contents c.args.fault_output.now.writer) (g.V.Write.contents c.serve_in.new.fault_output.writer)))
     c.args.register.1 session.profile session.limits session.connection c.in-Blocks.is c.serve_in.ensures.stopped
 
@@ -35,8 +35,8 @@ pub returns-in-Leaves-clause-stopped : goal.returns-in-Leaves-clause-stopped
 returns-in-Leaves-clause-stopped g c =
     let session = c.args.register.0 in
     let moved = c.to_layout-session.result in
-    in_leaves (λ format k held. OnErr c.serve_in-in-Leaves.result (c.serve_in-in-Leaves.new.output.failed ≡ false → c.serve_in-in-Leaves.new.fault_output.failed ≡ false
-    → StopsServing g.P.Store.Store (g.P.Paths.leaves c.args.paths.now) (telling (g.P.Paths.tells c.args.paths.now) (g.P.Paths.stands c.args.paths.now) (g.P.Paths.lists c.args.paths.now)) format k (g.R.Source.remaining c.args.input.now) (g.R.Source.remaining c.serve_in-in-Leaves.new.input) held
+    in_leaves (λ format k held. EndsStarved c.serve_in-in-Leaves.result c.serve_in-in-Leaves.new.output.failed c.serve_in-in-Leaves.new.fault_output.failed (g.V.Write.contents c.args.fault_output.now.writer) (g.V.Write.contents c.serve_in-in-Leaves.new.fault_output.writer)
+    (StopsServing g.P.Store.Store (g.P.Paths.leaves c.args.paths.now) (telling (g.P.Paths.tells c.args.paths.now) (g.P.Paths.stands c.args.paths.now) (g.P.Paths.lists c.args.paths.now)) format k (g.R.Source.remaining c.args.input.now) (g.R.Source.remaining c.serve_in-in-Leaves.new.input) held
     (g.W.Write.contents c.args.output.now.writer) (g.W.Write.contents c.serve_in-in-Leaves.new.output.writer) (g.V.Write.contents c.args.fault_output.now.writer) (g.V.Write.contents c.serve_in-in-Leaves.new.fault_output.writer)))
     c.args.register.1 session.profile moved.profile session.limits moved.limits session.connection moved.connection c.in-Leaves.is c.to_layout-session.ensures.same c.serve_in-in-Leaves.ensures.stopped
 

@@ -89,8 +89,10 @@ returns-in-None-clause-answer g c =
     (g.W.Write.contents c.loop-lines_before.output.writer) (g.R.Source.remaining c.args.input.now) (g.R.Source.remaining c.loop-lines_before.input) c.loop-lines_before.lines_before c.loop-lines_before.greatest
     c.args.session.now.connection c.loop-lines_before.session.connection idle.0 (c.loop-lines_before.invariant.over sound clean) (c.loop-lines_before.invariant.answers sound clean))
 
-pub returns-in-None-clause-whole : goal.returns-in-None-clause-whole
-returns-in-None-clause-whole g c = inr (found_end _ _ c.in_ok-status.field-0 c.in-None.is c.in_ok-status.ensures.line).1
+pub returns-in-None-clause-ends : goal.returns-in-None-clause-ends
+returns-in-None-clause-ends g c =
+    let read = read_sound (g.R.Source.has_failed c.run_next_line.new.input) c.run_next_line.result c.in_ok-status.field-0 c.run_next_line.ensures.failed (search rules) in
+    ((λ is. absurd (cc is), λ broke. absurd (cc (read, broke))), inr (found_end _ _ c.in_ok-status.field-0 c.in-None.is c.in_ok-status.ensures.line).1)
 
 pub returns-clause-stopped : goal.returns-clause-stopped
 returns-clause-stopped g c = λ sound clean.

@@ -9,7 +9,7 @@ returns-in-Ok-clause-answer g c =
     λ sound _ clean. served_all g.S.Store (telling (g.P.Paths.tells c.args.paths.now) (g.P.Paths.stands c.args.paths.now) (g.P.Paths.lists c.args.paths.now)) g.L.Layout.format k (g.R.Source.remaining c.args.input.now) (g.R.Source.remaining c.run_shell_lines.new.input)
     (g.R.Source.has_failed c.run_shell_lines.new.input) c.run_shell_lines.new.output.failed c.args.session.now.connection c.run_shell_lines.new.session.connection
     (g.W.Write.contents c.args.output.now.writer) (g.W.Write.contents c.run_shell_lines.new.output.writer) (g.V.Write.contents c.args.fault_output.now.writer) c.in-Ok.status
-    (c.in-Ok.ensures.answer sound clean) c.in-Ok.ensures.whole sound (read_sound _ c.run_shell_lines.result c.in-Ok.status c.run_shell_lines.ensures.failed c.in-Ok.is)
+    (c.in-Ok.ensures.answer sound clean) c.in-Ok.ensures.ends.1 sound (read_sound _ c.run_shell_lines.result c.in-Ok.status c.run_shell_lines.ensures.ends.0 c.in-Ok.is)
 
 pub returns-in-Err-Unreadable-clause-answer : goal.returns-in-Err-Unreadable-clause-answer
 returns-in-Err-Unreadable-clause-answer g c =
@@ -19,4 +19,4 @@ returns-in-Err-Unreadable-clause-answer g c =
     λ sound quiet clean. served_part g.S.Store (telling (g.P.Paths.tells c.args.paths.now) (g.P.Paths.stands c.args.paths.now) (g.P.Paths.lists c.args.paths.now)) g.L.Layout.format k cause (g.R.Source.remaining c.args.input.now) (g.R.Source.remaining c.run_shell_lines.new.input)
     (g.R.Source.has_failed c.run_shell_lines.new.input) c.args.session.now.connection c.run_shell_lines.new.session.connection
     (g.W.Write.contents c.args.output.now.writer) (g.W.Write.contents c.run_shell_lines.new.output.writer) (g.V.Write.contents c.args.fault_output.now.writer) (g.V.Write.contents c.tell_unread.new.output.writer)
-    (stopped sound clean) (read_by _ c.run_shell_lines.result cause c.run_shell_lines.ensures.failed (c.in-Err-Unreadable.is ∙ ap Err c.in-Err-Unreadable.field-0-is)) (c.tell_unread.ensures.lines quiet)
+    (stopped sound clean) (read_by _ c.run_shell_lines.result cause c.run_shell_lines.ensures.ends.0 (c.in-Err-Unreadable.is ∙ ap Err c.in-Err-Unreadable.field-0-is)) (c.tell_unread.ensures.lines quiet)
