@@ -2,7 +2,7 @@
 --
 -- What a call returns is known where the disk has given back what was written to it. `OnStore` is said of a call outside a transaction
 -- on the tables of a store, `InStore` of one inside a transaction.
-use Rattle.std.specs.Prelude.{◌≡◌, ◌↔◌, ℕ, Bool, IsTrue, Result, Err, IfErr, IfOk, OnOk}
+use Rattle.std.specs.Prelude.{◌≡◌, ◌↔◌, ◌<◌, ◌≤◌, ◌^◌, ℕ, Bool, IsTrue, Option, None, Result, Err, IfErr, IfOk, OnOk}
 use Rattle.sqlite.specs.declared.error.Error.{Error}
 use Rattle.sqlite.specs.Schema.{Schema}
 use Rattle.sqlite.specs.Tree.{Trees}
@@ -39,6 +39,16 @@ Tells old new result Told = OnStore old new (λ trees. IfOk result (Told trees))
 abbrev pub TellsInside : {A E : Type 0} → State → State → Result A E → (Trees → A → Type 0) → Type 0
 TellsInside old new result Told = InStore old new (λ trees. IfOk result (Told trees))
 
+-- of a number that a column stores the answer of an accepted call tells this of a store's tables; of a greater one it tells that there is nothing
+pub record TellsByNumber {A : Type 0} (number : ℕ) (old new : State) (result : Result (Option A) RegFault) (Told : Trees → Option A → Type 0) : Type 0 where
+  pub small : OnStore old new (λ trees. number < 2 ^ 63 → IfOk result (Told trees))
+  pub large : 2 ^ 63 ≤ number → IfOk result (λ found. found ≡ None)
+
+-- the same of a call inside a transaction
+pub record TellsByNumberInside {A : Type 0} (number : ℕ) (old new : State) (result : Result (Option A) RegFault) (Told : Trees → Option A → Type 0) : Type 0 where
+  pub small : InStore old new (λ trees. number < 2 ^ 63 → IfOk result (Told trees))
+  pub large : 2 ^ 63 ≤ number → IfOk result (λ found. found ≡ None)
+
 -- the answer tells whether this holds of the tables, where what the call is given is so
 abbrev pub TellsWhether : {E : Type 0} → (Trees → Type 0) → Type 0 → State → State → Result Bool E → Type 0
 TellsWhether Holds Given old new result = OnStore old new (λ trees. Given → IfOk result (λ answer. IsTrue answer ↔ Holds trees))
@@ -72,6 +82,16 @@ IsReasoned old new result = HasCleanDisk new → IsStore old → result ≡ Err 
 -- a call inside a transaction answers Store on a store's tables only where the store may refuse
 abbrev pub IsReasonedInside : {A : Type 0} → State → State → Result A RegFault → Type 0
 IsReasonedInside old new result = InStore old new (λ _. result ≡ Err Store → MayRefuse old new)
+
+-- a call is refused as is due: with Damaged only on a connection that was open, with Store on a store's tables only where the store may refuse
+pub record IsDueRefusal {A : Type 0} (old new : State) (result : Result A RegFault) : Type 0 where
+  pub opened : IsOpenDamage old new result
+  pub reasoned : IsReasoned old new result
+
+-- a call inside a transaction is refused as is due
+pub record IsDueRefusalInside {A : Type 0} (old new : State) (result : Result A RegFault) : Type 0 where
+  pub opened : IsOpenDamageInside old new result
+  pub reasoned : IsReasonedInside old new result
 
 -- inside a transaction a statement on a store's tables fails with an error that is told as Store only where the store may refuse
 abbrev pub IsReasonedErrorInside : {A : Type 0} → State → State → Result A Error → Type 0

@@ -12,9 +12,8 @@ ghost use Rattle.zeb_register.specs.PrivateRowPlaces.{first_three};
 ghost use Rattle.zeb_register.specs.PrivateRowStatements.{IsDatabaseShown};
 ghost use Rattle.sqlite_rules.specs.Lists.{Has};
 ghost use Rattle.zeb_register.specs.Calls.{GoesOn, OnlyReads, Inside, Reading};
-ghost use Rattle.zeb_register.specs.Clauses.{Writes};
-ghost use Rattle.zeb_register.specs.Clauses.{ChangesTable, InStore, IsHonest, IsHonestInside, IsOpenDamage, IsOpenDamageInside};
-ghost use Rattle.zeb_register.specs.Clauses.{IsReasoned, IsReasonedInside, Tells, TellsInside};
+ghost use Rattle.zeb_register.specs.Clauses.{ChangesTable, InStore, IsDueRefusal, IsDueRefusalInside, IsHonest};
+ghost use Rattle.zeb_register.specs.Clauses.{IsHonestInside, IsOpenDamageInside, Tells, TellsInside, Writes};
 
 use crate::RegFault;
 use crate::statements::databases::{
@@ -69,8 +68,7 @@ pub fn database_of<S: Alter>(
         (λ trees. IsDatabaseOf trees name.now) }
     ensures honest { IsHonest (state S.Store conn.old) (state S.Store conn.new) result
         (λ trees. AreCountedDatabases trees name.now) }
-    ensures opened { IsOpenDamage (state S.Store conn.old) (state S.Store conn.new) result }
-    ensures refused { IsReasoned (state S.Store conn.old) (state S.Store conn.new) result }
+    ensures refused { IsDueRefusal (state S.Store conn.old) (state S.Store conn.new) result }
 {
     let rows = database_rows(conn, name)?;
     match rows.first() {
@@ -95,8 +93,7 @@ pub fn databases<S: Alter>(
         (λ trees list. AreDatabases trees list.items) }
     ensures honest { IsHonest (state S.Store conn.old) (state S.Store conn.new) result
         AreReadableDatabases }
-    ensures opened { IsOpenDamage (state S.Store conn.old) (state S.Store conn.new) result }
-    ensures refused { IsReasoned (state S.Store conn.old) (state S.Store conn.new) result }
+    ensures refused { IsDueRefusal (state S.Store conn.old) (state S.Store conn.new) result }
 {
     let rows = listed_rows(conn)?;
     databases_in(alloc, &rows)
@@ -115,9 +112,7 @@ pub fn databases_inside<S: Alter>(
         (λ trees list. AreDatabases trees list.items) }
     ensures honest { IsHonestInside (state S.Store tx.old.conn.now) (state S.Store tx.new.conn.now)
         result AreReadableDatabases }
-    ensures opened { IsOpenDamageInside (state S.Store tx.old.conn.now)
-        (state S.Store tx.new.conn.now) result }
-    ensures refused { IsReasonedInside (state S.Store tx.old.conn.now)
+    ensures refused { IsDueRefusalInside (state S.Store tx.old.conn.now)
         (state S.Store tx.new.conn.now) result }
 {
     let rows = listed_rows_inside(tx)?;

@@ -1,6 +1,6 @@
 //! The records that a database keeps.
 
-ghost use Rattle.std.specs.Prelude.{◌≡◌, ◌≢◌, ◌<◌, ◌≤◌, ◌^◌, [], ◌∷◌, pos, map, None, IfOk};
+ghost use Rattle.std.specs.Prelude.{◌≡◌, ◌≢◌, [], ◌∷◌, pos, map, IfOk};
 ghost use Rattle.sqlite.specs.Held.{state};
 ghost use Rattle.sqlite.specs.State.{IsUnchanged};
 ghost use Rattle.sqlite.specs.declared.types.Value.TheVariants.{Int};
@@ -12,9 +12,8 @@ ghost use Rattle.zeb_register.specs.Kept.{IsElderOf, IsIdentOf, AreNumbered, Are
 ghost use Rattle.zeb_register.specs.Kept.{IsFirstFrom, IsRecordCount};
 ghost use Rattle.zeb_register.specs.PrivateRowStatements.{IsRecordShown};
 ghost use Rattle.zeb_register.specs.Calls.{OnlyReads, Inside, Reading};
-ghost use Rattle.zeb_register.specs.Clauses.{Writes};
-ghost use Rattle.zeb_register.specs.Clauses.{InStore, IsHonest, IsHonestInside, IsOpenDamage, IsOpenDamageInside, IsReasoned, IsReasonedInside};
-ghost use Rattle.zeb_register.specs.Clauses.{OnStore, Tells, TellsInside};
+ghost use Rattle.zeb_register.specs.Clauses.{IsDueRefusal, IsDueRefusalInside, IsHonest, IsHonestInside, OnStore};
+ghost use Rattle.zeb_register.specs.Clauses.{Tells, TellsByNumber, TellsByNumberInside, TellsInside, Writes};
 
 use crate::statements::inside::{nothing_inside, rows_from_inside};
 use crate::statements::postings::nothing_of;
@@ -100,9 +99,7 @@ pub fn record_of_ident<S: Alter>(
     ensures honest { IsHonestInside (state S.Store tx.old.conn.now) (state S.Store tx.new.conn.now)
         result
         (λ trees. AreNumbered trees db.0 ident.now) }
-    ensures opened { IsOpenDamageInside (state S.Store tx.old.conn.now)
-        (state S.Store tx.new.conn.now) result }
-    ensures refused { IsReasonedInside (state S.Store tx.old.conn.now)
+    ensures refused { IsDueRefusalInside (state S.Store tx.old.conn.now)
         (state S.Store tx.new.conn.now) result }
 {
     let rows = elder_rows(tx, db.column(), ident)?;
@@ -125,14 +122,11 @@ pub fn ident_of<S: Alter>(
 ) -> Result<Option<String>, RegFault>
     ensures call { Reading (state S.Store conn.old) (state S.Store conn.new) result
         (λ _. IsUnchanged) }
-    ensures value { OnStore (state S.Store conn.old) (state S.Store conn.new)
-        (λ trees. sysno < 2 ^ 63 → IfOk result
-        (IsIdentOf trees db.0 (pos sysno))) }
-    ensures large { 2 ^ 63 ≤ sysno → IfOk result (λ found. found ≡ None) }
+    ensures value { TellsByNumber sysno (state S.Store conn.old) (state S.Store conn.new) result
+        (λ trees. IsIdentOf trees db.0 (pos sysno)) }
     ensures honest { IsHonest (state S.Store conn.old) (state S.Store conn.new) result
         (λ trees. AreReadableIdents trees db.0 (pos sysno)) }
-    ensures opened { IsOpenDamage (state S.Store conn.old) (state S.Store conn.new) result }
-    ensures refused { IsReasoned (state S.Store conn.old) (state S.Store conn.new) result }
+    ensures refused { IsDueRefusal (state S.Store conn.old) (state S.Store conn.new) result }
 {
     let Ok(sysno) = stored(sysno) else {
         // A closed connection is refused for such a number too.
@@ -156,8 +150,7 @@ pub fn record_count<S: Alter>(conn: &mut Connection<S>, db: DatabaseId) -> Resul
         (λ trees. IsRecordCount trees db.0) }
     ensures honest { OnStore (state S.Store conn.old) (state S.Store conn.new)
         (λ trees. result ≢ Err RegFault.Damaged) }
-    ensures opened { IsOpenDamage (state S.Store conn.old) (state S.Store conn.new) result }
-    ensures refused { IsReasoned (state S.Store conn.old) (state S.Store conn.new) result }
+    ensures refused { IsDueRefusal (state S.Store conn.old) (state S.Store conn.new) result }
 {
     let rows = count_rows(conn, db.column())?;
     match rows.first() {
@@ -178,14 +171,11 @@ pub fn record_from<S: Alter>(
 ) -> Result<Option<Record>, RegFault>
     ensures call { Reading (state S.Store conn.old) (state S.Store conn.new) result
         (λ _. IsUnchanged) }
-    ensures value { OnStore (state S.Store conn.old) (state S.Store conn.new)
-        (λ trees. start < 2 ^ 63 → IfOk result
-        (IsFirstFrom trees db.0 start)) }
-    ensures large { 2 ^ 63 ≤ start → IfOk result (λ found. found ≡ None) }
+    ensures value { TellsByNumber start (state S.Store conn.old) (state S.Store conn.new) result
+        (λ trees. IsFirstFrom trees db.0 start) }
     ensures honest { IsHonest (state S.Store conn.old) (state S.Store conn.new) result
         (λ trees. AreReadable trees db.0) }
-    ensures opened { IsOpenDamage (state S.Store conn.old) (state S.Store conn.new) result }
-    ensures refused { IsReasoned (state S.Store conn.old) (state S.Store conn.new) result }
+    ensures refused { IsDueRefusal (state S.Store conn.old) (state S.Store conn.new) result }
 {
     let Ok(start) = stored(start) else {
         // A closed connection is refused for such a number too.
@@ -208,16 +198,12 @@ pub fn record_from_inside<S: Alter>(
     ensures same { tx.new.conn.ghost_name ≡ tx.old.conn.ghost_name }
     ensures call { Inside (state S.Store tx.old.conn.now) (state S.Store tx.new.conn.now) result
         (λ _. OnlyReads) }
-    ensures value { InStore (state S.Store tx.old.conn.now) (state S.Store tx.new.conn.now)
-        (λ trees. start < 2 ^ 63 → IfOk result
-        (IsFirstFrom trees db.0 start)) }
-    ensures large { 2 ^ 63 ≤ start → IfOk result (λ found. found ≡ None) }
+    ensures value { TellsByNumberInside start (state S.Store tx.old.conn.now)
+        (state S.Store tx.new.conn.now) result (λ trees. IsFirstFrom trees db.0 start) }
     ensures honest { IsHonestInside (state S.Store tx.old.conn.now) (state S.Store tx.new.conn.now)
         result
         (λ trees. AreReadable trees db.0) }
-    ensures opened { IsOpenDamageInside (state S.Store tx.old.conn.now)
-        (state S.Store tx.new.conn.now) result }
-    ensures refused { IsReasonedInside (state S.Store tx.old.conn.now)
+    ensures refused { IsDueRefusalInside (state S.Store tx.old.conn.now)
         (state S.Store tx.new.conn.now) result }
 {
     let Ok(start) = stored(start) else {
@@ -247,8 +233,7 @@ pub fn records<S: Alter>(
         (map record_shown list.items)) }
     ensures honest { IsHonest (state S.Store conn.old) (state S.Store conn.new) result
         (λ trees. AreReadable trees db.0) }
-    ensures opened { IsOpenDamage (state S.Store conn.old) (state S.Store conn.new) result }
-    ensures refused { IsReasoned (state S.Store conn.old) (state S.Store conn.new) result }
+    ensures refused { IsDueRefusal (state S.Store conn.old) (state S.Store conn.new) result }
 {
     let rows = record_rows(conn, db.column())?;
     records_of(alloc, &rows)

@@ -6,8 +6,7 @@ ghost use Rattle.sqlite.specs.State.{IsUnchanged};
 ghost use Rattle.zeb_register.specs.Sql.{Replaces};
 ghost use Rattle.zeb_register.specs.Store.{meta_tree, entry, IsEntryOf, IsValueOf, AreReadableTexts};
 ghost use Rattle.zeb_register.specs.Calls.{Reading};
-ghost use Rattle.zeb_register.specs.Clauses.{Writes};
-ghost use Rattle.zeb_register.specs.Clauses.{IsHonest, IsOpenDamage, IsReasoned, Tells};
+ghost use Rattle.zeb_register.specs.Clauses.{IsDueRefusal, IsHonest, Tells, Writes};
 
 use crate::RegFault;
 use crate::statements::texts::text_rows;
@@ -27,8 +26,7 @@ pub fn meta_of<S: Alter>(conn: &mut Connection<S>, name: &str) -> Result<Option<
         (λ trees. IsValueOf trees name.now) }
     ensures honest { IsHonest (state S.Store conn.old) (state S.Store conn.new) result
         (λ trees. AreReadableTexts trees name.now) }
-    ensures opened { IsOpenDamage (state S.Store conn.old) (state S.Store conn.new) result }
-    ensures refused { IsReasoned (state S.Store conn.old) (state S.Store conn.new) result }
+    ensures refused { IsDueRefusal (state S.Store conn.old) (state S.Store conn.new) result }
 {
     let rows = text_rows(conn, name)?;
     match rows.first() {

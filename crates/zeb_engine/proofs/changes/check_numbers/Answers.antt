@@ -47,9 +47,9 @@ returns-clause-numbers g c clean inside store =
     let is = c.in_ok-next.ensures.above in
     let first_clean : HasCleanDisk mid = omega (arith, clean, c.record_from_inside-2.ensures.call.crash.clean) in
     let one = c.in_ok-first.ensures.call.ok first_clean inside in
-    let least = c.in_ok-first.ensures.value first_clean inside store (omega arith) in
+    let least = c.in_ok-first.ensures.value.small first_clean inside store (omega arith) in
     let more = subst (λ (d : Database). IsFirstFrom d.trees id next c.in_ok-above.above) one.now_is
-    (c.in_ok-above.ensures.value clean one.mode (store_same old mid one.now_is store) is.1) in
+    (c.in_ok-above.ensures.value.small clean one.mode (store_same old mid one.now_is store) is.1) in
     numbers_on c.check_found.result (AreGiven c.in_ok-first.first c.in_ok-above.above) _ (numbers_told old.now.trees id c.args.last next is.0 c.in_ok-first.first c.in_ok-above.above least more) c.check_found.ensures.given
 
 -- ---- when it tells damage
@@ -80,8 +80,8 @@ returns-clause-honest g c clean inside store damaged = λ well.
     let is = c.in_ok-next.ensures.above in
     let first_clean : HasCleanDisk mid = omega (arith, clean, c.record_from_inside-2.ensures.call.crash.clean) in
     let one = c.in_ok-first.ensures.call.ok first_clean inside in
-    let least = c.in_ok-first.ensures.value first_clean inside store (omega arith) in
+    let least = c.in_ok-first.ensures.value.small first_clean inside store (omega arith) in
     let more = subst (λ (d : Database). IsFirstFrom d.trees c.args.database.0 next c.in_ok-above.above) one.now_is
-    (c.in_ok-above.ensures.value clean one.mode (store_same old mid one.now_is store) is.1) in
+    (c.in_ok-above.ensures.value.small clean one.mode (store_same old mid one.now_is store) is.1) in
     damage_wrong c.check_found.result (¬ AreGiven c.in_ok-first.first c.in_ok-above.above) c.check_found.ensures.damaged damaged
     (numbers_given old.now.trees c.args.database.0 c.args.last next is.0 c.in_ok-first.first c.in_ok-above.above least more well.numbers)

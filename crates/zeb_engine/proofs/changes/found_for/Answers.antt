@@ -38,7 +38,7 @@ returns-in_ok-database-in-Delete-clause-finds g c clean store = c.in_ok-database
 pub returns-in_err-database_of-in-Update-clause-reads : goal.returns-in_err-database_of-in-Update-clause-reads
 returns-in_err-database_of-in-Update-clause-reads g c =
     let did = c.in_err-database_of-in-Update.ensures in
-    look_fails {A = Option Database} g.S.Store c.args.connection.now c.database_of.new.conn c.requires.idle (λ _. IsUnchanged) c.in_err-database_of-in-Update.field-0.0 did.call did.refused c.from_residual.result (search rules)
+    look_fails {A = Option Database} g.S.Store c.args.connection.now c.database_of.new.conn c.requires.idle (λ _. IsUnchanged) c.in_err-database_of-in-Update.field-0.0 did.call did.refused.reasoned c.from_residual.result (search rules)
 
 pub returns-in_ok-database_of-in-Update-clause-reads : goal.returns-in_ok-database_of-in-Update-clause-reads
 returns-in_ok-database_of-in-Update-clause-reads g c =

@@ -24,8 +24,8 @@ loop-turn-preserved g c =
       told = λ clean store.
           let first = clean_before now later c.record_from.ensures.call.crash clean in
           let before = c.loop-turn.invariant.told first store in
-          let small = read_stored old.now.trees db next c.in_ok-record.field-0 c.in-Some.record c.in-Some.is c.in_ok-record.ensures.large in
-          let value = subst (λ (t : Trees). IsFirstFrom t db next c.in_ok-record.field-0) (still_trees old now read first) (c.in_ok-record.ensures.value clean (still_store old now read first store) small) in
+          let small = read_stored old.now.trees db next c.in_ok-record.field-0 c.in-Some.record c.in-Some.is c.in_ok-record.ensures.value.large in
+          let value = subst (λ (t : Trees). IsFirstFrom t db next c.in_ok-record.field-0) (still_trees old now read first) (c.in_ok-record.ensures.value.small clean (still_store old now read first store) small) in
           let found = subst (IsFirstFrom old.now.trees db next) c.in-Some.is value in
           let most : c.saturating_add-next.result ≤ c.in-Some.record.sysno + 1 = omega (arith, c.saturating_add-next.ensures) in
           let up : c.saturating_add-next.result < 2 ^ 63 → c.saturating_add-next.result ≡ c.in-Some.record.sysno + 1 = λ less. omega (arith, less, c.saturating_add-next.ensures) in
@@ -66,7 +66,7 @@ returns-clause-told g c clean store =
           let clean0 : HasCleanDisk now = omega (arith, w.record_from.ensures.call.crash.clean) in
           let before = c.loop-turn.invariant.told clean0 store in
           let value : next < 2 ^ 63 → IsFirstFrom old.now.trees db next w.in_ok-record.field-0 =
-          λ small. subst (λ (t : Trees). IsFirstFrom t db next w.in_ok-record.field-0) (still_trees old now read clean0) (w.in_ok-record.ensures.value clean1 (still_store old now read clean0 store) small) in
+          λ small. subst (λ (t : Trees). IsFirstFrom t db next w.in_ok-record.field-0) (still_trees old now read clean0) (w.in_ok-record.ensures.value.small clean1 (still_store old now read clean0 store) small) in
           read_whole old.now.trees db next c.loop-turn.bytes.items before.1 (λ n stored there. none_left old.now.trees db next n w.in_ok-record.field-0 w.in_default.is value stored there)
     ]
 
@@ -79,5 +79,5 @@ returns-in_err-record-clause-told g c =
     let told : c.from_residual.result ≡ Err cause = search rules in
     let Hides = λ (trees : Trees). ¬ AreReadable trees c.args.database.0 in
     let Joins = λ (trees : Trees) (bytes : Vec ℕ Global). JoinsRecords trees c.args.database.0 bytes.items in
-    let tells = told_refused {A = Option Record} Hides Joins now new cause (Err cause) refl c.in_err-record.ensures.honest c.in_err-record.ensures.refused in
+    let tells = told_refused {A = Option Record} Hides Joins now new cause (Err cause) refl c.in_err-record.ensures.honest c.in_err-record.ensures.refused.reasoned in
     tells_refused Hides Hides Joins Joins old new cause c.from_residual.result told (λ _ _ hidden. hidden) (tells_later Hides Joins old now new c.loop-turn.invariant.read c.record_from.ensures.call.crash (Err cause) tells)

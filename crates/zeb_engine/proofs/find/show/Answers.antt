@@ -22,7 +22,7 @@ loop-number-preserved g c =
       told = λ clean store.
           let first = clean_before now new c.ident_of.ensures.call.crash clean in
           let value = ident_stored old.now.trees db number c.in_ok-ident.field-0 c.in-Some.ident
-          (λ less. subst (λ t. IsIdentOf t db (pos number) c.in_ok-ident.field-0) (still_trees old now read first) (c.in_ok-ident.ensures.value clean (still_store old now read first store) less)) c.in_ok-ident.ensures.large c.in-Some.is in
+          (λ less. subst (λ t. IsIdentOf t db (pos number) c.in_ok-ident.field-0) (still_trees old now read first) (c.in_ok-ident.ensures.value.small clean (still_store old now read first store) less)) c.in_ok-ident.ensures.value.large c.in-Some.is in
           let more = shown_more old.now.trees db numbers index number (map told c.loop-number.shown.items) c.in-Some.ident c.loop-number-test.true refl value (c.loop-number.invariant.told first store) in
           let all : map told c.push_reserved.new.self.items ≡ map told c.loop-number.shown.items ++ told (record { sysno = number; ident = c.in-Some.ident }) ∷ [] =
           ap (map told) c.push_reserved.ensures.items ∙ map-append told c.loop-number.shown.items (record { sysno = number; ident = c.in-Some.ident } ∷ []) in
@@ -51,7 +51,7 @@ returns-in_default-clause-told g c clean store =
     let read = c.loop-number.invariant.read in
     let first = clean_before now (state g.S.Store c.ident_of.new.conn) c.ident_of.ensures.call.crash clean in
     let value : number < 2 ^ 63 → IsIdentOf old.now.trees db (pos number) c.in_ok-ident.field-0 =
-    λ less. subst (λ t. IsIdentOf t db (pos number) c.in_ok-ident.field-0) (still_trees old now read first) (c.in_ok-ident.ensures.value clean (still_store old now read first store) less) in
+    λ less. subst (λ t. IsIdentOf t db (pos number) c.in_ok-ident.field-0) (still_trees old now read first) (c.in_ok-ident.ensures.value.small clean (still_store old now read first store) less) in
     (λ is small. none_shown old.now.trees db c.args.numbers.now index number c.in_ok-ident.field-0 c.loop-number-test.true refl small value c.in_default.is, λ is. absurd cc)
 
 pub returns-in_err-ident-clause-told : goal.returns-in_err-ident-clause-told
@@ -67,6 +67,6 @@ returns-in_err-ident-clause-told g c =
     let told : c.from_residual-in_err-ident.result ≡ Err cause = search rules in
     let Hides = λ (trees : Trees). ¬ AreReadableIdents trees db (pos number) in
     let Any = λ (trees : Trees) (found : Option (String Global)). Unit {0} in
-    let tells = told_refused {A = Option (String Global)} Hides Any now new cause (Err cause) refl c.in_err-ident.ensures.honest c.in_err-ident.ensures.refused in
+    let tells = told_refused {A = Option (String Global)} Hides Any now new cause (Err cause) refl c.in_err-ident.ensures.honest c.in_err-ident.ensures.refused.reasoned in
     tells_refused Hides (λ trees. ((n : ℕ) → Has numbers n → n < 2 ^ 63) → HidesOne trees db numbers) Any (λ (trees : Trees) (shown : Vec Hit Global). AreShown (has_ident_in trees db) numbers (map (λ hit. (hit.sysno, string_bytes hit.ident)) shown.items)) old new cause c.from_residual-in_err-ident.result told
     (λ _ _ hidden small. hidden_shown old.now.trees db numbers index number c.loop-number-test.true refl hidden) (tells_later Hides Any old now new c.loop-number.invariant.read c.ident_of.ensures.call.crash (Err cause) tells)

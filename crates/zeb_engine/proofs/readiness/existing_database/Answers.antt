@@ -9,7 +9,7 @@ use Rattle.zeb_engine.proofs.readiness.existing_database.Goals as goal
 
 pub returns-in_err-database-clause-reads : goal.returns-in_err-database-clause-reads
 returns-in_err-database-clause-reads g c =
-    look_fails {A = Option Database} g.S.Store c.args.connection.now c.database_of.new.conn c.requires.idle (λ _. IsUnchanged) c.in_err-database.field-0.0 c.in_err-database.ensures.call c.in_err-database.ensures.refused c.from_residual.result (search rules)
+    look_fails {A = Option Database} g.S.Store c.args.connection.now c.database_of.new.conn c.requires.idle (λ _. IsUnchanged) c.in_err-database.field-0.0 c.in_err-database.ensures.call c.in_err-database.ensures.refused.reasoned c.from_residual.result (search rules)
 
 pub returns-in-Some-clause-reads : goal.returns-in-Some-clause-reads
 returns-in-Some-clause-reads g c = look_done g.S.Store c.args.connection.now c.database_of.new.conn c.requires.idle c.in_ok-database.field-0 c.in_ok-database.ensures.call c.in-Some.database

@@ -31,7 +31,7 @@ pub returns-in_err-kept-clause-reads : goal.returns-in_err-kept-clause-reads
 returns-in_err-kept-clause-reads g c =
     let mid = state g.S.Store c.existing_database.new.connection in
     reads_fail g.S.Store c.args.connection.now c.existing_database.new.connection c.in_ok-database.database c.in_ok-database.ensures.reads mid c.record_count.new.conn (read_still mid) (λ _. IsUnchanged) c.in_err-kept.field-0.0 c.in_err-kept.ensures.call
-    c.in_err-kept.ensures.refused c.from_residual-in_err-kept.result (search rules)
+    c.in_err-kept.ensures.refused.reasoned c.from_residual-in_err-kept.result (search rules)
 
 pub returns-in_err-kept-clause-tables : goal.returns-in_err-kept-clause-tables
 returns-in_err-kept-clause-tables g c clean store =
