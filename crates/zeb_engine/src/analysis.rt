@@ -14,7 +14,8 @@ use zeb_profile::Profile;
 
 /// The names of a profile's indexes, each at its number.
 fn index_names(alloc: Global, profile: &Profile) -> Result<Vec<String>, AllocError>
-    ensures { IfOk result (λ names. map string_bytes names.items ≡ indexes.index_names profile.now) }
+    ensures { IfOk result (λ names. map string_bytes names.items
+        ≡ indexes.index_names profile.now) }
 {
     let mut names = Vec::new(alloc);
     for index in 0..profile.index_count() {

@@ -43,7 +43,8 @@ fn row_down(
         × IfDamaged (HidesDown n end.entry.term.now end.entry.block
         own.entry.term.now own.entry.block row.now counts.old.items) fault)
         (λ enough. CountsDown n end.entry.term.now end.entry.block
-        own.entry.term.now own.entry.block row.now counts.old.items counts.new.items enough) result }
+        own.entry.term.now own.entry.block row.now counts.old.items counts.new.items enough)
+        result }
 {
     let mut entries = own_entries(alloc, row, own, Some(end))?;
     entries.reverse();

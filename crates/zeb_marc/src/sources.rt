@@ -149,8 +149,8 @@ impl<R: Ask> Source for FromRead<R> {
     /// The reader is asked once, whatever it answers, and its failure is passed on; it isn't asked any more once it has failed.
     fn read(&mut self, buffer: &mut [u8]) -> Result<usize, ReadFailed>
         ensures bound { ReadsAtMost result buffer.new }
-        ensures bytes { ReadConsumes (R.remaining self.old.reader) (R.remaining self.new.reader) result
-            buffer.new }
+        ensures bytes { ReadConsumes (R.remaining self.old.reader) (R.remaining self.new.reader)
+            result buffer.new }
         ensures failed { self.new.failed ≡ (if is_ok result then self.old.failed else true) }
         ensures asked { AsksOnce R.asks self.old.failed self.old.reader result buffer.new
             self.new.reader }

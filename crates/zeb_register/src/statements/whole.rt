@@ -79,8 +79,8 @@ pub(crate) fn table_clear<S: Alter>(
     db: DatabaseId,
 ) -> Result<(), RegFault>
     ensures same { tx.new.conn.ghost_name ≡ tx.old.conn.ghost_name }
-    ensures call { Writes (tree_of table) (Loses (IsOfDatabase db.0)) (state S.Store tx.old.conn.now)
-        (state S.Store tx.new.conn.now) result }
+    ensures call { Writes (tree_of table) (Loses (IsOfDatabase db.0))
+        (state S.Store tx.old.conn.now) (state S.Store tx.new.conn.now) result }
     ensures honest { result ≢ Err RegFault.Damaged }
 {
     let id = db.column();
