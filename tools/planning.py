@@ -3,13 +3,14 @@
 `rt ci` plans by lines how much memory a proof takes, three to four times too much for these crates, and gives a crate its processes when that
 begins: a long crate that begins beside others stays with one when these have ended, and all that stand on it wait for that one. With RT_JOBS it
 asks for no memory, but each crate has one process, and the longest chain of crates takes an hour. So here it plans with a part of the memory
-and with more processes than there are processors, and the longest chains come first: other proofs give way to these, and tests to all proofs.
-Edits begin when all is proved, for they hold what a proof waits for.
+and with more processes than there are processors. A proof gives way to those with more work before the end, its own and that of the longest
+chain that waits for it, and tests to all proofs. Edits begin when all is proved, for they hold what a proof waits for.
+
+The work is counted in lines of source, as by rt: nearly all crates were seen to take 0.2 to 0.3 processor seconds a line, however long their
+proof files are.
 """
 import os
 from concurrent.futures import ThreadPoolExecutor
-
-from repository import ROOT
 
 # What part of the planned memory these crates were seen to take at most.
 PART_OF_MEMORY = 4
@@ -18,29 +19,29 @@ AT_ONCE = 2
 # How many processes a proof of the longest chains has at least, and any other: rt gives it one where much else is ready too, and it stays with that
 # one when all else has ended.
 IN_CHAIN, BESIDE = 3, 2
-# By how much proofs of shorter chains lower their priority, and all other tasks.
-PROOF_GIVES_WAY, OTHERS_GIVE_WAY = 3, 6
+# By how much tasks beside proofs lower their priority. A proof does so by the part of this that it is nearer to the end than the farthest one.
+LEAST_PRIORITY = 19
 # What part of the longest chain one has to have that is nearly as long: lines tell the time of a proof no better than that.
 NEARLY = 0.85
 
 
-def work_of(name):
-    """The work of a crate's proof, in lines of source: rt counts these alone, but two lines of proofs were seen to take as long as one of them."""
-    lines = {end: sum(it.read_bytes().count(b"\n") for it in (ROOT / "crates" / name).glob(f"{part}/**/*{end}")) for part, end in (("src", ".rt"), ("proofs", ".antt"))}
-    return lines[".rt"] + lines[".antt"] // 2
-
-
-def longest_chains(tasks):
-    """Of tasks, each with what it waits for and its work in lines: those of the longest chain of them, and of chains nearly as long."""
-    before, behind = {}, {}
-    # a task stands behind those that it waits for
-    for key, (waits, lines, *_) in tasks.items():
-        before[key] = lines + max((before[it] for it in waits), default=0)
-    for key, (waits, lines, *_) in reversed(tasks.items()):
-        behind[key] = behind.get(key, 0)
+def work_to_the_end(proofs):
+    """Of each proof, its work with that of the longest chain of those that wait for it."""
+    left = {}
+    # a proof stands behind those that it waits for
+    for key, (waits, lines) in reversed(proofs.items()):
+        left[key] = left.get(key, 0) + lines
         for it in waits:
-            behind[it] = max(behind.get(it, 0), behind[key] + lines)
-    through = {key: before[key] + behind[key] for key in tasks}
+            left[it] = max(left.get(it, 0), left[key])
+    return left
+
+
+def longest_chains(proofs, left):
+    """The proofs of the longest chain of them, and of chains nearly as long."""
+    before = {}
+    for key, (waits, _) in proofs.items():
+        before[key] = max((before[it] + proofs[it][1] for it in waits), default=0)
+    through = {key: before[key] + left[key] for key in proofs}
     return {key for key, it in through.items() if it >= NEARLY * max(through.values())}
 
 
@@ -61,13 +62,15 @@ def plan_closely(rt):
     rt.processors = lambda: AT_ONCE * there
 
     def in_lanes_by_priority(tasks):
-        tasks = {key: (waits, work_of(key[0]) if key[1] == "proof" else lines, *more) for key, (waits, lines, *more) in tasks.items()}
-        first, proofs = longest_chains(tasks), [key for key in tasks if key[1] == "proof"]
+        proofs = {key: ([it for it in waits if it[1] == "proof"], lines) for key, (waits, lines, *_) in tasks.items() if key[1] == "proof"}
+        left = work_to_the_end(proofs)
+        first, most = longest_chains(proofs, left), max(left.values(), default=1)
 
         def laid_out(key, waits, lines, needs, call):
-            if key[1] == "proof":
-                return waits, lines, needs, giving_way(0, call, IN_CHAIN) if key in first else giving_way(PROOF_GIVES_WAY, call, BESIDE)
-            return waits if key[1] == "tests" else [*waits, *proofs], lines, needs, giving_way(OTHERS_GIVE_WAY, call)
+            if key in proofs:
+                gives_way = round(LEAST_PRIORITY * (1 - left[key] / most))
+                return waits, lines, needs, giving_way(gives_way, call, IN_CHAIN if key in first else BESIDE)
+            return waits if key[1] == "tests" else [*waits, *proofs], lines, needs, giving_way(LEAST_PRIORITY, call)
 
         return in_lanes({key: laid_out(key, *it) for key, it in tasks.items()})
 
