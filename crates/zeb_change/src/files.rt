@@ -25,8 +25,8 @@ use zeb_marc::{MarcFault, RecordBuf, Source, next_record};
 use zeb_register::Layout;
 use zeb_register::for_layouts::counts_are_numbers;
 
-/// How many bytes of memory what is noted of keys takes before it is written: 110 MB.
-const MOST_NOTED: usize = 110_000_000;
+/// How many bytes of memory what is noted of keys takes before it is written: 115 MB.
+const MOST_NOTED: usize = 115_000_000;
 
 /// Reads a file's next record into the buffer, and says whether there is one.
 fn read_record<R: Source>(reader: &mut R, buffer: &mut RecordBuf) -> Result<bool, MarcFault>
