@@ -19,8 +19,8 @@ AT_ONCE = 2
 # How many processes a proof of the longest chains has at least, and any other: rt gives it one where much else is ready too, and it stays with that
 # one when all else has ended.
 IN_CHAIN, BESIDE = 3, 2
-# By how much tasks beside proofs lower their priority. A proof does so by the part of this that it is nearer to the end than the farthest one.
-LEAST_PRIORITY = 19
+# By how much tasks beside proofs lower their priority, and at most a proof: by the part of it that it is nearer to the end than the farthest one.
+OTHERS_GIVE_WAY, PROOFS_GIVE_WAY = 19, 12
 # What part of the longest chain one has to have that is nearly as long: lines tell the time of a proof no better than that.
 NEARLY = 0.85
 
@@ -68,9 +68,9 @@ def plan_closely(rt):
 
         def laid_out(key, waits, lines, needs, call):
             if key in proofs:
-                gives_way = round(LEAST_PRIORITY * (1 - left[key] / most))
+                gives_way = round(PROOFS_GIVE_WAY * (1 - left[key] / most))
                 return waits, lines, needs, giving_way(gives_way, call, IN_CHAIN if key in first else BESIDE)
-            return waits if key[1] == "tests" else [*waits, *proofs], lines, needs, giving_way(LEAST_PRIORITY, call)
+            return waits if key[1] == "tests" else [*waits, *proofs], lines, needs, giving_way(OTHERS_GIVE_WAY, call)
 
         return in_lanes({key: laid_out(key, *it) for key, it in tasks.items()})
 
