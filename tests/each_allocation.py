@@ -75,7 +75,7 @@ ALL = {
         "lists::a_list_lacks_memory_or_one_command_does",
         "lists::a_list_in_leaves_lacks_memory_or_one_command_does",
     ],
-    "hindered_runs": ["memory::memory_or_the_ordinary_answer"],
+    "hindered_runs": ["memory::memory_or_the_ordinary_answer", "memory::memory_or_the_ordinary_answer_in_leaves"],
 }
 
 
