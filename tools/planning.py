@@ -6,8 +6,8 @@ asks for no memory, but each crate has one process, and the longest chain of cra
 and with more processes than there are processors. A proof gives way to those with more work before the end, its own and that of the longest
 chain that waits for it, and tests to all proofs. Edits begin when all is proved, for they hold what a proof waits for.
 
-The work is counted in lines of source, as by rt: nearly all crates were seen to take 0.2 to 0.3 processor seconds a line, however long their
-proof files are.
+The work is counted in lines of source, as by rt: most crates were seen to take 0.2 to 0.35 processor seconds a line, however long their proof files
+are.
 """
 import os
 from concurrent.futures import ThreadPoolExecutor
