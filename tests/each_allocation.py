@@ -58,8 +58,8 @@ ALL = {
         "analyses::analyses_are_made",
     ],
     "tables": ["tests::memory::one_request_for_memory_may_be_refused"],
-    "acceptance": ["words::each_line_is_read"],
-    "refused_memory": [
+    "endurance": [
+        "words::each_line_is_read",
         "stories::memory_or_the_ordinary_answer",
         "stories::memory_or_the_ordinary_answer_in_leaves",
         "stories::memory_or_the_ordinary_change",
@@ -74,8 +74,9 @@ ALL = {
         "stories::memory_or_the_refusal_of_damage_in_leaves",
         "lists::a_list_lacks_memory_or_one_command_does",
         "lists::a_list_in_leaves_lacks_memory_or_one_command_does",
+        "memory::memory_or_the_ordinary_answer",
+        "memory::memory_or_the_ordinary_answer_in_leaves",
     ],
-    "hindered_runs": ["memory::memory_or_the_ordinary_answer", "memory::memory_or_the_ordinary_answer_in_leaves"],
 }
 
 

@@ -123,6 +123,26 @@ type Stopping = Files<Fuse<Memory>>;
 
 type OnFiles = Connection<FileStore<Fuse<Memory>>>;
 
+/// Tells a story on a store over files in memory.
+fn told_on<L: Layout>(
+    alloc: Global,
+    new: Connection<FileStore<Memory>>,
+    story: &str,
+) -> Result<Connection<FileStore<Memory>>, Fail> {
+    let mut connection = new;
+    for row in &rows_of(alloc, story)? {
+        let (left, answer) = ask::<FileStore<Memory>, L>(
+            alloc,
+            connection,
+            row.setting,
+            row.command,
+        );
+        prints(alloc, &answer, row.command, row.wanted)?;
+        connection = left;
+    }
+    Ok(connection)
+}
+
 /// Files on which a story was told, and which stop after so many calls of the log, or of the database file.
 fn begun<L: Layout>(
     alloc: Global,
@@ -134,20 +154,10 @@ fn begun<L: Layout>(
         log: Memory::new(alloc),
         db: Memory::new(alloc),
     };
-    let Ok(mut connection) = connected(alloc, new) else {
+    let Ok(connection) = connected(alloc, new) else {
         return Err(Fail::new("files are refused"));
     };
-    for row in &rows_of(alloc, story)? {
-        let (left, answer) = ask::<FileStore<Memory>, L>(
-            alloc,
-            connection,
-            row.setting,
-            row.command,
-        );
-        prints(alloc, &answer, row.command, row.wanted)?;
-        connection = left;
-    }
-    let files = connection.into_store().close();
+    let files = told_on::<L>(alloc, connection, story)?.into_store().close();
     Ok(Files {
         log: Fuse::new(files.log, log_calls),
         db: Fuse::new(files.db, db_calls),

@@ -12,6 +12,7 @@ use zeb_register::{DatabaseId, Layout, RegFault, Rows, database_of};
 mod changes;
 mod damage;
 mod files;
+mod leaves;
 mod lists;
 mod memory;
 mod moby_dick;

@@ -45,6 +45,14 @@ fn closed(conn: Connection<FileStore<Memory>>) -> Result<Files<Memory>, Error> {
     }
 }
 
+/// Runs a table over files, which are given back.
+fn run_in_files(alloc: Global, files: Files<Memory>, table: &str) -> Result<Files<Memory>, Fail> {
+    let Ok(conn) = connected(alloc, files) else {
+        return Err(Fail::new("the files can't be opened"));
+    };
+    Ok(closed(run_over(alloc, conn, table)?)?)
+}
+
 #[test]
 fn the_next_run_finds_the_tables_in_files_in_memory(rt: HostRuntime) -> Outcome {
     let mut files = Files {
@@ -52,10 +60,16 @@ fn the_next_run_finds_the_tables_in_files_in_memory(rt: HostRuntime) -> Outcome 
         db: Memory::new(rt.alloc()),
     };
     for table in RUNS.split("\n\n") {
-        let Ok(conn) = connected(rt.alloc(), files) else {
-            return Err(Fail::new("the files can't be opened"));
-        };
-        files = closed(run_over(rt.alloc(), conn, table)?)?;
+        files = run_in_files(rt.alloc(), files, table)?;
+    }
+    Ok(())
+}
+
+/// Runs a table over the file at a path, and closes it, or leaves it open.
+fn run_in_file(rt: &HostRuntime, path: &str, table: &str, is_closed: bool) -> Outcome {
+    let conn = run_over(rt.alloc(), Connection::open(rt, path)?, table)?;
+    if is_closed {
+        conn.close()?;
     }
     Ok(())
 }
@@ -67,10 +81,7 @@ fn the_next_run_finds_the_tables_in_a_file(rt: HostRuntime) -> Outcome {
     fs::create_dir_all(&rt, folder.as_str())?;
     let path = format!(in rt.alloc(); "{folder}/books.db")?;
     for (place, table) in RUNS.split("\n\n").enumerate() {
-        let conn = run_over(rt.alloc(), Connection::open(&rt, &path)?, table)?;
-        if place == 0 {
-            conn.close()?;
-        }
+        run_in_file(&rt, &path, table, place == 0)?;
     }
     fs::remove_dir_all(&rt, folder.as_str())?;
     Ok(())

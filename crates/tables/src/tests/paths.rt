@@ -7,11 +7,8 @@ use std::{env, fs};
 use zeb_marc::Source;
 use zeb_paths::{Disk, Paths, Walk};
 
-/// Walks over a path: the files' paths with a space between.
-fn walked(alloc: Global, disk: &Disk<'_>, path: &str) -> Result<String, Fail> {
-    let mut named = Vec::new(alloc);
-    named.push(String::from_str(alloc, path)?)?;
-    let mut walk = Walk::new(alloc, disk, &named)?;
+/// The files' paths that a walk gives, with a space between.
+fn paths_of(alloc: Global, walk: &mut Walk<'_, Disk<'_>>) -> Result<String, Fail> {
     let mut found = Vec::new(alloc);
     for _ in 0..100 {
         match walk.next_file() {
@@ -21,6 +18,12 @@ fn walked(alloc: Global, disk: &Disk<'_>, path: &str) -> Result<String, Fail> {
         }
     }
     Err(Fail::new("too many files"))
+}
+
+/// Walks over a path.
+fn walked(alloc: Global, disk: &Disk<'_>, path: &str) -> Result<String, Fail> {
+    let named = [String::from_str(alloc, path)?];
+    paths_of(alloc, &mut Walk::new(alloc, disk, &named)?)
 }
 
 /// Reads a source to its end by portions of two bytes, or says that a read failed.

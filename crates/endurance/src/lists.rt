@@ -7,7 +7,7 @@ use std::alloc::{AllocError, AllocGlobal, Global};
 use std::process::Abort;
 use std::test::Fail;
 use tables::queries::state;
-use zeb_engine::{Command, Limits, Refusal};
+use zeb_engine::{Command, Limits, Refusal, Session};
 use zeb_leaves::Leaves;
 use zeb_packed::Blocks;
 use zeb_register::Layout;
@@ -49,25 +49,37 @@ fn listed(alloc: Global, left_out: usize) -> Result<Vec<Command>, AllocError> {
     Ok(commands)
 }
 
-/// The answers to these over a new register, and all rows behind them. A list that lacks memory as a whole has run nothing, and is run
-/// again.
+/// A session over a new register in memory.
+fn begun<L: Layout>(alloc: Global) -> Result<Session<MemStore, L>, AllocError> {
+    let new = Connection::open_in_memory(alloc).or(Err(AllocError))?;
+    adopted::<MemStore, L>(alloc, new, "books", Limits::GREATEST).or(Err(AllocError))
+}
+
+/// The answers to these. A list that lacks memory as a whole has run nothing, and is run again.
+fn answers_to<H: Abort + AllocGlobal, L: Layout>(
+    rt: &H,
+    session: &mut Session<MemStore, L>,
+    commands: &[Command],
+) -> Result<Vec<Answer>, Stopped> {
+    match session.run_all(commands) {
+        Ok(answers) => Ok(answers),
+        Err(refusal) => {
+            assert!(rt; matches!(refusal, Refusal::Memory));
+            let check = answer(rt.alloc(), session, "check");
+            prints(rt.alloc(), &check, "check", "1: register not initialised")?;
+            Ok(session.run_all(commands).or(Err(AllocError))?)
+        }
+    }
+}
+
+/// The answers to the list but one of its commands over a new register, and all rows behind them.
 fn ran<H: Abort + AllocGlobal, L: Layout>(
     rt: &H,
     left_out: usize,
 ) -> Result<(Vec<Answer>, String), Stopped> {
     let commands = listed(rt.alloc(), left_out)?;
-    let new = Connection::open_in_memory(rt.alloc()).or(Err(AllocError))?;
-    let adopted = adopted::<MemStore, L>(rt.alloc(), new, "books", Limits::GREATEST);
-    let mut session = adopted.or(Err(AllocError))?;
-    let answers = match session.run_all(&commands) {
-        Ok(answers) => answers,
-        Err(refusal) => {
-            assert!(rt; matches!(refusal, Refusal::Memory));
-            let check = answer(rt.alloc(), &mut session, "check");
-            prints(rt.alloc(), &check, "check", "1: register not initialised")?;
-            session.run_all(&commands).or(Err(AllocError))?
-        }
-    };
+    let mut session = begun::<L>(rt.alloc())?;
+    let answers = answers_to(rt, &mut session, &commands)?;
     assert_eq!(rt; answers.len(), commands.len());
     let rows = state(rt.alloc(), &mut session.release()).or(Err(AllocError))?;
     Ok((answers, rows))

@@ -4,11 +4,11 @@
 //! terms it has, and how many postings. Of a text with `+` and a number it is so many terms from there on, and with `-` so many below. Of a
 //! statement of SQL it is the rows, each with a semicolon behind it.
 
+use crate::queries::rows;
 use sqlite::{Alter, Connection, params};
 use std::alloc::Global;
 use std::fmt::Write;
 use std::test::Fail;
-use tables::queries::rows;
 use zeb_keys::{Key, Register, Term};
 use zeb_leaves::{Leaves, key_count};
 use zeb_register::{
