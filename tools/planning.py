@@ -2,8 +2,8 @@
 
 `rt ci` gives a proof up to four processes where nothing else is ready as it begins. Each is a copy of what was proved so far, and by two or three of
 them a crate takes a third to a half more processor time. It also plans three to four times the memory that these crates take. With RT_JOBS it does
-neither: so many tasks run side by side, and each has one process. Only in a build, where processors would stay idle, those of the longest chain have
-more.
+neither: as many tasks run side by side as there are processors, and each has one process. Only in a build, where processors would stay idle, those of
+the longest chain have more.
 
 A proof gives way to those with more work before the end, its own and that of the longest chain that waits for it, and tests and edits to all proofs.
 The work is counted in lines of source, as by rt: most crates were seen to take 0.2 to 0.35 processor seconds a line, however long their proof files
@@ -12,10 +12,8 @@ are.
 import os
 from concurrent.futures import ThreadPoolExecutor
 
-# So many tasks run beside each other more than there are processors: a proof then begins beside tests, which give way to it.
-MORE_THAN_PROCESSORS = 2
-# The bytes of memory that tasks side by side were seen to take, each; some alone take up to 5.4 GB.
-MEMORY_OF_ONE = 3_500_000_000
+# The bytes of memory that are kept for each task: most were seen to take 1 to 3 GB, and the greatest three, side by side at the end, 17.
+MEMORY_OF_ONE = 5_200_000_000
 # How many processes a proof of the longest chain has in a build, and always fewer than there are processors.
 IN_CHAIN = 3
 # By how much tasks beside proofs lower their priority, and at most a proof: by the part of it that it is nearer to the end than the farthest one.
@@ -73,7 +71,8 @@ def plan_closely(rt, most_in_chain=1):
                 return waits, lines, needs, giving_way(gives_way, call, in_chain if key in chain else 1)
             return waits if key[1] == "tests" else [*waits, *first], lines, needs, giving_way(OTHERS_GIVE_WAY, call)
 
-        side_by_side = min(there + MORE_THAN_PROCESSORS, rt.free() // MEMORY_OF_ONE)
+        # a proof that others wait for takes the place of the last one that it waited for itself
+        side_by_side = min(there, rt.free() // MEMORY_OF_ONE)
         os.environ["RT_JOBS"] = str(max(side_by_side, 1))
         return in_lanes({key: laid_out(key, *it) for key, it in tasks.items()})
 
