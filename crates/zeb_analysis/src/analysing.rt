@@ -23,7 +23,7 @@ pub struct Analysis {
 }
 
 /// What the records of all files are analysed by.
-#[derive(Clone, Copy, Debug)]
+#[derive(Clone, Copy)]
 pub(crate) struct Setting<'a> {
     pub(crate) alloc: Global,
     pub(crate) profile: &'a Profile,

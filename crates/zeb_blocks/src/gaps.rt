@@ -7,7 +7,7 @@ use std::alloc::AllocError;
 
 /// How far a posting is above the one before it: the gap of the system number; the unit, as its gap where the system number is
 /// the same; the place, as its gap where the unit too is the same. Each number is 0 to 2^64 - 1. This coding is the project's own.
-#[derive(Clone, Copy, Debug, PartialEq, Eq)]
+#[derive(Clone, Copy, PartialEq, Eq)]
 pub(crate) struct Gaps {
     pub(crate) sysno: u64,
     pub(crate) seq: u64,

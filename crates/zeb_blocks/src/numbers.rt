@@ -16,8 +16,9 @@ fn with_group(value: u64, scale: u64, byte: u8) -> Option<u64>
     value.checked_add(group)
 }
 
-/// The number in its shortest form at the front of the bytes, and the bytes behind it; `None` where no number below 2^64 stands there.
-pub fn read_number<'a>(bytes: &'a [u8]) -> Option<(u64, &'a [u8])>
+/// As [`read_number`], group by group.
+#[inline(never)]
+fn read_groups<'a>(bytes: &'a [u8]) -> Option<(u64, &'a [u8])>
     ensures { MatchOption result ((n : ℕ) (rest : List ℕ) → n < 2 ^ 64 → bytes.now ≢ uleb n ++ rest)
         (λ found. (found.0 < 2 ^ 64) × (bytes.now ≡ uleb found.0 ++ found.1.now)) }
 {
@@ -37,6 +38,21 @@ pub fn read_number<'a>(bytes: &'a [u8]) -> Option<(u64, &'a [u8])>
         scale = scale.checked_mul(GROUP)?;
         left = behind;
     }
+}
+
+/// The number in its shortest form at the front of the bytes, and the bytes behind it; `None` where no number below 2^64 stands there.
+/// Most numbers take one byte: then no call is made.
+#[inline(always)]
+pub fn read_number<'a>(bytes: &'a [u8]) -> Option<(u64, &'a [u8])>
+    ensures { MatchOption result ((n : ℕ) (rest : List ℕ) → n < 2 ^ 64 → bytes.now ≢ uleb n ++ rest)
+        (λ found. (found.0 < 2 ^ 64) × (bytes.now ≡ uleb found.0 ++ found.1.now)) }
+{
+    if let Some((first, rest)) = bytes.split_first() {
+        if *first < 128 {
+            return Some((u64::from(*first), rest));
+        }
+    }
+    read_groups(bytes)
 }
 
 /// Puts the shortest form of a number at the end. Where memory ran out, a part of it may have been put there.

@@ -10,7 +10,7 @@ use std::cmp::Ordering;
 use zeb_keys::{Key, Occurrence, order_is_by_parts};
 
 /// A key with its occurrences in the elder record and in the newer one. Either list rises.
-#[derive(Clone, Copy, Debug)]
+#[derive(Clone, Copy)]
 pub(crate) struct ChangedKey<'a> {
     pub key: &'a Key,
     pub old: &'a [Occurrence],

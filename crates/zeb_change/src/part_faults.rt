@@ -8,7 +8,7 @@ use zeb_marc::MarcFault;
 use zeb_register::RegFault;
 
 /// Why a record of a file can't be taken, whatever the database keeps. It is found in bytes and memory alone.
-#[derive(Clone, Copy, Debug)]
+#[derive(Clone, Copy)]
 pub(crate) enum IncomingFault {
     /// It is no record, or has no sound identifier.
     Record {
@@ -37,7 +37,7 @@ impl IncomingFault {
 }
 
 /// Why a sound record isn't taken, beside its elder.
-#[derive(Clone, Copy, Debug)]
+#[derive(Clone, Copy)]
 pub(crate) enum TurnFault {
     /// No record with its identifier is kept.
     Unknown { file: u64, nth: u64 },
@@ -58,7 +58,7 @@ impl From<RegFault> for TurnFault {
 }
 
 /// Why a record of a file isn't taken.
-#[derive(Clone, Copy, Debug)]
+#[derive(Clone, Copy)]
 pub(crate) enum ChangeFault {
     Incoming(IncomingFault),
     Turn(TurnFault),
@@ -96,7 +96,7 @@ impl From<RegFault> for ChangeFault {
 }
 
 /// Why no further record is taken.
-#[derive(Clone, Copy, Debug)]
+#[derive(Clone, Copy)]
 pub(crate) enum TakeFault {
     /// One command has too many records.
     TooManyRecords,
@@ -126,7 +126,7 @@ impl From<RegFault> for TakeFault {
 }
 
 /// Why the files aren't folded in.
-#[derive(Clone, Copy, Debug)]
+#[derive(Clone, Copy)]
 pub(crate) enum FoldFault {
     /// A reader failed.
     ReadFault { file: u64 },

@@ -38,7 +38,7 @@ pub struct Progress {
 }
 
 /// One record of a file. Files are counted from 1, and records from 1 within their file.
-#[derive(Clone, Copy, Debug)]
+#[derive(Clone, Copy)]
 pub(crate) struct Incoming<'a> {
     pub bytes: &'a [u8],
     pub file: u64,

@@ -120,7 +120,9 @@ pub(crate) fn find<S: Alter, L: Layout>(
     let query = read_pqf(alloc, question.query)?;
     let database = existing_database::<S, L>(alloc, connection, name)?;
     let plan = plan(alloc, &query, profile)?;
+    drop(query);
     let hits = hits::<S, L>(alloc, connection, work, database.id, &plan)?;
+    drop(plan);
     let asked = asked_for(alloc, &hits, &question)?;
     let shown = show(alloc, connection, database.id, asked)?;
     Ok(Reply::Found {

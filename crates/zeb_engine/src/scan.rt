@@ -106,6 +106,7 @@ pub(crate) fn scan<S: Alter, L: Layout>(
     let query = read_pqf(alloc, around.query)?;
     let database = existing_database::<S, L>(alloc, connection, name)?;
     let plan = plan_scan(alloc, &query, profile)?;
+    drop(query);
     let entries = terms_around::<S, L>(alloc, connection, work, database.id, &plan, &around)?;
     Ok(Reply::Scanned {
         register: plan.register,

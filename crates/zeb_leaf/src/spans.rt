@@ -29,7 +29,7 @@ pub(crate) fn order(one: BlockKey, other: BlockKey) -> Ordering
 }
 
 /// Where the last entry that was compared stands beside a span of keys.
-#[derive(Clone, Copy, Debug)]
+#[derive(Clone, Copy)]
 enum Side {
     /// Its term is below that of the first key, and shares so many bytes with it.
     Below(usize),

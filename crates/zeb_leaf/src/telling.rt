@@ -21,23 +21,7 @@ pub(crate) struct Told<'a> {
     pub(crate) bytes: &'a [u8],
 }
 
-ghost use Rattle.zeb_blocks.specs.Numbers.{uleb};
 ghost use Rattle.zeb_leaf.specs.Leaves.{counted};
-
-/// The number at the front of the bytes, and what stands behind it, as of [`read_number`]. Most numbers of a leaf take one byte: then no call is
-/// made, and an entry has five of them.
-fn front_number<'a>(bytes: &'a [u8]) -> Option<(u64, &'a [u8])>
-    ensures { MatchOption result
-        ((n : ℕ) (rest : List ℕ) → n < 2 ^ 64 → bytes.now ≢ uleb n ++ rest)
-        (λ found. (found.0 < 2 ^ 64) × (bytes.now ≡ uleb found.0 ++ found.1.now)) }
-{
-    if let Some((first, rest)) = bytes.split_first() {
-        if *first < 128 {
-            return Some((u64::from(*first), rest));
-        }
-    }
-    read_number(bytes)
-}
 
 /// The bytes that stand behind how many they are, and what stands behind them; `None` where the bytes don't begin so.
 fn read_counted<'a>(bytes: &'a [u8]) -> Option<(&'a [u8], &'a [u8])>
@@ -46,7 +30,7 @@ fn read_counted<'a>(bytes: &'a [u8]) -> Option<(&'a [u8], &'a [u8])>
         (λ found. (length found.0.now < 2 ^ 64) ×
         (bytes.now ≡ counted found.0.now ++ found.1.now)) }
 {
-    let (count, behind) = front_number(bytes)?;
+    let (count, behind) = read_number(bytes)?;
     behind.split_at_checked(count as usize)
 }
 
@@ -61,10 +45,10 @@ impl<'a> Told<'a> {
             (λ found. AreSmall (parts_told found.0)
             × (bytes.now ≡ parts_bytes (parts_told found.0) ++ found.1.now)) }
     {
-        let (shared, behind_shared) = front_number(bytes)?;
+        let (shared, behind_shared) = read_number(bytes)?;
         let (suffix, behind_suffix) = read_counted(behind_shared)?;
-        let (block, behind_block) = front_number(behind_suffix)?;
-        let (records, behind_records) = front_number(behind_block)?;
+        let (block, behind_block) = read_number(behind_suffix)?;
+        let (records, behind_records) = read_number(behind_block)?;
         let (bytes, behind) = read_counted(behind_records)?;
         let told = Told {
             shared: shared as usize,

@@ -36,7 +36,7 @@ impl<'a> Model for LeafReader<'a> {
 }
 
 /// An entry that a walk came over.
-#[derive(Clone, Copy, Debug)]
+#[derive(Clone, Copy)]
 pub(crate) struct Step<'a> {
     /// How many bytes of its term are those of the term before it.
     pub(crate) shared: usize,

@@ -22,7 +22,7 @@ use zeb_leaf::{BlockKey, Bytes, Entry, LEAF_BYTES, LeafFault, read_leaf};
 use zeb_register::RegFault;
 
 /// What a row shows behind its database: the own key of a leaf, with its register, and bytes.
-#[derive(Clone, Copy, Debug)]
+#[derive(Clone, Copy)]
 struct Columns<'a> {
     index: u64,
     register: Register,
@@ -32,7 +32,7 @@ struct Columns<'a> {
 }
 
 /// A leaf as its row shows it: its own key, with its register, and its entries.
-#[derive(Debug, Drop)]
+#[derive(Drop)]
 pub(crate) struct ShownLeaf {
     pub(crate) index: u64,
     pub(crate) register: Register,

@@ -18,7 +18,7 @@ const LEAVES: &str =
     "SELECT idx, reg, term, block, data FROM blocks WHERE db = ?1 ORDER BY idx, reg, term, block";
 
 /// A leaf that took its postings, and where the others begin.
-#[derive(Debug, Drop)]
+#[derive(Drop)]
 struct Taken {
     leaf: ShownLeaf,
     end: usize,

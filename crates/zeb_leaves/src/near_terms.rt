@@ -19,7 +19,7 @@ use std::alloc::Global;
 use zeb_register::{RegFault, RegisterOf, TermCount};
 
 /// On which side of a text terms are asked for.
-#[derive(Debug, Drop)]
+#[derive(Drop)]
 pub(crate) enum Side {
     /// From the text on. This leaf covers its first block.
     From(Row),

@@ -21,7 +21,7 @@ use zeb_register::for_layouts::stored;
 use zeb_register::{RegFault, RegisterOf};
 
 /// The own key of a leaf.
-#[derive(Clone, Copy, Debug)]
+#[derive(Clone, Copy)]
 pub(crate) struct LeafKey<'a> {
     pub(crate) term: &'a str,
     pub(crate) block: u64,

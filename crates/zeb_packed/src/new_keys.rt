@@ -16,7 +16,7 @@ use zeb_register::for_layouts::{KeyOf, nothing_inside};
 use zeb_register::{DatabaseId, KeyChanges, RegFault};
 
 /// What is known of a run before its keys are looked for.
-#[derive(Clone, Copy, Debug)]
+#[derive(Clone, Copy)]
 pub(crate) struct RunKnown {
     /// Where lists are made.
     pub(crate) alloc: Global,

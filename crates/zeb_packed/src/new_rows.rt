@@ -21,7 +21,7 @@ use zeb_keys::Key;
 use zeb_register::{RecordChange, RegFault};
 
 /// The row of a block that a key has none for.
-#[derive(Debug, Drop)]
+#[derive(Drop)]
 pub(crate) struct NewBlock<'a> {
     pub(crate) key: &'a Key,
     pub(crate) block: u64,
@@ -29,14 +29,14 @@ pub(crate) struct NewBlock<'a> {
 }
 
 /// The row of `dict` of a key that has none.
-#[derive(Clone, Copy, Debug)]
+#[derive(Clone, Copy)]
 pub(crate) struct NewCount<'a> {
     pub(crate) key: &'a Key,
     pub(crate) records: u64,
 }
 
 /// Rows that are held, to be put later.
-#[derive(Debug, Drop)]
+#[derive(Drop)]
 pub(crate) struct NewRows<'a> {
     pub(crate) blocks: Vec<NewBlock<'a>>,
     pub(crate) counts: Vec<NewCount<'a>>,

@@ -67,7 +67,7 @@ fn spelled_list(alloc: Global, row: &Row, block: u64) -> Result<Vec<Posting>, Re
 }
 
 /// What is known of a key before changes are put into its rows, and behind each run of them.
-#[derive(Clone, Copy, Debug)]
+#[derive(Clone, Copy)]
 pub(crate) struct Known {
     /// Where lists are made.
     pub(crate) alloc: Global,

@@ -15,7 +15,7 @@ use zeb_register::for_layouts::postings_changed;
 use zeb_register::{Place, RecordChange, RegFault};
 
 /// What the tables hold of a key: its postings in one block, and how many records have it at all.
-#[derive(Debug, Drop)]
+#[derive(Drop)]
 pub(crate) struct Held {
     pub(crate) block: u64,
     pub(crate) list: Vec<Posting>,

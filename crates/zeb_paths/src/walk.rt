@@ -52,7 +52,7 @@ impl<T: Drop> From<AllocFailed<T>> for WalkFault {
 }
 
 /// What stands at the next path of a walk.
-#[derive(Debug, Drop)]
+#[derive(Drop)]
 enum Seen {
     /// A file, with its path.
     File(String),
@@ -63,7 +63,7 @@ enum Seen {
 }
 
 /// A path that is still to be looked at, and the level that it has if it is a folder.
-#[derive(Debug, Drop)]
+#[derive(Drop)]
 struct Step {
     path: String,
     level: u32,

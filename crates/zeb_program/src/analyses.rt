@@ -21,7 +21,7 @@ use zeb_paths::{Paths, Walk};
 use zeb_register::Layout;
 
 /// What comes of the files of an analysis.
-#[derive(Debug, Drop)]
+#[derive(Drop)]
 pub struct AnalysedFiles {
     /// The lines of their records, or the first refusal.
     pub lines: Result<AnalysedLines, Refusal>,

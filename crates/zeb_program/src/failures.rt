@@ -29,7 +29,7 @@ use zeb_engine::Refusal;
 use zeb_paths::{Asked, Closed, PathCause, Paths, StoreCause};
 
 /// What is known of why there is a fault.
-#[derive(Debug, Drop)]
+#[derive(Drop)]
 pub enum Cause {
     /// Why a path isn't read.
     Path(PathCause),
@@ -53,7 +53,7 @@ pub enum Cause {
 }
 
 /// What is told of the file that a refusal is about.
-#[derive(Clone, Copy, Debug, PartialEq, Eq)]
+#[derive(Clone, Copy, PartialEq, Eq)]
 pub enum FileCause {
     /// What its path is met with.
     Path(PathCause),
@@ -62,7 +62,7 @@ pub enum FileCause {
 }
 
 /// Why a command isn't answered, and the cause, where it is known.
-#[derive(Debug, Drop)]
+#[derive(Drop)]
 pub struct Failure {
     pub fault: Fault,
     pub cause: Option<Cause>,

@@ -16,7 +16,7 @@ use zeb_paths::WalkFault;
 use zeb_profile::ProfileFault;
 
 /// Why a command isn't answered.
-#[derive(Debug, Drop)]
+#[derive(Drop)]
 pub enum Fault {
     /// The profile in this file has this fault.
     Profile { file: String, fault: ProfileFault },

@@ -10,7 +10,7 @@ use zeb_marc::Source;
 use zeb_paths::Paths;
 
 /// A form that a file has which is no ISO 2709 from its beginning on.
-#[derive(Clone, Copy, Debug, PartialEq, Eq)]
+#[derive(Clone, Copy, PartialEq, Eq)]
 pub enum Form {
     /// A byte order mark of UTF-8 stands before all else.
     Marked,

@@ -21,7 +21,7 @@ pub const GREATEST_INPUT: usize = 16_777_216;
 const PORTION: usize = 8192;
 
 /// Why a source isn't read.
-#[derive(Clone, Copy, Debug, PartialEq, Eq)]
+#[derive(Clone, Copy, PartialEq, Eq)]
 pub enum InputFault {
     /// A read failed, there are too many bytes, or a text was wanted and the bytes aren't UTF-8.
     Unreadable,
@@ -45,7 +45,7 @@ impl From<ReadFailed> for InputFault {
 }
 
 /// Why an input can't be read whole as a text.
-#[derive(Clone, Copy, Debug, PartialEq, Eq)]
+#[derive(Clone, Copy, PartialEq, Eq)]
 pub enum TextCause {
     /// It has more bytes than may be.
     TooLong,
@@ -71,7 +71,7 @@ impl fmt::Display for TextCause {
 }
 
 /// Why an input isn't read whole as a text.
-#[derive(Clone, Copy, Debug, PartialEq, Eq)]
+#[derive(Clone, Copy, PartialEq, Eq)]
 pub enum TextFault {
     Unreadable(TextCause),
     Memory,

@@ -13,7 +13,7 @@ use std::fmt;
 use zeb_marc::{ReadFailed, Source};
 
 /// Why an input can't be read on.
-#[derive(Clone, Copy, Debug, PartialEq, Eq)]
+#[derive(Clone, Copy, PartialEq, Eq)]
 pub enum InputCause {
     /// A line has more bytes before its LF than may be.
     LongLine,
@@ -36,7 +36,7 @@ impl fmt::Display for InputCause {
 }
 
 /// Why a line isn't read.
-#[derive(Clone, Copy, Debug, PartialEq, Eq)]
+#[derive(Clone, Copy, PartialEq, Eq)]
 pub enum LineFault {
     Unreadable(InputCause),
     Memory,

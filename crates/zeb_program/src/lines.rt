@@ -24,7 +24,7 @@ const PAGED: u32 = 1_000_000;
 const TERMS: u32 = 1_000;
 
 /// What a line of a batch says.
-#[derive(Debug, Drop)]
+#[derive(Drop)]
 pub enum Line {
     /// Nothing: it is empty or begins with `#`.
     Remark,

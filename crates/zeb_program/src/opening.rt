@@ -31,7 +31,7 @@ pub type Opened<S> = Result<Session<S, Blocks>, (Option<Connection<S>>, Refusal)
 pub type OpenRegister<S> = (Session<S, Blocks>, UsedLayout);
 
 /// In which layout a register is used.
-#[derive(Clone, Copy, Debug, PartialEq, Eq)]
+#[derive(Clone, Copy, PartialEq, Eq)]
 pub enum UsedLayout {
     Blocks,
     Leaves,

@@ -25,7 +25,7 @@ use zeb_paths::Paths;
 use zeb_register::Layout;
 
 /// A change of a database by the file at a path, or by those below a folder's.
-#[derive(Debug, Drop)]
+#[derive(Drop)]
 pub struct PathChange {
     pub kind: Kind,
     pub database: DbName,

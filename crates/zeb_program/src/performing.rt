@@ -42,7 +42,7 @@ use zeb_register::{Layout, is_bare_schema, is_store_schema};
 use zeb_words::LayoutChoice;
 
 /// What is written for a task that is answered.
-#[derive(Debug, Drop)]
+#[derive(Drop)]
 pub struct Told {
     /// Its answer.
     pub text: Vec<u8>,
@@ -51,7 +51,7 @@ pub struct Told {
 }
 
 /// What comes of a task.
-#[derive(Debug, Drop)]
+#[derive(Drop)]
 pub struct Performed {
     /// What is written for it, or why it isn't answered.
     pub told: Result<Told, Failure>,
@@ -60,7 +60,7 @@ pub struct Performed {
 }
 
 /// Why a register isn't opened.
-#[derive(Debug, Drop)]
+#[derive(Drop)]
 pub struct Unopened {
     pub failure: Failure,
     /// How its store was closed, if it was open; else what it met stands here.

@@ -147,7 +147,7 @@ fn finish<W: Output, V: Output>(
 }
 
 /// How a script ended.
-#[derive(Clone, Copy, Debug)]
+#[derive(Clone, Copy)]
 struct ScriptEnd {
     status: Status,
     /// Whether its input had no byte.

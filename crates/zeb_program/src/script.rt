@@ -5,7 +5,7 @@ ghost use Rattle.std.specs.Prelude.{◌≡◌, ◌+◌, ◌<◌, ◌^◌, length
 use crate::words::{cut_line, without_blanks};
 
 /// A script, cut at its first line `.`.
-#[derive(Debug, Drop)]
+#[derive(Drop)]
 pub struct Script<'a> {
     /// The text before the line `.`, or the whole text where there is no such line.
     pub profile: &'a str,
@@ -14,7 +14,7 @@ pub struct Script<'a> {
 }
 
 /// The lines of a batch.
-#[derive(Debug, Drop)]
+#[derive(Drop)]
 pub struct Batch<'a> {
     pub text: &'a str,
     /// How many lines of the input stand before it.

@@ -34,7 +34,7 @@ use zeb_register::Layout;
 use zeb_words::{Act, LayoutChoice};
 
 /// What words ask of a register.
-#[derive(Debug, Drop)]
+#[derive(Drop)]
 pub enum Task {
     /// One command.
     Ask(Command),
@@ -69,7 +69,7 @@ impl Task {
 }
 
 /// What words ask for.
-#[derive(Debug, Drop)]
+#[derive(Drop)]
 pub enum Errand {
     /// One task.
     Task(Task),
@@ -155,7 +155,7 @@ fn to_change(kind: Kind, database: DbName, paths: Vec<String>) -> Errand
 }
 
 /// What a task is answered.
-#[derive(Debug, Drop)]
+#[derive(Drop)]
 pub enum Served {
     /// What the register replies.
     Replied(Reply),

@@ -9,7 +9,7 @@ use std::alloc::{AllocError, Global};
 use zeb_marc::{RecordBuf, Slice, next_record};
 
 /// The place of a record in files.
-#[derive(Clone, Copy, Debug)]
+#[derive(Clone, Copy)]
 pub struct Place {
     /// The file that it stands in, from 1.
     pub file: u64,

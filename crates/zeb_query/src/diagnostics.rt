@@ -6,7 +6,7 @@ use crate::QueryFault;
 use std::alloc::Global;
 
 /// A condition of the list Bib-1 (ANSI/NISO Z39.50-2003, Appendix ERR). Which fault has which is this project's own choice.
-#[derive(Clone, Copy, Debug, PartialEq, Eq)]
+#[derive(Clone, Copy, PartialEq, Eq)]
 pub(crate) enum Condition {
     TooManyWords = 5,
     TooManyOperators = 6,

@@ -6,7 +6,7 @@ use crate::words::{Spelling, Word};
 use crate::{Connective, Operator};
 
 /// The words with a meaning of their own (YAZ manual, PQF).
-#[derive(Clone, Copy, Debug, PartialEq, Eq)]
+#[derive(Clone, Copy, PartialEq, Eq)]
 pub enum Keyword {
     /// `@attrset`
     AttributeSet,
@@ -20,7 +20,7 @@ pub enum Keyword {
 }
 
 /// The words of operators.
-#[derive(Clone, Copy, Debug, PartialEq, Eq)]
+#[derive(Clone, Copy, PartialEq, Eq)]
 pub enum OperatorWord {
     And,
     Or,

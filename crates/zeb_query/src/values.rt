@@ -23,7 +23,7 @@ pub enum Subject {
 }
 
 /// What a term is for.
-#[derive(Clone, Copy, Debug, PartialEq, Eq)]
+#[derive(Clone, Copy, PartialEq, Eq)]
 pub enum Purpose {
     Find,
     /// To begin a scan.

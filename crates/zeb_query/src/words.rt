@@ -5,7 +5,7 @@ ghost use Rattle.zeb_query.specs.Clauses.{len_utf8, words_at, unquoted, is_blank
 use std::alloc::{AllocError, Global};
 
 /// How a word of a query's text is written.
-#[derive(Clone, Copy, Debug, PartialEq, Eq)]
+#[derive(Clone, Copy, PartialEq, Eq)]
 pub enum Spelling {
     Plain,
     /// Between double quotes, so never a keyword.
@@ -15,7 +15,7 @@ pub enum Spelling {
 }
 
 /// A word of a query's text.
-#[derive(Debug, Drop)]
+#[derive(Drop)]
 pub(crate) struct Word {
     /// The position of its first character, the quote included, in bytes from the start of the text.
     pub place: usize,
@@ -25,7 +25,7 @@ pub(crate) struct Word {
 }
 
 /// Where in the text a reader of words stands.
-#[derive(Clone, Copy, Debug, PartialEq, Eq)]
+#[derive(Clone, Copy, PartialEq, Eq)]
 enum Mode {
     Between,
     Plain,

@@ -12,7 +12,7 @@ use sqlite::Row;
 use zeb_keys::Key;
 
 /// The postings of a key that stand from a place on: where they end, and how many records have one of them.
-#[derive(Clone, Copy, Debug)]
+#[derive(Clone, Copy)]
 struct Run {
     end: usize,
     records: u64,

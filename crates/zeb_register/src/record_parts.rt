@@ -18,7 +18,7 @@ use zeb_blocks::Posting;
 const MORE_PLACES: usize = 4;
 
 /// Postings parted at a record: those of the records before it, its own places, and the postings of the records behind it.
-#[derive(Debug, Drop)]
+#[derive(Drop)]
 struct Parted {
     before: Vec<Posting>,
     own: Vec<Place>,

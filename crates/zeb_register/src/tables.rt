@@ -14,7 +14,7 @@ use crate::RegFault;
 use sqlite::{Alter, Error, Transaction};
 
 /// One of the six tables of a store.
-#[derive(Clone, Copy, Debug, PartialEq, Eq)]
+#[derive(Clone, Copy, PartialEq, Eq)]
 pub(crate) enum StoreTable {
     Meta,
     Databases,
