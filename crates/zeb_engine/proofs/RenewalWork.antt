@@ -1,5 +1,6 @@
 -- What a reindex and an upgrade make of the rows of a store, and what that comes to from an image.
 use Rattle.zeb_engine.proofs.Cited.{◌≡◌, ◌∙◌, ℕ, List, ◌∷◌, codes, Result, Ok, Err, OnOk, IsTrue, IsUtf8, Global, refl, sym, ap, subst, inl, inr, arith, option_map, Int, Row, Bor, Trees, Database, HasCleanDisk, State, Has, Directive, canonical_text, pattern_text, RegFault, Format, version_of, Replaces, Alters, GoesOn, Inside, IsEntryOf, IsStore, KeepsLists, KeepsRegisters, entry, meta_tree, Base, Conditions, AreSessions, Refusal, Reply, Holdings, AreBases, AreListsOf, HasTexts, IsImage, IsImageOf, Done, IsRemade, IsUnsound, RemakesRows, TellsSound, WriteDoes, IsStoreDisk, CommitsRows, reindexed, ruled, upgradable, upgraded}
+use Rattle.sqlite.specs.declared.error.Error.{Error}
 use Rattle.zeb_engine.specs.declared.writes.Write.TheVariants as write
 use Rattle.zeb_image.proofs.RebuiltImages.{lists_readable, lists_sound}
 use Rattle.zeb_engine.proofs.ChangeNumbers.{shown_store, showing}
@@ -25,7 +26,7 @@ pub remakes : (format : Format) (profile : List Directive) (name text put : List
     → Inside {A = Unit {0}} {E = RegFault} old mid (Ok tt) (λ _. GoesOn)
     → (HasCleanDisk mid → IsTrue old.in_transaction → IsStore old → IsStore mid × KeepsLists old.now.trees mid.now.trees
     × ((bases : List Base) → AreListsOf old.now.trees bases → AreBases profile bases → IsImageOf format profile mid.now.trees bases))
-    → Inside {A = Unit {0}} {E = RegFault} mid new (Ok tt) (λ _. Alters meta_tree (Replaces (IsEntryOf name) (entry name text))) → RemakesRows format profile name put old.now new.now
+    → Inside {A = Unit {0}} {E = Error} mid new (Ok tt) (λ _. Alters meta_tree (Replaces (IsEntryOf name) (entry name text))) → RemakesRows format profile name put old.now new.now
 remakes format profile name text put old mid new same clean inside store rebuilds built puts =
     let cleaner : HasCleanDisk mid = omega (arith, puts.crash.clean) in
     let made = built cleaner inside store in

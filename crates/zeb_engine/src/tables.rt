@@ -10,7 +10,7 @@ ghost use Rattle.zeb_engine.specs.Transactions.{Commanded};
 
 use sqlite::{Alter, Connection};
 use zeb_change::Refusal;
-use zeb_register::{is_bare_schema, is_store_schema, make_tables};
+use zeb_register::{RegFault, is_bare_schema, is_store_schema, make_tables};
 
 /// Refuses a store (`Store`) that has tables, views or triggers, and not just this store's six tables. Triggers count among the
 /// views of a schema, and so do tables that can't be read.
@@ -42,7 +42,11 @@ pub(crate) fn make_absent_tables<S: Alter>(connection: &mut Connection<S>) -> Re
     check_tables(connection)?;
     let _settled = connection.is_autocommit();
     let mut tx = connection.transaction();
-    make_tables(&mut tx)?;
+    match make_tables(&mut tx) {
+        Ok(()) => (),
+        // A failed commit alone is a failed store whatever its error is: here want of memory is told as such.
+        Err(error) => return Err(RegFault::from(error).into()),
+    }
     tx.commit()?;
     Ok(())
 }

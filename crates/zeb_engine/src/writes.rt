@@ -24,7 +24,7 @@ ghost use Rattle.zeb_engine.specs.Transactions.{Commanded};
 use crate::commands::Command;
 use crate::readiness::{IDENTIFIER, PROFILE, VERSION, existing_database};
 use crate::replies::Reply;
-use sqlite::{Alter, Connection, Transaction};
+use sqlite::{Alter, Connection, Error, Transaction};
 use std::alloc::Global;
 use zeb_change::Refusal;
 use zeb_image::{DbName, rebuild};
@@ -61,7 +61,7 @@ fn put_texts<S: Alter>(
     version: &str,
     text: &str,
     pattern: &str,
-) -> Result<(), RegFault>
+) -> Result<(), Error>
     ensures same { tx.new.conn.ghost_name ≡ tx.old.conn.ghost_name }
     ensures call { Inside (state S.Store tx.old.conn.now) (state S.Store tx.new.conn.now) result
         (λ _. GoesOn) }
@@ -69,7 +69,6 @@ fn put_texts<S: Alter>(
         ((state S.Store tx.old.conn.now).now.trees meta_tree ≡ []
         → OnOk result (PutsTexts version.now text.now pattern.now (state S.Store tx.old.conn.now)
         (state S.Store tx.new.conn.now))) }
-    ensures whole { result ≢ Err RegFault.Damaged }
 {
     meta_put(tx, VERSION, version)?;
     meta_put(tx, PROFILE, text)?;

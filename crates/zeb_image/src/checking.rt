@@ -45,10 +45,10 @@ pub fn is_image<S: Alter, L: Layout>(
 {
     // Its profile is some text's.
     profile.is_of_some_text();
-    match expectation::<S, L>(alloc, connection, profile)? {
-        Some(expected) => L::agrees(alloc, connection, &expected),
-        None => Ok(false),
-    }
+    let Some(expected) = expectation::<S, L>(alloc, connection, profile)? else {
+        return Ok(false);
+    };
+    Ok(L::agrees(alloc, connection, &expected)?)
 }
 
 /// What the tables have to hold beside the databases and records that they hold, or `None` where these are none that can be held.

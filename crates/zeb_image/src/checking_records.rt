@@ -1,6 +1,6 @@
 //! Whether a database can keep its records, and the postings that these have.
 
-ghost use Rattle.std.specs.Prelude.{◌≡◌, ◌≢◌, ◌↔◌, map, IsTrue, IfOk};
+ghost use Rattle.std.specs.Prelude.{◌≡◌, ◌↔◌, map, IsTrue, IfOk};
 ghost use Rattle.std.specs.List.Sorted.{IsStrictlySortedBy};
 ghost use Rattle.sqlite_rules.specs.Lists.{Has};
 ghost use Rattle.zeb_marc.specs.Contents.{units_of};
@@ -16,7 +16,7 @@ use zeb_extract::{IdentFault, identifier, occurrences};
 use zeb_keys::{Occurrence, order_is_by_parts};
 use zeb_marc::Marc;
 use zeb_profile::Profile;
-use zeb_register::{KeyPosting, Record, RegFault};
+use zeb_register::{KeyPosting, Record};
 
 /// The postings of records, each once and rising by key, system number, unit and place; or `None` where one isn't a whole record that a
 /// database with this last number keeps under its identifier.
@@ -25,10 +25,8 @@ pub(crate) fn postings_of(
     profile: &Profile,
     last: u64,
     records: &[Record],
-) -> Result<Option<Vec<KeyPosting>>, RegFault>
-    ensures value { IfOk result (ArePostingsOrNone profile.now last records.now) }
-    ensures honest { result ≢ Err RegFault.Damaged }
-    ensures unstored { result ≢ Err RegFault.Store }
+) -> Result<Option<Vec<KeyPosting>>, AllocError>
+    ensures { IfOk result (ArePostingsOrNone profile.now last records.now) }
 {
     let mut postings = Vec::new(alloc);
     for kept in records {
@@ -46,10 +44,8 @@ fn occurrences_of(
     profile: &Profile,
     last: u64,
     kept: &Record,
-) -> Result<Option<Vec<Occurrence>>, RegFault>
-    ensures value { IfOk result (AreOccurrencesOrNone profile.now last kept.now) }
-    ensures honest { result ≢ Err RegFault.Damaged }
-    ensures unstored { result ≢ Err RegFault.Store }
+) -> Result<Option<Vec<Occurrence>>, AllocError>
+    ensures { IfOk result (AreOccurrencesOrNone profile.now last kept.now) }
 {
     if kept.sysno == 0 || kept.sysno > last {
         return Ok(None);

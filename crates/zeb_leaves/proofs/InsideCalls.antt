@@ -1,5 +1,5 @@
 -- Calls that look for a leaf inside a transaction, one after the other.
-use Rattle.zeb_leaves.proofs.Cited.{Row, Trees, State, Shown, HasCleanDisk, ◌≡◌, ◌≢◌, ◌⊎◌, ◌∙◌, ◌<◌, ◌+◌, ℕ, ℤ, pos, List, Ok, Err, Result, Option, arith, subst, IsFirst, IsLastOf, IsStore, ShowsLast}
+use Rattle.zeb_leaves.proofs.Cited.{Row, Trees, State, Shown, HasCleanDisk, ◌≡◌, ◌⊎◌, ◌∙◌, ◌<◌, ◌+◌, ℕ, ℤ, pos, List, Ok, Err, Result, Option, arith, subst, IsFirst, IsLastOf, IsStore, ShowsLast}
 use Rattle.std.proofs.Common.{◌+ℤ◌, ◌^◌, of_z, to_z, w64}
 use Rattle.std.proofs.lemmas.Int.{ints}
 use Rattle.sqlite.specs.State.{FailsToQuery, IsTooLate, Survives}
@@ -8,25 +8,21 @@ use Rattle.zeb_register.proofs.Calls.{goes_keeps, query_keeps, reads_goes}
 use Rattle.zeb_register.proofs.CallsInTurn.{quiet_then}
 use Rattle.zeb_register.specs.Calls.{Inside, OnlyReads}
 use Rattle.zeb_register.specs.Clauses.{TellsInside}
-use Rattle.zeb_register.specs.Faults.{fault_of}
 use Rattle.zeb_register.specs.Queries.{IsSilent}
-use Rattle.zeb_register.specs.declared.faults.RegFault.{RegFault}
-use Rattle.zeb_register.specs.declared.faults.RegFault.TheVariants.{Damaged}
 
 -- ---- one query
 
 -- a query that is refused tells nothing
-pub shows_none : (sql : List ℕ) (params : Row) (old new : State) (e : Error) (result : Result (Option Row) RegFault) → result ≡ Err (fault_of e) → result ≢ Err Damaged → IsSilent sql
-    → (HasCleanDisk new → FailsToQuery sql params old new e ⊎ IsTooLate sql params old new e) → Survives old new (λ _. ⊥) → ShowsLast sql params old new result
-shows_none sql params old new e (Ok found) is honest silent failed crash = absurd (cc)
-shows_none sql params old new e (Err fault) is honest silent failed crash = record {
+pub shows_none : (sql : List ℕ) (params : Row) (old new : State) (e : Error) (result : Result (Option Row) Error) → result ≡ Err e → IsSilent sql → (HasCleanDisk new → FailsToQuery sql params old new e ⊎ IsTooLate sql params old new e)
+    → Survives old new (λ _. ⊥) → ShowsLast sql params old new result
+shows_none sql params old new e (Ok found) is silent failed crash = absurd (cc)
+shows_none sql params old new e (Err error) is silent failed crash = record {
   call = record { ok = λ clean inside. tt; err = λ clean inside. query_keeps {A = ℕ} sql params old new (Err e) silent (failed clean); crash = crash };
   last = λ clean. tt;
-  honest = honest;
 }
 
 -- what is found is told by the rows that are shown
-pub finds : {sql : List ℕ} {params : Row} (Q : Trees → Option Row → Type 0) (old new : State) (result : Result (Option Row) RegFault)
+pub finds : {sql : List ℕ} {params : Row} (Q : Trees → Option Row → Type 0) (old new : State) (result : Result (Option Row) Error)
     → ((rows : List Row) (found : Option Row) → IsStore old → Shown sql params old new rows → IsLastOf rows found → Q old.now.trees found) → ShowsLast sql params old new result → TellsInside old new result Q
 finds Q old new (Ok found) so shows clean inside store = let it = shows.last clean in so it.0 found store it.1 it.2
 finds Q old new (Err fault) so shows clean inside store = tt

@@ -1,8 +1,9 @@
 -- What only the contracts of private functions speak of; no public clause reaches it: what statements show of leaves, and which leaf
 -- is found.
-use Rattle.std.specs.Prelude.{◌≡◌, ◌≢◌, ◌++◌, ◌∷◌, ℕ, ℤ, pos, true, false, List, [], Option, Some, None, MatchOption, Result, Err, IfOk}
+use Rattle.std.specs.Prelude.{◌≡◌, ◌++◌, ◌∷◌, ℕ, ℤ, pos, true, false, List, [], Option, Some, None, MatchOption, Result, Err, IfOk}
 use Rattle.std.specs.Option.{option_map}
 use Rattle.std.specs.Ordering.{is_lt}
+use Rattle.sqlite.specs.declared.error.Error.{Error}
 use Rattle.sqlite.specs.declared.types.Value.TheVariants.{Int, Text}
 use Rattle.sqlite.specs.Order.{Row, column, value_cmp}
 use Rattle.sqlite.specs.State.{HasCleanDisk, Shown, State}
@@ -10,8 +11,6 @@ use Rattle.sqlite.specs.Tree.{Trees}
 use Rattle.zeb_register.specs.Calls.{Inside, OnlyReads}
 use Rattle.zeb_register.specs.Covering.{Covers, IsUpTo, own_key}
 use Rattle.zeb_register.specs.LeafUnits.{IsLeafOf}
-use Rattle.zeb_register.specs.declared.faults.RegFault.{RegFault}
-use Rattle.zeb_register.specs.declared.faults.RegFault.TheVariants.{Damaged}
 use Rattle.zeb_register.specs.declared.registers.RegisterOf.{RegisterOf}
 use Rattle.zeb_register.specs.Occurring.{key_in}
 use Rattle.zeb_register.specs.PrivateKeyColumns.{register_columns}
@@ -28,10 +27,9 @@ abbrev pub IsLastOf : List Row → Option Row → Type 0
 IsLastOf rows found = MatchOption found (rows ≡ []) (λ row. (front : List Row) × (rows ≡ front ++ row ∷ []))
 
 -- a query inside a transaction tells the last of the rows that it shows, and changes nothing
-pub record ShowsLast (sql : List ℕ) (params : Row) (old new : State) (result : Result (Option Row) RegFault) : Type 0 where
+pub record ShowsLast (sql : List ℕ) (params : Row) (old new : State) (result : Result (Option Row) Error) : Type 0 where
   pub call : Inside old new result (λ _. OnlyReads)
   pub last : HasCleanDisk new → IfOk result (λ found. (rows : List Row) × Shown sql params old new rows × IsLastOf rows found)
-  pub honest : result ≢ Err Damaged
 
 module _ (Before : Row → Row → Type 0) (P : Row → Type 0) where
   -- of the rows that are P one that stands before each other, alone; or there is none

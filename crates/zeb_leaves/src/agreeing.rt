@@ -1,20 +1,20 @@
 //! The leaves of a database beside the postings that are expected of it.
 
-ghost use Rattle.std.specs.Prelude.{◌≢◌, ◌∷◌, [], Err};
+ghost use Rattle.std.specs.Prelude.{◌∷◌, []};
 ghost use Rattle.std.specs.List.Sorted.{IsStrictlySortedBy};
 ghost use Rattle.sqlite.specs.Held.{state};
 ghost use Rattle.sqlite.specs.State.{IsUnchanged};
 ghost use Rattle.sqlite.specs.declared.types.Value.TheVariants.{Int};
 ghost use Rattle.zeb_leaves.specs.PrivateAgreeing.{HoldsPostings};
 ghost use Rattle.zeb_register.specs.Calls.{Reading};
-ghost use Rattle.zeb_register.specs.Clauses.{IsReasoned, TellsWhether};
+ghost use Rattle.zeb_register.specs.Clauses.{IsReasonedError, TellsWhether};
 ghost use Rattle.zeb_register.specs.Expected.{key_posting_order};
 ghost use Rattle.zeb_register.specs.Store.{IsRest, blocks_tree};
 
 use crate::agreeing_walk::leaves_walked;
-use sqlite::{Alter, Connection};
+use sqlite::{Alter, Connection, Error};
 use std::alloc::Global;
-use zeb_register::{KeyPosting, RegFault};
+use zeb_register::KeyPosting;
 
 /// Whether the leaves under the id of a database hold these postings, which rise, and nothing else. It changes nothing.
 pub(crate) fn leaves_hold<S: Alter>(
@@ -22,15 +22,14 @@ pub(crate) fn leaves_hold<S: Alter>(
     conn: &mut Connection<S>,
     db: i64,
     postings: &[KeyPosting],
-) -> Result<bool, RegFault>
+) -> Result<bool, Error>
     ensures call { Reading (state S.Store conn.old) (state S.Store conn.new) result
         (λ _. IsUnchanged) }
     ensures value { TellsWhether
         (λ trees. HoldsPostings (IsRest blocks_tree (Int db ∷ []) trees) postings.now)
         (IsStrictlySortedBy key_posting_order postings.now)
         (state S.Store conn.old) (state S.Store conn.new) result }
-    ensures honest { result ≢ Err RegFault.Damaged }
-    ensures refused { IsReasoned (state S.Store conn.old) (state S.Store conn.new) result }
+    ensures refused { IsReasonedError (state S.Store conn.old) (state S.Store conn.new) result }
 {
     leaves_walked(alloc, conn, db, postings)
 }

@@ -1,6 +1,6 @@
 //! The entries of a leaf beside the postings that are left: each takes its own from the front of them.
 
-ghost use Rattle.std.specs.Prelude.{◌≡◌, ◌≢◌, ◌≤◌, ◌++◌, List, true, false, length, drop, map, IfErr, IfOk, MatchOption};
+ghost use Rattle.std.specs.Prelude.{◌≡◌, ◌≢◌, ◌≤◌, ◌++◌, List, true, false, length, drop, map, IfOk, MatchOption};
 ghost use Rattle.zeb_leaves.specs.PrivateAgreeing.{TakeEntries, leaf_of};
 ghost use Rattle.zeb_register.specs.Occurring.{key_in};
 ghost use Rattle.zeb_register.specs.PrivateRowExpected.{with_key};
@@ -8,14 +8,13 @@ ghost use Rattle.zeb_register.specs.Readings.{SaysPart};
 
 use crate::agreeing_rows::ShownLeaf;
 use crate::said_postings::push_said;
-use std::alloc::Global;
+use std::alloc::{AllocError, Global};
 use zeb_leaf::{Entry, Held};
 use zeb_register::{KeyPosting, Posting, RegFault};
 
 /// The postings that an entry says, if it says any.
-fn part_said(alloc: Global, entry: &Entry) -> Result<Option<Vec<Posting>>, RegFault>
-    ensures refused { IfErr result (λ fault. fault ≡ RegFault.Memory) }
-    ensures said { IfOk result (λ found. MatchOption found ((part : List _)
+fn part_said(alloc: Global, entry: &Entry) -> Result<Option<Vec<Posting>>, AllocError>
+    ensures { IfOk result (λ found. MatchOption found ((part : List _)
         → ¬ SaysPart entry.now part) (λ part. SaysPart entry.now part.items)) }
 {
     let held = Held {
@@ -27,7 +26,7 @@ fn part_said(alloc: Global, entry: &Entry) -> Result<Option<Vec<Posting>>, RegFa
     match push_said(&mut part, &held) {
         Ok(()) => Ok(Some(part)),
         Err(RegFault::Damaged) => Ok(None),
-        Err(_) => Err(RegFault::Memory),
+        Err(RegFault::Store | RegFault::Memory) => Err(AllocError),
     }
 }
 
@@ -77,10 +76,9 @@ fn entry_end(
     entry: &Entry,
     postings: &[KeyPosting],
     at: usize,
-) -> Result<Option<usize>, RegFault>
+) -> Result<Option<usize>, AllocError>
     requires { at ≤ length postings.now }
-    ensures refused { IfErr result (λ fault. fault ≡ RegFault.Memory) }
-    ensures ends { IfOk result (λ found. MatchOption found
+    ensures { IfOk result (λ found. MatchOption found
         ((part : List _) (rest : List KeyPosting) → SaysPart entry.now part → drop at postings.now
         ≢ map (with_key (key_in leaf.now.index leaf.now.register entry.now.term)) part ++ rest)
         (λ end. (end ≤ length postings.now) × ((part : List _) × SaysPart entry.now part
@@ -101,10 +99,9 @@ pub(crate) fn entries_end(
     entries: &[Entry],
     postings: &[KeyPosting],
     at: usize,
-) -> Result<Option<usize>, RegFault>
+) -> Result<Option<usize>, AllocError>
     requires { at ≤ length postings.now }
-    ensures refused { IfErr result (λ fault. fault ≡ RegFault.Memory) }
-    ensures ends { IfOk result (λ found. MatchOption found ((rest : List KeyPosting)
+    ensures { IfOk result (λ found. MatchOption found ((rest : List KeyPosting)
         → ¬ TakeEntries (leaf_of leaf.now).key entries.now (drop at postings.now) rest)
         (λ end. (end ≤ length postings.now) × TakeEntries (leaf_of leaf.now).key entries.now
         (drop at postings.now) (drop end postings.now))) }

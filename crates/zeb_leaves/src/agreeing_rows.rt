@@ -1,6 +1,6 @@
 //! The leaf that a row of `blocks` shows, and whether it may come behind the one before it.
 
-ghost use Rattle.std.specs.Prelude.{◌≡◌, ◌≢◌, ◌↔◌, ◌≤◌, ℕ, pos, List, IfErr, IfOk, IfSome, IsTrue, MatchOption, length};
+ghost use Rattle.std.specs.Prelude.{◌≡◌, ◌≢◌, ◌↔◌, ◌≤◌, ℕ, pos, List, IfOk, IfSome, IsTrue, MatchOption, length};
 ghost use Rattle.std.specs.List.Sorted.{IsStrictlySortedBy};
 ghost use Rattle.std.specs.declared.cmp.Ordering.TheVariants.{Greater, Less};
 ghost use Rattle.sqlite.specs.Order.{column, row_cmp};
@@ -16,10 +16,9 @@ ghost use Rattle.zeb_register.specs.Occurring.{key_in};
 use crate::own_entries::is_below;
 use sqlite::Row;
 use sqlite::types::ValueRef;
-use std::alloc::Global;
+use std::alloc::{AllocError, Global};
 use zeb_keys::Register;
 use zeb_leaf::{BlockKey, Bytes, Entry, LEAF_BYTES, LeafFault, read_leaf};
-use zeb_register::RegFault;
 
 /// What a row shows behind its database: the own key of a leaf, with its register, and bytes.
 #[derive(Clone, Copy)]
@@ -112,9 +111,8 @@ fn columns_of(row: &Row) -> Option<Columns<'_>>
 }
 
 /// The entries that a row with these columns shows, if it shows any list of them: its term is text, and its bytes are a leaf's, or none.
-fn entries_of(alloc: Global, columns: Columns<'_>) -> Result<Option<Vec<Entry>>, RegFault>
-    ensures refused { IfErr result (λ fault. fault ≡ RegFault.Memory) }
-    ensures shown { (key : _) → key.term ≡ columns.entry.term.now
+fn entries_of(alloc: Global, columns: Columns<'_>) -> Result<Option<Vec<Entry>>, AllocError>
+    ensures { (key : _) → key.term ≡ columns.entry.term.now
         → IfOk result (λ found. MatchOption found ((entries : List _)
         → ¬ ShowsEntries (leaf_shown key columns.entry.block columns.entry.bytes.now) entries)
         (λ entries. ShowsEntries (leaf_shown key columns.entry.block columns.entry.bytes.now)
@@ -129,7 +127,7 @@ fn entries_of(alloc: Global, columns: Columns<'_>) -> Result<Option<Vec<Entry>>,
     match read_leaf(alloc, columns.bytes) {
         Ok(entries) => Ok(Some(entries)),
         Err(LeafFault::Malformed) => Ok(None),
-        Err(LeafFault::Memory) => Err(RegFault::Memory),
+        Err(LeafFault::Memory) => Err(AllocError),
     }
 }
 
@@ -176,9 +174,8 @@ fn key_of_entry(entry: &Entry) -> BlockKey<'_>
 }
 
 /// The leaf that a row shows, if it shows one that is whole.
-pub(crate) fn whole_leaf(alloc: Global, row: &Row) -> Result<Option<ShownLeaf>, RegFault>
-    ensures refused { IfErr result (λ fault. fault ≡ RegFault.Memory) }
-    ensures shown { IfOk result (λ found. MatchOption found ((leaf : Leaf)
+pub(crate) fn whole_leaf(alloc: Global, row: &Row) -> Result<Option<ShownLeaf>, AllocError>
+    ensures { IfOk result (λ found. MatchOption found ((leaf : Leaf)
         → ShowsLeaf row.now leaf → ¬ IsWhole leaf)
         (λ leaf. ShowsLeaf row.now (leaf_of leaf) × IsWhole (leaf_of leaf))) }
 {

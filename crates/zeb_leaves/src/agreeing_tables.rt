@@ -1,22 +1,22 @@
 //! Whole tables beside what is expected of them, where registers are kept in leaves.
 
-ghost use Rattle.std.specs.Prelude.{◌≡◌, ◌≢◌, ◌↔◌, Err, length, IsTrue};
+ghost use Rattle.std.specs.Prelude.{◌≡◌, ◌↔◌, length, IsTrue};
 ghost use Rattle.sqlite.specs.Held.{state};
 ghost use Rattle.sqlite.specs.State.{IsUnchanged};
 ghost use Rattle.zeb_leaves.specs.PrivateAgreeing.{EachHasLeaves, IsEmptyBeside, OthersAreEmpty, PostingsRise};
 ghost use Rattle.zeb_register.specs.Agreeing.{LacksPostingsAndDict};
 ghost use Rattle.zeb_register.specs.Calls.{Reading};
-ghost use Rattle.zeb_register.specs.Clauses.{IsReasoned, Tells, TellsWhether};
+ghost use Rattle.zeb_register.specs.Clauses.{IsReasonedError, Tells, TellsWhether};
 ghost use Rattle.zeb_register.specs.Expected.{AreExpected, IsOrdered};
 ghost use Rattle.zeb_register.specs.Formats.{packed_leaves};
 
 use crate::agreeing::leaves_hold;
-use sqlite::{Alter, Connection};
-use std::alloc::Global;
+use sqlite::{Alter, Connection, Error};
+use std::alloc::{AllocError, Global};
 use zeb_register::for_layouts::{
     ends_in_blocks, is_listed, lists_beside, next_in_blocks, postings_and_dict_lack_rows,
 };
-use zeb_register::{Expected, ExpectedDatabase, ListedDatabase, RegFault};
+use zeb_register::{Expected, ExpectedDatabase, ListedDatabase};
 
 /// Whether the tables hold just what is expected, in leaves. Unreadable rows are not expected. It changes nothing.
 ///
@@ -25,14 +25,13 @@ pub fn leaves_agree<S: Alter>(
     alloc: Global,
     conn: &mut Connection<S>,
     expected: &Expected,
-) -> Result<bool, RegFault>
+) -> Result<bool, Error>
     ensures call { Reading (state S.Store conn.old) (state S.Store conn.new) result
         (λ _. IsUnchanged) }
     ensures value { TellsWhether (λ trees. AreExpected packed_leaves trees expected.now)
         (IsOrdered expected.now)
         (state S.Store conn.old) (state S.Store conn.new) result }
-    ensures honest { result ≢ Err RegFault.Damaged }
-    ensures refused { IsReasoned (state S.Store conn.old) (state S.Store conn.new) result }
+    ensures refused { IsReasonedError (state S.Store conn.old) (state S.Store conn.new) result }
 {
     let Some(listed) = lists_beside(alloc, conn, expected)? else {
         return Ok(false);
@@ -46,15 +45,14 @@ fn registers_agree<S: Alter>(
     conn: &mut Connection<S>,
     listed: &[ListedDatabase],
     expected: &[ExpectedDatabase],
-) -> Result<bool, RegFault>
+) -> Result<bool, Error>
     requires { length listed.now ≡ length expected.now }
     ensures call { Reading (state S.Store conn.old) (state S.Store conn.new) result
         (λ _. IsUnchanged) }
     ensures value { TellsWhether (λ trees. LacksPostingsAndDict trees
         × (OthersAreEmpty listed.now trees × EachHasLeaves listed.now expected.now trees))
         (PostingsRise expected.now) (state S.Store conn.old) (state S.Store conn.new) result }
-    ensures honest { result ≢ Err RegFault.Damaged }
-    ensures refused { IsReasoned (state S.Store conn.old) (state S.Store conn.new) result }
+    ensures refused { IsReasonedError (state S.Store conn.old) (state S.Store conn.new) result }
 {
     if !postings_and_dict_lack_rows(conn)? {
         return Ok(false);
@@ -68,15 +66,14 @@ fn ids_agree<S: Alter>(
     conn: &mut Connection<S>,
     listed: &[ListedDatabase],
     expected: &[ExpectedDatabase],
-) -> Result<bool, RegFault>
+) -> Result<bool, Error>
     requires { length listed.now ≡ length expected.now }
     ensures call { Reading (state S.Store conn.old) (state S.Store conn.new) result
         (λ _. IsUnchanged) }
     ensures value { TellsWhether (λ trees. OthersAreEmpty listed.now trees
         × EachHasLeaves listed.now expected.now trees)
         (PostingsRise expected.now) (state S.Store conn.old) (state S.Store conn.new) result }
-    ensures honest { result ≢ Err RegFault.Damaged }
-    ensures refused { IsReasoned (state S.Store conn.old) (state S.Store conn.new) result }
+    ensures refused { IsReasonedError (state S.Store conn.old) (state S.Store conn.new) result }
 {
     if !others_are_empty(alloc, conn, listed)? {
         return Ok(false);
@@ -94,13 +91,12 @@ fn others_are_empty<S: Alter>(
     alloc: Global,
     conn: &mut Connection<S>,
     listed: &[ListedDatabase],
-) -> Result<bool, RegFault>
+) -> Result<bool, Error>
     ensures call { Reading (state S.Store conn.old) (state S.Store conn.new) result
         (λ _. IsUnchanged) }
     ensures value { Tells (state S.Store conn.old) (state S.Store conn.new) result
         (λ trees agree. IsTrue agree ↔ OthersAreEmpty listed.now trees) }
-    ensures honest { result ≢ Err RegFault.Damaged }
-    ensures refused { IsReasoned (state S.Store conn.old) (state S.Store conn.new) result }
+    ensures refused { IsReasonedError (state S.Store conn.old) (state S.Store conn.new) result }
 {
     let Some(ends) = ends_in_blocks(conn)? else {
         return Ok(true);
@@ -120,7 +116,7 @@ fn others_are_empty<S: Alter>(
         id = next;
     }
     // So many ids no store has.
-    Err(RegFault::Memory)
+    Err(Error::from(AllocError))
 }
 
 /// Whether the leaves under an id hold nothing, if none of these databases has it. An open connection stays as it is.
@@ -129,13 +125,12 @@ fn is_empty_beside<S: Alter>(
     conn: &mut Connection<S>,
     listed: &[ListedDatabase],
     id: i64,
-) -> Result<bool, RegFault>
+) -> Result<bool, Error>
     ensures call { Reading (state S.Store conn.old) (state S.Store conn.new) result
         (λ _ old new. IsTrue old.is_open → IsUnchanged old new) }
     ensures value { Tells (state S.Store conn.old) (state S.Store conn.new) result
         (λ trees agree. IsTrue agree ↔ IsEmptyBeside listed.now trees id) }
-    ensures honest { result ≢ Err RegFault.Damaged }
-    ensures refused { IsReasoned (state S.Store conn.old) (state S.Store conn.new) result }
+    ensures refused { IsReasonedError (state S.Store conn.old) (state S.Store conn.new) result }
 {
     if is_listed(listed, id) {
         return Ok(true);

@@ -1,18 +1,18 @@
 //! The rows of `blocks` of a database, read one at a time beside the postings that are expected of it.
 
-ghost use Rattle.std.specs.Prelude.{◌≡◌, ◌≢◌, ◌≤◌, Err, List, length, drop, IfErr, IfOk, IfSome, MatchOption};
+ghost use Rattle.std.specs.Prelude.{◌≤◌, List, length, drop, IfOk, IfSome, MatchOption};
 ghost use Rattle.std.specs.List.Sorted.{IsStrictlySortedBy};
 ghost use Rattle.sqlite.specs.Held.{state};
 ghost use Rattle.zeb_leaf.specs.Order.{entry_cmp};
 ghost use Rattle.zeb_leaves.specs.PrivateAgreeing.{Leaf, ReadsLeaves, TakesLeaf, before_of, leaf_of};
 ghost use Rattle.zeb_register.specs.Calls.{Reading};
-ghost use Rattle.zeb_register.specs.Clauses.{IsReasoned};
+ghost use Rattle.zeb_register.specs.Clauses.{IsReasonedError};
 
 use crate::agreeing_entries::entries_end;
 use crate::agreeing_rows::{ShownLeaf, follows, whole_leaf};
-use sqlite::{Alter, Connection, Row, params};
-use std::alloc::Global;
-use zeb_register::{KeyPosting, RegFault};
+use sqlite::{Alter, Connection, Error, Row, params};
+use std::alloc::{AllocError, Global};
+use zeb_register::KeyPosting;
 
 const LEAVES: &str =
     "SELECT idx, reg, term, block, data FROM blocks WHERE db = ?1 ORDER BY idx, reg, term, block";
@@ -31,10 +31,9 @@ fn leaf_behind(
     row: &Row,
     postings: &[KeyPosting],
     at: usize,
-) -> Result<Option<Taken>, RegFault>
+) -> Result<Option<Taken>, AllocError>
     requires { at ≤ length postings.now }
-    ensures refused { IfErr result (λ fault. fault ≡ RegFault.Memory) }
-    ensures takes { IfSome before.now (λ one. IsStrictlySortedBy entry_cmp one.entries.items)
+    ensures { IfSome before.now (λ one. IsStrictlySortedBy entry_cmp one.entries.items)
         → IfOk result (λ found. MatchOption found ((leaf : Leaf) (rest : List KeyPosting)
         → ¬ TakesLeaf (before_of before.now) row.now leaf (drop at postings.now) rest)
         (λ taken. (taken.end ≤ length postings.now) × TakesLeaf (before_of before.now) row.now
@@ -58,11 +57,10 @@ pub(crate) fn leaves_walked<S: Alter>(
     conn: &mut Connection<S>,
     db: i64,
     postings: &[KeyPosting],
-) -> Result<bool, RegFault>
+) -> Result<bool, Error>
     ensures call { Reading (state S.Store conn.old) (state S.Store conn.new) result
         (ReadsLeaves db postings.now) }
-    ensures honest { result ≢ Err RegFault.Damaged }
-    ensures refused { IsReasoned (state S.Store conn.old) (state S.Store conn.new) result }
+    ensures refused { IsReasonedError (state S.Store conn.old) (state S.Store conn.new) result }
 {
     // What is seen outside a transaction is what was committed.
     let _idle = conn.is_autocommit();
@@ -81,5 +79,5 @@ pub(crate) fn leaves_walked<S: Alter>(
         before = Some(taken.leaf);
     }
     // So many rows no store has.
-    Err(RegFault::Memory)
+    Err(Error::from(AllocError))
 }

@@ -1,6 +1,6 @@
 //! The leaf that covers a block of a term.
 
-ghost use Rattle.std.specs.Prelude.{◌≡◌, ◌≢◌, ◌<◌, ◌^◌, None, Err};
+ghost use Rattle.std.specs.Prelude.{◌≡◌, ◌<◌, ◌^◌, None};
 ghost use Rattle.sqlite.specs.Held.{state};
 ghost use Rattle.sqlite.specs.State.{IsUnchanged};
 ghost use Rattle.zeb_register.specs.Covering.{leaf_key};
@@ -8,10 +8,10 @@ ghost use Rattle.zeb_leaves.specs.PrivateLeafReads.{IsCovering, IsGreatest, IsLe
 ghost use Rattle.zeb_leaves.specs.PrivateLeafReads.{IsLastOf, IsOfTermBelow, IsOfTermsBelow};
 ghost use Rattle.zeb_register.specs.Answers.{Answers, IfDamaged};
 ghost use Rattle.zeb_register.specs.Calls.{Reading};
-ghost use Rattle.zeb_register.specs.Clauses.{IsReasoned, OnStore, Tells};
+ghost use Rattle.zeb_register.specs.Clauses.{IsReasoned, IsReasonedError, OnStore, Tells};
 
 use crate::statements::{row_of_term, row_of_terms_below, some_row};
-use sqlite::{Alter, Connection, Row};
+use sqlite::{Alter, Connection, Error, Row};
 use zeb_register::{RegFault, RegisterOf};
 
 /// The last of the rows.
@@ -28,13 +28,12 @@ fn leaf_of_term<S: Alter>(
     at: RegisterOf,
     term: &str,
     end: i64,
-) -> Result<Option<Row>, RegFault>
+) -> Result<Option<Row>, Error>
     ensures call { Reading (state S.Store conn.old) (state S.Store conn.new) result
         (λ _. IsUnchanged) }
     ensures finds { Tells (state S.Store conn.old) (state S.Store conn.new) result
         (λ trees found. IsGreatest (IsOfTermBelow at term.now end trees) found) }
-    ensures honest { result ≢ Err RegFault.Damaged }
-    ensures refused { IsReasoned (state S.Store conn.old) (state S.Store conn.new) result }
+    ensures refused { IsReasonedError (state S.Store conn.old) (state S.Store conn.new) result }
 {
     let rows = row_of_term(conn, at, term, end)?;
     Ok(last_row(rows))
@@ -45,13 +44,12 @@ pub(crate) fn leaf_of_terms_below<S: Alter>(
     conn: &mut Connection<S>,
     at: RegisterOf,
     term: &str,
-) -> Result<Option<Row>, RegFault>
+) -> Result<Option<Row>, Error>
     ensures call { Reading (state S.Store conn.old) (state S.Store conn.new) result
         (λ _. IsUnchanged) }
     ensures finds { Tells (state S.Store conn.old) (state S.Store conn.new) result
         (λ trees found. IsGreatest (IsOfTermsBelow at term.now trees) found) }
-    ensures honest { result ≢ Err RegFault.Damaged }
-    ensures refused { IsReasoned (state S.Store conn.old) (state S.Store conn.new) result }
+    ensures refused { IsReasonedError (state S.Store conn.old) (state S.Store conn.new) result }
 {
     let rows = row_of_terms_below(conn, at, term)?;
     Ok(last_row(rows))
@@ -64,14 +62,13 @@ pub(crate) fn covering_leaf<S: Alter>(
     at: RegisterOf,
     term: &str,
     block: u64,
-) -> Result<Option<Row>, RegFault>
+) -> Result<Option<Row>, Error>
     requires { block < 2 ^ 56 }
     ensures call { Reading (state S.Store conn.old) (state S.Store conn.new) result
         (λ _. IsUnchanged) }
     ensures covers { Tells (state S.Store conn.old) (state S.Store conn.new) result
         (λ trees found. IsCovering (IsLeafIn trees at) (leaf_key term.now block) found) }
-    ensures honest { result ≢ Err RegFault.Damaged }
-    ensures refused { IsReasoned (state S.Store conn.old) (state S.Store conn.new) result }
+    ensures refused { IsReasonedError (state S.Store conn.old) (state S.Store conn.new) result }
 {
     let end = block as i64 + 1;
     match leaf_of_term(conn, at, term, end)? {

@@ -1,6 +1,6 @@
 //! The leaf that covers a block of a term, and where what it covers ends, inside a transaction.
 
-ghost use Rattle.std.specs.Prelude.{◌≡◌, ◌≢◌, ◌<◌, ◌++◌, ◌∷◌, ◌^◌, [], None, Some, Err, IfErr, IfOk, IsTrue};
+ghost use Rattle.std.specs.Prelude.{◌≡◌, ◌<◌, ◌++◌, ◌∷◌, ◌^◌, [], None, Some, IfErr, IfOk, IsTrue};
 ghost use Rattle.std.specs.Option.{option_map};
 ghost use Rattle.sqlite.specs.Held.{state};
 ghost use Rattle.zeb_leaf.specs.declared.spans.BlockKey.{BlockKey as KeyOfBlock};
@@ -19,7 +19,7 @@ use crate::statements_inside::{
     key_of_term_from, key_of_terms_from, leaf_of_term_inside, leaf_of_terms_below_inside,
     some_row_inside,
 };
-use sqlite::{Alter, Row, Transaction};
+use sqlite::{Alter, Error, Row, Transaction};
 use std::alloc::Global;
 use zeb_leaf::BlockKey;
 use zeb_register::for_layouts::text_above;
@@ -60,7 +60,7 @@ fn covering_by_term<S: Alter>(
     at: RegisterOf,
     term: &str,
     block: u64,
-) -> Result<Option<Row>, RegFault>
+) -> Result<Option<Row>, Error>
     requires { block < 2 ^ 56 }
     ensures same { tx.new.conn.ghost_name ≡ tx.old.conn.ghost_name }
     ensures call { Inside (state S.Store tx.old.conn.now) (state S.Store tx.new.conn.now) result
@@ -68,7 +68,6 @@ fn covering_by_term<S: Alter>(
     ensures covers { TellsInside (state S.Store tx.old.conn.now) (state S.Store tx.new.conn.now)
         result
         (λ trees found. IsCovering (IsLeafIn trees at) (leaf_key term.now block) found) }
-    ensures honest { result ≢ Err RegFault.Damaged }
 {
     let end = block as i64 + 1;
     match leaf_of_term_inside(tx, at, term, end)? {
@@ -84,7 +83,7 @@ fn covering_leaf<S: Alter>(
     at: RegisterOf,
     term: &str,
     block: u64,
-) -> Result<Option<Row>, RegFault>
+) -> Result<Option<Row>, Error>
     requires { block < 2 ^ 56 }
     ensures same { tx.new.conn.ghost_name ≡ tx.old.conn.ghost_name }
     ensures call { Inside (state S.Store tx.old.conn.now) (state S.Store tx.new.conn.now) result
@@ -92,7 +91,6 @@ fn covering_leaf<S: Alter>(
     ensures covers { TellsInside (state S.Store tx.old.conn.now) (state S.Store tx.new.conn.now)
         result
         (λ trees found. IsCovering (IsLeafIn trees at) (leaf_key term.now block) found) }
-    ensures honest { result ≢ Err RegFault.Damaged }
 {
     let end = text_above(alloc, term)?;
     let key = BlockKey {
@@ -151,14 +149,13 @@ fn key_of_terms_above<S: Alter>(
     tx: &mut Transaction<'_, S>,
     at: RegisterOf,
     term: &str,
-) -> Result<Option<Row>, RegFault>
+) -> Result<Option<Row>, Error>
     ensures same { tx.new.conn.ghost_name ≡ tx.old.conn.ghost_name }
     ensures call { Inside (state S.Store tx.old.conn.now) (state S.Store tx.new.conn.now) result
         (λ _. OnlyReads) }
     ensures finds { TellsInside (state S.Store tx.old.conn.now) (state S.Store tx.new.conn.now)
         result
         (λ trees key. TellsKey (IsLeast (IsRowFrom at (term.now ++ 0 ∷ []) trees)) key) }
-    ensures honest { result ≢ Err RegFault.Damaged }
 {
     let first = text_above(alloc, term)?;
     key_of_terms_from(tx, at, first.as_str())
@@ -172,7 +169,7 @@ fn behind_by_term<S: Alter>(
     at: RegisterOf,
     term: &str,
     block: u64,
-) -> Result<Option<Row>, RegFault>
+) -> Result<Option<Row>, Error>
     requires { block < 2 ^ 56 }
     ensures same { tx.new.conn.ghost_name ≡ tx.old.conn.ghost_name }
     ensures call { Inside (state S.Store tx.old.conn.now) (state S.Store tx.new.conn.now) result
@@ -180,7 +177,6 @@ fn behind_by_term<S: Alter>(
     ensures finds { TellsInside (state S.Store tx.old.conn.now) (state S.Store tx.new.conn.now)
         result (λ trees key.
         TellsKey (IsNextBehind (IsLeafIn trees at) (leaf_key term.now block)) key) }
-    ensures honest { result ≢ Err RegFault.Damaged }
 {
     let first = block as i64 + 1;
     match key_of_term_from(tx, at, term, first)? {
@@ -197,7 +193,7 @@ pub(crate) fn key_behind<S: Alter>(
     at: RegisterOf,
     term: &str,
     block: u64,
-) -> Result<Option<Row>, RegFault>
+) -> Result<Option<Row>, Error>
     requires { block < 2 ^ 56 }
     ensures same { tx.new.conn.ghost_name ≡ tx.old.conn.ghost_name }
     ensures call { Inside (state S.Store tx.old.conn.now) (state S.Store tx.new.conn.now) result
@@ -205,7 +201,6 @@ pub(crate) fn key_behind<S: Alter>(
     ensures finds { TellsInside (state S.Store tx.old.conn.now) (state S.Store tx.new.conn.now)
         result (λ trees key.
         TellsKey (IsNextBehind (IsLeafIn trees at) (leaf_key term.now block)) key) }
-    ensures honest { result ≢ Err RegFault.Damaged }
 {
     let key = BlockKey {
         term: term.as_bytes(),

@@ -7,7 +7,7 @@ use crate::near_terms::{terms_before, terms_from};
 use crate::term_totals::totals;
 use crate::terms::terms_of;
 use crate::turning::{key_changes, run_changes};
-use sqlite::{Alter, Connection, Transaction};
+use sqlite::{Alter, Connection, Error, Transaction};
 use std::alloc::Global;
 use zeb_blocks::Posting;
 use zeb_keys::Key;
@@ -57,10 +57,7 @@ impl Layout for Leaves {
         run_changes(tx, work, db, run)
     }
 
-    fn database_take<S: Alter>(
-        tx: &mut Transaction<'_, S>,
-        db: DatabaseId,
-    ) -> Result<(), RegFault> {
+    fn database_take<S: Alter>(tx: &mut Transaction<'_, S>, db: DatabaseId) -> Result<(), Error> {
         database_drop_whole(tx, db)
     }
 
@@ -129,7 +126,7 @@ impl Layout for Leaves {
         alloc: Global,
         conn: &mut Connection<S>,
         expected: &Expected,
-    ) -> Result<bool, RegFault> {
+    ) -> Result<bool, Error> {
         leaves_agree(alloc, conn, expected)
     }
 }

@@ -6,7 +6,7 @@ ghost use Rattle.zeb_leaves.specs.PrivateLeafReads.{IsOfTermsBelow};
 ghost use Rattle.zeb_leaves.specs.PrivateNearRows.{ListsBack, ListsFront};
 ghost use Rattle.zeb_leaves.specs.PrivateTermReads.{IsRowFrom};
 ghost use Rattle.zeb_register.specs.Calls.{Reading};
-ghost use Rattle.zeb_register.specs.PrivateClauses.{IsReasonedError};
+ghost use Rattle.zeb_register.specs.Clauses.{IsReasonedError};
 ghost use Rattle.zeb_register.specs.PrivateRowTerms.{ReadsRows};
 
 use sqlite::{Alter, Connection, Error, Row, params};

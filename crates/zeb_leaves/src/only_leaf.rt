@@ -1,6 +1,6 @@
 //! The one leaf that has all of neighbouring terms, in nearly every look by a single statement.
 
-ghost use Rattle.std.specs.Prelude.{◌≡◌, ◌≢◌, ◌↔◌, true, Err, IfSome, IsTrue};
+ghost use Rattle.std.specs.Prelude.{◌≡◌, ◌↔◌, true, IfSome, IsTrue};
 ghost use Rattle.std.specs.Cmp.Lexicographic.{slice_cmp};
 ghost use Rattle.std.specs.Ordering.{is_lt, nat_cmp};
 ghost use Rattle.sqlite.specs.Held.{state};
@@ -9,12 +9,12 @@ ghost use Rattle.zeb_leaves.specs.PrivateLeafReads.{IsLeafAt, IsLeafIn, IsUncove
 ghost use Rattle.zeb_leaves.specs.PrivateSpans.{HasTermBelow, IsOnlyLeaf};
 ghost use Rattle.zeb_register.specs.Answers.{Answers, IfDamaged};
 ghost use Rattle.zeb_register.specs.Calls.{Reading};
-ghost use Rattle.zeb_register.specs.Clauses.{IsReasoned, OnStore, Tells};
+ghost use Rattle.zeb_register.specs.Clauses.{IsReasoned, IsReasonedError, OnStore, Tells};
 ghost use Rattle.zeb_register.specs.Covering.{leaf_key};
 
 use crate::covering::{leaf_at, leaf_of_terms_below};
 use sqlite::types::ValueRef;
-use sqlite::{Alter, Connection, Row};
+use sqlite::{Alter, Connection, Error, Row};
 use std::alloc::Global;
 use zeb_register::for_layouts::text_above;
 use zeb_register::{RegFault, RegisterOf};
@@ -36,15 +36,14 @@ pub(crate) fn only_leaf<S: Alter>(
     at: RegisterOf,
     first: &str,
     end: &str,
-) -> Result<Option<Row>, RegFault>
+) -> Result<Option<Row>, Error>
     requires { is_lt (slice_cmp nat_cmp first.now end.now) ≡ true }
     ensures call { Reading (state S.Store conn.old) (state S.Store conn.new) result
         (λ _. IsUnchanged) }
     ensures finds { Tells (state S.Store conn.old) (state S.Store conn.new) result
         (λ trees found. IfSome found (λ leaf.
         IsOnlyLeaf (IsLeafIn trees at) first.now end.now leaf)) }
-    ensures honest { result ≢ Err RegFault.Damaged }
-    ensures refused { IsReasoned (state S.Store conn.old) (state S.Store conn.new) result }
+    ensures refused { IsReasonedError (state S.Store conn.old) (state S.Store conn.new) result }
 {
     // Of the leaves of all terms below the end this is the greatest: where it is below the first text, none stands between them.
     let Some(leaf) = leaf_of_terms_below(conn, at, end)? else {

@@ -8,8 +8,7 @@ ghost use Rattle.zeb_leaves.specs.PrivateLeafReads.{IsLeafIn, IsUncovered};
 ghost use Rattle.zeb_leaves.specs.PrivateTermReads.{AreLeavesFrom, IsRowFrom};
 ghost use Rattle.zeb_register.specs.Answers.{Answers, IfDamaged};
 ghost use Rattle.zeb_register.specs.Calls.{Reading};
-ghost use Rattle.zeb_register.specs.Clauses.{IsReasoned, OnStore, Tells};
-ghost use Rattle.zeb_register.specs.PrivateClauses.{IsReasonedError};
+ghost use Rattle.zeb_register.specs.Clauses.{IsReasoned, IsReasonedError, OnStore, Tells};
 ghost use Rattle.zeb_register.specs.PrivateRowStatements.{Lists};
 ghost use Rattle.zeb_register.specs.Sql.{IsListOf};
 

@@ -5,7 +5,7 @@ ghost use Rattle.zeb_leaves.specs.PrivateLeafReads.{IsInRegister, IsOfTermBelow,
 ghost use Rattle.zeb_leaves.specs.PrivateLeafReads.{ShowsGreatest, ShowsSome};
 ghost use Rattle.zeb_leaves.specs.PrivateSpans.{IsRowBetween};
 ghost use Rattle.zeb_register.specs.Calls.{Reading};
-ghost use Rattle.zeb_register.specs.PrivateClauses.{IsReasonedError};
+ghost use Rattle.zeb_register.specs.Clauses.{IsReasonedError};
 ghost use Rattle.zeb_register.specs.PrivateRowStatements.{Lists};
 ghost use Rattle.zeb_register.specs.PrivateRowTerms.{ReadsRows};
 

@@ -1,6 +1,6 @@
 //! The statements that find a leaf inside a transaction, or its own key.
 
-ghost use Rattle.std.specs.Prelude.{◌≡◌, ◌≢◌, Err};
+ghost use Rattle.std.specs.Prelude.{◌≡◌};
 ghost use Rattle.sqlite.specs.Held.{state};
 ghost use Rattle.sqlite.specs.Values.{bound};
 ghost use Rattle.zeb_leaves.specs.PrivateLeafReads.{IsGreatest, IsLeafIn, IsLeast, ShowsLast, TellsKey, TellsSome};
@@ -13,8 +13,8 @@ ghost use Rattle.zeb_register.specs.Queries.{IsSilent};
 use crate::covering::last_row;
 use crate::statements::{ANY, OF_TERM, OF_TERMS_BELOW};
 use sqlite::types::ValueRef;
-use sqlite::{Alter, Row, Transaction, params};
-use zeb_register::{RegFault, RegisterOf};
+use sqlite::{Alter, Error, Row, Transaction, params};
+use zeb_register::RegisterOf;
 
 // The table's index has a row's own key: these two statements are answered from there, and no leaf is read.
 const OF_TERM_FROM: &str =
@@ -29,7 +29,7 @@ fn last_shown<S: Alter>(
     tx: &mut Transaction<'_, S>,
     sql: &str,
     params: &[ValueRef<'_>],
-) -> Result<Option<Row>, RegFault>
+) -> Result<Option<Row>, Error>
     requires { IsSilent sql.now }
     ensures same { tx.new.conn.ghost_name ≡ tx.old.conn.ghost_name }
     ensures shows { ShowsLast sql.now (bound params.now) (state S.Store tx.old.conn.now)
@@ -45,13 +45,12 @@ pub(crate) fn leaf_of_term_inside<S: Alter>(
     at: RegisterOf,
     term: &str,
     end: i64,
-) -> Result<Option<Row>, RegFault>
+) -> Result<Option<Row>, Error>
     ensures same { tx.new.conn.ghost_name ≡ tx.old.conn.ghost_name }
     ensures call { Inside (state S.Store tx.old.conn.now) (state S.Store tx.new.conn.now) result
         (λ _. OnlyReads) }
     ensures finds { TellsInside (state S.Store tx.old.conn.now) (state S.Store tx.new.conn.now)
         result (λ trees found. IsGreatest (IsOfTermBelow at term.now end trees) found) }
-    ensures honest { result ≢ Err RegFault.Damaged }
 {
     let db = at.db.column();
     let reg = u32::from(at.register.code());
@@ -64,13 +63,12 @@ pub(crate) fn leaf_of_terms_below_inside<S: Alter>(
     tx: &mut Transaction<'_, S>,
     at: RegisterOf,
     term: &str,
-) -> Result<Option<Row>, RegFault>
+) -> Result<Option<Row>, Error>
     ensures same { tx.new.conn.ghost_name ≡ tx.old.conn.ghost_name }
     ensures call { Inside (state S.Store tx.old.conn.now) (state S.Store tx.new.conn.now) result
         (λ _. OnlyReads) }
     ensures finds { TellsInside (state S.Store tx.old.conn.now) (state S.Store tx.new.conn.now)
         result (λ trees found. IsGreatest (IsOfTermsBelow at term.now trees) found) }
-    ensures honest { result ≢ Err RegFault.Damaged }
 {
     let db = at.db.column();
     let reg = u32::from(at.register.code());
@@ -82,13 +80,12 @@ pub(crate) fn leaf_of_terms_below_inside<S: Alter>(
 pub(crate) fn some_row_inside<S: Alter>(
     tx: &mut Transaction<'_, S>,
     at: RegisterOf,
-) -> Result<Option<Row>, RegFault>
+) -> Result<Option<Row>, Error>
     ensures same { tx.new.conn.ghost_name ≡ tx.old.conn.ghost_name }
     ensures call { Inside (state S.Store tx.old.conn.now) (state S.Store tx.new.conn.now) result
         (λ _. OnlyReads) }
     ensures finds { TellsInside (state S.Store tx.old.conn.now) (state S.Store tx.new.conn.now)
         result (λ trees found. TellsSome (IsLeafIn trees at) found) }
-    ensures honest { result ≢ Err RegFault.Damaged }
 {
     let db = at.db.column();
     let reg = u32::from(at.register.code());
@@ -102,13 +99,12 @@ pub(crate) fn key_of_term_from<S: Alter>(
     at: RegisterOf,
     term: &str,
     first: i64,
-) -> Result<Option<Row>, RegFault>
+) -> Result<Option<Row>, Error>
     ensures same { tx.new.conn.ghost_name ≡ tx.old.conn.ghost_name }
     ensures call { Inside (state S.Store tx.old.conn.now) (state S.Store tx.new.conn.now) result
         (λ _. OnlyReads) }
     ensures finds { TellsInside (state S.Store tx.old.conn.now) (state S.Store tx.new.conn.now)
         result (λ trees key. TellsKey (IsLeast (IsOfTermFrom at term.now first trees)) key) }
-    ensures honest { result ≢ Err RegFault.Damaged }
 {
     let db = at.db.column();
     let reg = u32::from(at.register.code());
@@ -120,13 +116,12 @@ pub(crate) fn key_of_terms_from<S: Alter>(
     tx: &mut Transaction<'_, S>,
     at: RegisterOf,
     first: &str,
-) -> Result<Option<Row>, RegFault>
+) -> Result<Option<Row>, Error>
     ensures same { tx.new.conn.ghost_name ≡ tx.old.conn.ghost_name }
     ensures call { Inside (state S.Store tx.old.conn.now) (state S.Store tx.new.conn.now) result
         (λ _. OnlyReads) }
     ensures finds { TellsInside (state S.Store tx.old.conn.now) (state S.Store tx.new.conn.now)
         result (λ trees key. TellsKey (IsLeast (IsRowFrom at first.now trees)) key) }
-    ensures honest { result ≢ Err RegFault.Damaged }
 {
     let db = at.db.column();
     let reg = u32::from(at.register.code());

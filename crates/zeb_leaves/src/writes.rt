@@ -1,6 +1,6 @@
 //! Leaves that are written: one in the place of a leaf or as the first of a register, and others behind it.
 
-ghost use Rattle.std.specs.Prelude.{IsUtf8, ◌≡◌, ◌≢◌, pos, [], length, Err, IsTrue};
+ghost use Rattle.std.specs.Prelude.{IsUtf8, ◌≡◌, pos, [], length, IsTrue};
 ghost use Rattle.std.specs.List.{AllByRecursion};
 ghost use Rattle.sqlite.specs.Held.{state};
 ghost use Rattle.std.specs.List.Sorted.{IsStrictlySortedBy};
@@ -17,8 +17,8 @@ ghost use Rattle.zeb_register.specs.Store.{blocks_tree};
 use sqlite::{Alter, Error, Transaction, params};
 use std::alloc::Global;
 use zeb_leaf::{Entry, Filling, NewLeaf, cut};
+use zeb_register::RegisterOf;
 use zeb_register::for_layouts::stored;
-use zeb_register::{RegFault, RegisterOf};
 
 /// The own key of a leaf.
 #[derive(Clone, Copy)]
@@ -87,14 +87,13 @@ fn new_leaf_add<S: Alter>(
     tx: &mut Transaction<'_, S>,
     at: RegisterOf,
     leaf: &NewLeaf,
-) -> Result<(), RegFault>
+) -> Result<(), Error>
     requires { IsUtf8 leaf.now.term }
     ensures same { tx.new.conn.ghost_name ≡ tx.old.conn.ghost_name }
     ensures call { Writes blocks_tree (Gains (new_row at leaf.now))
         (state S.Store tx.old.conn.now) (state S.Store tx.new.conn.now) result }
     ensures rows { MakesLeaves 1 (state S.Store tx.old.conn.now) (state S.Store tx.new.conn.now)
         result }
-    ensures honest { result ≢ Err RegFault.Damaged }
 {
     let term = text_of(leaf.term.as_slice());
     let number = stored(leaf.block)?;
@@ -107,7 +106,7 @@ fn new_leaves_add<S: Alter>(
     tx: &mut Transaction<'_, S>,
     at: RegisterOf,
     leaves: &[NewLeaf],
-) -> Result<(), RegFault>
+) -> Result<(), Error>
     requires { AllByRecursion (λ (leaf : NewLeaf). IsUtf8 leaf.term) leaves.now }
     ensures same { tx.new.conn.ghost_name ≡ tx.old.conn.ghost_name }
     ensures call { Inside (state S.Store tx.old.conn.now) (state S.Store tx.new.conn.now) result
@@ -117,7 +116,6 @@ fn new_leaves_add<S: Alter>(
         (λ _. GainsLeaves at leaves.now) }
     ensures rows { MakesLeaves (length leaves.now) (state S.Store tx.old.conn.now)
         (state S.Store tx.new.conn.now) result }
-    ensures honest { result ≢ Err RegFault.Damaged }
 {
     for leaf in leaves {
         new_leaf_add(tx, at, leaf)?;
@@ -133,13 +131,12 @@ fn leaf_put<S: Alter>(
     block: u64,
     bytes: &[u8],
     is_there: bool,
-) -> Result<(), RegFault>
+) -> Result<(), Error>
     ensures same { tx.new.conn.ghost_name ≡ tx.old.conn.ghost_name }
     ensures call { Writes blocks_tree (IfToldPuts is_there at term.now (pos block) bytes.now [])
         (state S.Store tx.old.conn.now) (state S.Store tx.new.conn.now) result }
     ensures rows { MakesLeaves (coming is_there) (state S.Store tx.old.conn.now)
         (state S.Store tx.new.conn.now) result }
-    ensures honest { result ≢ Err RegFault.Damaged }
 {
     let number = stored(block)?;
     if is_there {
@@ -160,7 +157,7 @@ fn leaves_put<S: Alter>(
     bytes: &[u8],
     is_there: bool,
     leaves: &[NewLeaf],
-) -> Result<usize, RegFault>
+) -> Result<usize, Error>
     requires { AllByRecursion (λ (leaf : NewLeaf). IsUtf8 leaf.term) leaves.now }
     ensures same { tx.new.conn.ghost_name ≡ tx.old.conn.ghost_name }
     ensures call { Inside (state S.Store tx.old.conn.now) (state S.Store tx.new.conn.now) result
@@ -170,7 +167,6 @@ fn leaves_put<S: Alter>(
         (λ _. IfToldPuts is_there at term.now (pos block) bytes.now leaves.now) }
     ensures rows { TellsWritten is_there (state S.Store tx.old.conn.now)
         (state S.Store tx.new.conn.now) result }
-    ensures honest { result ≢ Err RegFault.Damaged }
 {
     leaf_put(tx, at, term, block, bytes, is_there)?;
     new_leaves_add(tx, at, leaves)?;
@@ -188,7 +184,7 @@ pub(crate) fn entries_put<S: Alter>(
     is_there: bool,
     entries: &[Entry],
     filling: Filling,
-) -> Result<usize, RegFault>
+) -> Result<usize, Error>
     requires rising { IsStrictlySortedBy entry_cmp entries.now }
     requires each { AllByRecursion IsEntry entries.now }
     ensures same { tx.new.conn.ghost_name ≡ tx.old.conn.ghost_name }
@@ -199,7 +195,6 @@ pub(crate) fn entries_put<S: Alter>(
         (λ _. IfToldPutsEntries is_there at key.entry.term.now key.entry.block entries.now) }
     ensures rows { TellsWritten is_there (state S.Store tx.old.conn.now)
         (state S.Store tx.new.conn.now) result }
-    ensures honest { result ≢ Err RegFault.Damaged }
 {
     let leaves = cut(alloc, entries, filling)?;
     match leaves.split_first() {

@@ -117,11 +117,9 @@ both_put db held old mid new one two = record {
     dict_same : mid.now.trees dict_tree ≡ old.now.trees dict_tree
     dict_same = one.others.1.1.1.1.1.0 (λ e. absurd (omega (arith, e)))
 
-pub held_answers : (db : ℤ) (held : NewRows) (old mid new : State) (result : Result (Unit {0}) RegFault) → Changes blocks_tree (GainsAll (map (new_block_row db) held.blocks.items)) old mid → AreLacking db held.blocks.items old.now.trees
-    → IfOk result (λ done. Changes dict_tree (GainsAll (map (new_count_row db) held.counts.items)) mid new) → result ≢ Err Damaged
-    → Answers (IfDamaged (SomeStands db held.blocks.items old.now.trees)) (λ done. IsStore new × GainsRows db held old.now.trees new.now.trees × AreLacking db held.blocks.items old.now.trees) result
-held_answers db held old mid new (Ok done) one lacking two honest = (two.layout, both_put db held old mid new one two, lacking)
-held_answers db held old mid new (Err fault) one lacking two honest = λ told. absurd (honest (ap Err told))
+pub held_answers : (db : ℤ) (held : NewRows) (old mid new : State) → Changes blocks_tree (GainsAll (map (new_block_row db) held.blocks.items)) old mid → AreLacking db held.blocks.items old.now.trees
+    → Changes dict_tree (GainsAll (map (new_count_row db) held.counts.items)) mid new → IsStore new × GainsRows db held old.now.trees new.now.trees × AreLacking db held.blocks.items old.now.trees
+held_answers db held old mid new one lacking two = (two.layout, both_put db held old mid new one two, lacking)
 
 pub stands_same : (db : ℤ) (blocks : List NewBlock) (a b : Database) → b ≡ a → SomeStands db blocks b.trees → SomeStands db blocks a.trees
 stands_same db blocks a b same some = subst (λ (d : Database). SomeStands db blocks d.trees) same some

@@ -80,12 +80,11 @@ module _ (db : ℤ) (key : Key) (changes : List RecordChange) (known : Known) (a
     );
   }
 
-pub key_answers : {A : Type 0} (db : ℤ) (key : Key) (changes : List RecordChange) (known : Known) (after : ℕ) (s mid t : State) (result : Result A RegFault) → CountsAs s.now.trees db key known.records → IsClearFrom known → IsUtf8 key.term → AllByRecursion IsStorableChange changes → NumbersRise changes
-    → Changes blocks_tree (λ tree. TurnsBlocks db key changes (λ block. known.clear_from ≤ block) known.records after) s mid → IfOk result (λ done. Alters dict_tree (IfTold (not (known.records == 0)) (IsDictIn db key) (PutsCount db key after)) mid t)
-    → result ≢ Err Damaged → Answers (IsRefusedAs packed_blocks db key changes s.now.trees) (λ done. IsStore t × PutsUnits packed_blocks db key changes s.now.trees t.now.trees) result
-key_answers db key changes known after s mid t (Ok done) counts clear text stored rise one two honest =
+pub key_answers : (db : ℤ) (key : Key) (changes : List RecordChange) (known : Known) (after : ℕ) (s mid t : State) → CountsAs s.now.trees db key known.records → IsClearFrom known → IsUtf8 key.term → AllByRecursion IsStorableChange changes → NumbersRise changes
+    → Changes blocks_tree (λ tree. TurnsBlocks db key changes (λ block. known.clear_from ≤ block) known.records after) s mid → Alters dict_tree (IfTold (not (known.records == 0)) (IsDictIn db key) (PutsCount db key after)) mid t
+    → IsStore t × PutsUnits packed_blocks db key changes s.now.trees t.now.trees
+key_answers db key changes known after s mid t counts clear text stored rise one two =
     let put = two.rows one.layout in (put.layout, units_put db key changes known after s mid t counts clear text stored rise one put)
-key_answers db key changes known after s mid t (Err fault) counts clear text stored rise one two honest = (λ none. absurd (none stored), λ told. absurd (honest (ap Err told)))
 
 pub puts_any : (db : ℤ) (key : Key) (changes : List RecordChange) (old new : Trees) → changes ≢ [] → PutsUnits packed_blocks db key changes old new → PutsAny packed_blocks db key changes old new
 puts_any db key [] old new some puts = absurd (some refl)

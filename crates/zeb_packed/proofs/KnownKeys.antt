@@ -25,12 +25,6 @@ pub held_turns : (db : ℤ) (key : Key) (changes : List RecordChange) (old new :
 held_turns db key [] old new made before after some same store counts begun behind = absurd (some refl)
 held_turns db key (change ∷ changes) old new made before after some same store counts begun behind = (store, inr (made, begun, counts, behind, ap (λ (d : Database). d.trees) same))
 
--- what holding them answers
-pub hold_answers : (db : ℤ) (key : Key) (changes : List RecordChange) (s : State) (made before after : NewRows) (result : Result (Unit {0}) RegFault) → changes ≢ [] → AllByRecursion IsStorableChange changes → IsStore s → CountsAs s.now.trees db key 0 → BeginsKey key changes made
-    → OnOk result (AreBehind before made after) → result ≢ Err Damaged → Turned db key changes s.now.trees s before after result
-hold_answers db key changes s made before after (Ok done) some stored store counts begun behind honest = held_turns db key changes s s made before after some refl store counts begun behind
-hold_answers db key changes s made before after (Err fault) some stored store counts begun behind honest = (λ none. absurd (none stored), λ told. absurd (honest (ap Err told)))
-
 pub always_ok : {A E : Type 0} (r : Result A E) (P : Type 0) → P → OnOk r P
 always_ok (Ok a) P p = p
 always_ok (Err e) P p = tt

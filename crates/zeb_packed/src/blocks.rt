@@ -6,7 +6,7 @@ use crate::packed_between::blocks_between;
 use crate::packed_runs::changes_made;
 use crate::packed_totals::term_postings;
 use crate::statements::packed::{dict_rows, dict_rows_before, dict_rows_from};
-use sqlite::{Alter, Connection, Transaction};
+use sqlite::{Alter, Connection, Error, Transaction};
 use std::alloc::Global;
 use zeb_blocks::Posting;
 use zeb_keys::Key;
@@ -65,10 +65,7 @@ impl Layout for Blocks {
         run_made(tx, work, db, run)
     }
 
-    fn database_take<S: Alter>(
-        tx: &mut Transaction<'_, S>,
-        db: DatabaseId,
-    ) -> Result<(), RegFault> {
+    fn database_take<S: Alter>(tx: &mut Transaction<'_, S>, db: DatabaseId) -> Result<(), Error> {
         database_drop_whole(tx, db)
     }
 
@@ -161,7 +158,7 @@ impl Layout for Blocks {
         alloc: Global,
         conn: &mut Connection<S>,
         expected: &Expected,
-    ) -> Result<bool, RegFault> {
+    ) -> Result<bool, Error> {
         blocks_agree(alloc, conn, expected)
     }
 }

@@ -160,14 +160,13 @@ fn count_put<S: Alter>(
     tx: &mut Transaction<'_, S>,
     db: DatabaseId,
     one: &NewCount<'_>,
-) -> Result<(), RegFault>
+) -> Result<(), Error>
     ensures same { tx.new.conn.ghost_name ≡ tx.old.conn.ghost_name }
     ensures call { Inside (state S.Store tx.old.conn.now) (state S.Store tx.new.conn.now) result
         (λ _. GoesOn) }
     ensures put { ChangesTable dict_tree
         (state S.Store tx.old.conn.now) (state S.Store tx.new.conn.now) result
         (λ _. GainsAll (new_count_row db.0 one.now ∷ [])) }
-    ensures honest { result ≢ Err RegFault.Damaged }
 {
     let number = stored(one.records)?;
     dict_add(tx, KeyOf { db, key: one.key }, number)?;
@@ -180,7 +179,7 @@ fn many_counts_put<S: Alter>(
     tx: &mut Transaction<'_, S>,
     db: DatabaseId,
     counts: &[NewCount<'_>],
-) -> Result<(), RegFault>
+) -> Result<(), Error>
     requires { length counts.now ≡ MANY }
     ensures same { tx.new.conn.ghost_name ≡ tx.old.conn.ghost_name }
     ensures call { Inside (state S.Store tx.old.conn.now) (state S.Store tx.new.conn.now) result
@@ -188,7 +187,6 @@ fn many_counts_put<S: Alter>(
     ensures put { ChangesTable dict_tree
         (state S.Store tx.old.conn.now) (state S.Store tx.new.conn.now) result
         (λ _. GainsAll (map (new_count_row db.0) counts.now)) }
-    ensures honest { result ≢ Err RegFault.Damaged }
 {
     let values = count_values(alloc, db, counts)?;
     counts_add(tx, &values)?;
@@ -201,7 +199,7 @@ fn front_counts_put<S: Alter>(
     tx: &mut Transaction<'_, S>,
     db: DatabaseId,
     counts: &[NewCount<'_>],
-) -> Result<usize, RegFault>
+) -> Result<usize, Error>
     requires { counts.now ≢ [] }
     ensures same { tx.new.conn.ghost_name ≡ tx.old.conn.ghost_name }
     ensures call { Inside (state S.Store tx.old.conn.now) (state S.Store tx.new.conn.now) result
@@ -210,7 +208,6 @@ fn front_counts_put<S: Alter>(
         (state S.Store tx.old.conn.now) (state S.Store tx.new.conn.now) result
         (λ count. GainsAll (map (new_count_row db.0) (take count counts.now))) }
     ensures further { IfOk result (λ count. (1 ≤ count) × (count ≤ length counts.now)) }
-    ensures honest { result ≢ Err RegFault.Damaged }
 {
     if counts.len() < MANY {
         count_put(tx, db, &counts[0])?;
@@ -226,7 +223,7 @@ fn counts_put<S: Alter>(
     tx: &mut Transaction<'_, S>,
     db: DatabaseId,
     counts: &[NewCount<'_>],
-) -> Result<(), RegFault>
+) -> Result<(), Error>
     ensures same { tx.new.conn.ghost_name ≡ tx.old.conn.ghost_name }
     ensures call { GoesOnOpen (state S.Store tx.old.conn.now) (state S.Store tx.new.conn.now)
         result }
@@ -235,7 +232,6 @@ fn counts_put<S: Alter>(
     ensures put { IsTrue (state S.Store tx.old.conn.now).is_open → ChangesTable dict_tree
         (state S.Store tx.old.conn.now) (state S.Store tx.new.conn.now) result
         (λ _. GainsAll (map (new_count_row db.0) counts.now)) }
-    ensures honest { result ≢ Err RegFault.Damaged }
 {
     let mut done = 0;
     while done < counts.len() {
@@ -260,5 +256,6 @@ pub(crate) fn held_put<S: Alter>(
         (state S.Store tx.new.conn.now) result }
 {
     blocks_put(alloc, tx, db, &held.blocks)?;
-    counts_put(alloc, tx, db, &held.counts)
+    counts_put(alloc, tx, db, &held.counts)?;
+    Ok(())
 }

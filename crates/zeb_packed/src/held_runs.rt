@@ -50,7 +50,8 @@ fn known_turned<'a, S: Alter>(
         return known_put(tx, db, key, known, changes);
     }
     let made = rows_begun(key, known, changes)?;
-    hold(held, made)
+    hold(held, made)?;
+    Ok(())
 }
 
 /// Does the same for a key of which it is known that it has no row of `dict`.

@@ -1,6 +1,6 @@
 //! Whether all keys of a run are new to their register. Then the row of `dict` is looked for once, and not for each key.
 
-ghost use Rattle.std.specs.Prelude.{IsUtf8, ◌≡◌, ◌≢◌, Err, IsTrue};
+ghost use Rattle.std.specs.Prelude.{IsUtf8, ◌≡◌, IsTrue};
 ghost use Rattle.std.specs.List.{AllByRecursion};
 ghost use Rattle.sqlite.specs.Held.{state};
 ghost use Rattle.zeb_packed.specs.PrivateNewRows.{AreToldNew, IsOfRegister};
@@ -9,11 +9,11 @@ ghost use Rattle.zeb_register.specs.Clauses.{TellsInside};
 ghost use Rattle.zeb_register.specs.RunChanges.{KeysRise};
 
 use crate::statements::packed_changes::dict_from;
-use sqlite::{Alter, Transaction};
+use sqlite::{Alter, Error, Transaction};
 use std::alloc::Global;
 use zeb_keys::Key;
 use zeb_register::for_layouts::{KeyOf, nothing_inside};
-use zeb_register::{DatabaseId, KeyChanges, RegFault};
+use zeb_register::{DatabaseId, KeyChanges};
 
 /// What is known of a run before its keys are looked for.
 #[derive(Clone, Copy)]
@@ -52,14 +52,13 @@ pub(crate) fn run_known<S: Alter>(
     tx: &mut Transaction<'_, S>,
     db: DatabaseId,
     run: &[KeyChanges<'_>],
-) -> Result<RunKnown, RegFault>
+) -> Result<RunKnown, Error>
     requires { KeysRise run.now }
     ensures same { tx.new.conn.ghost_name ≡ tx.old.conn.ghost_name }
     ensures call { Inside (state S.Store tx.old.conn.now) (state S.Store tx.new.conn.now) result
         (λ _. OnlyReads) }
     ensures told { TellsInside (state S.Store tx.old.conn.now) (state S.Store tx.new.conn.now)
         result (λ trees known. AreToldNew known.are_new db.0 run.now trees) }
-    ensures honest { result ≢ Err RegFault.Damaged }
 {
     if run.is_empty() {
         // A closed connection is refused also where there is no key.

@@ -15,7 +15,7 @@ ghost use Rattle.zeb_packed.specs.PrivateUnitCalls.{AllowsBlocks};
 use crate::packed_changes::Known;
 use crate::packed_parts::Held;
 use crate::packed_runs::run_length;
-use std::alloc::Global;
+use std::alloc::{AllocError, Global};
 use zeb_blocks::{BLOCK_RECORDS, spell};
 use zeb_keys::Key;
 use zeb_register::{RecordChange, RegFault};
@@ -56,9 +56,8 @@ impl<'a> NewRows<'a> {
 }
 
 /// Puts rows behind those that are held.
-pub(crate) fn hold<'a>(held: &mut NewRows<'a>, made: NewRows<'a>) -> Result<(), RegFault>
-    ensures behind { OnOk result (AreBehind held.old made.entry held.new) }
-    ensures honest { result ≢ Err RegFault.Damaged }
+pub(crate) fn hold<'a>(held: &mut NewRows<'a>, made: NewRows<'a>) -> Result<(), AllocError>
+    ensures { OnOk result (AreBehind held.old made.entry held.new) }
 {
     let mut made = made;
     held.blocks.append(&mut made.blocks)?;

@@ -147,14 +147,13 @@ pub(crate) fn block_write<S: Alter>(
     block: u64,
     list: &[Posting],
     is_there: bool,
-) -> Result<(), RegFault>
+) -> Result<(), Error>
     requires lies { LiesIn block list.now }
     requires small { block < 2 ^ 63 }
     ensures same { tx.new.conn.ghost_name ≡ tx.old.conn.ghost_name }
     ensures call { Writes blocks_tree (IfTold is_there (IsBlockIn db.0 key.now block)
         (PutsBlock db.0 key.now block list.now))
         (state S.Store tx.old.conn.now) (state S.Store tx.new.conn.now) result }
-    ensures honest { result ≢ Err RegFault.Damaged }
 {
     let number = stored(block)?;
     let at = KeyOf { db, key };
@@ -254,12 +253,11 @@ pub(crate) fn dict_write<S: Alter>(
     key: &Key,
     records: u64,
     is_there: bool,
-) -> Result<(), RegFault>
+) -> Result<(), Error>
     ensures same { tx.new.conn.ghost_name ≡ tx.old.conn.ghost_name }
     ensures call { Writes dict_tree (IfTold is_there (IsDictIn db.0 key.now)
         (PutsCount db.0 key.now records))
         (state S.Store tx.old.conn.now) (state S.Store tx.new.conn.now) result }
-    ensures honest { result ≢ Err RegFault.Damaged }
 {
     let number = stored(records)?;
     let at = KeyOf { db, key };

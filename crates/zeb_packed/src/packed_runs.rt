@@ -103,7 +103,8 @@ pub(crate) fn known_put<S: Alter>(
         (state S.Store tx.old.conn.now) (state S.Store tx.new.conn.now) result }
 {
     let after = runs_put(tx, db, key, known, changes)?;
-    dict_write(tx, db, key, after, known.records != 0)
+    dict_write(tx, db, key, after, known.records != 0)?;
+    Ok(())
 }
 
 /// Puts changes into the rows of a key's blocks, where so much is known of the key; returns how many records have it then.

@@ -1,5 +1,5 @@
 -- Why the store may have failed, one call after the other.
-use Rattle.zeb_register.proofs.Cited.{State, HasCleanDisk, IsUnchanged, Survives, ◌≡◌, ◌∙◌, true, false, IsTrue, IsSome, Result, Err, inl, inr, sym, subst, arith, cases_Bool, RegFault, Store, MayRefuse, IsReasoned, IsStore}
+use Rattle.zeb_register.proofs.Cited.{State, HasCleanDisk, IsUnchanged, Survives, ◌≡◌, ◌∙◌, true, false, IsTrue, IsSome, Result, Ok, Err, Error, inl, inr, sym, subst, arith, cases_Bool, RegFault, Store, MayRefuse, IsReasoned, IsReasonedError, IsStore}
 use Rattle.zeb_register.proofs.Calls.{store_same}
 
 -- a call behind others that have left an open connection open
@@ -18,6 +18,15 @@ may_after old mid new survives opened caused = elim (cases_Bool old.is_open) [
 pub reasoned_after : {A : Type 0} (old mid new : State) (result : Result A RegFault) → Survives old mid (λ _. ⊥) → (HasCleanDisk mid → IsUnchanged old mid) → Survives mid new (λ _. ⊥)
     → IsReasoned mid new result → result ≡ Err Store → HasCleanDisk new → IsStore old → MayRefuse old new
 reasoned_after old mid new result first same next reasoned told clean store =
+    let clean_mid : HasCleanDisk mid = omega (arith, clean, next.clean) in
+    let before = (same clean_mid).0 in
+    may_after old mid new first (λ _. before.is_open) (λ _. reasoned clean (store_same old mid before.now_is store) told)
+
+-- a call that is refused as the store is, behind others that changed nothing
+pub failed_after : {A : Type 0} (old mid new : State) (result : Result A Error) → Survives old mid (λ _. ⊥) → (HasCleanDisk mid → IsUnchanged old mid) → Survives mid new (λ _. ⊥)
+    → IsReasonedError mid new result → IsReasonedError old new result
+failed_after old mid new (Ok _) first same next reasoned = λ clean store. tt
+failed_after old mid new (Err e) first same next reasoned = λ clean store told.
     let clean_mid : HasCleanDisk mid = omega (arith, clean, next.clean) in
     let before = (same clean_mid).0 in
     may_after old mid new first (λ _. before.is_open) (λ _. reasoned clean (store_same old mid before.now_is store) told)

@@ -116,7 +116,7 @@ pub use Rattle.zeb_keys.specs.declared.keys.Occurrence.{Occurrence}
 pub use Rattle.zeb_register.specs.Between.{AreKeysBetween, IsBetween, term_list}
 pub use Rattle.zeb_register.specs.Calls.{GoesOn, OnlyReads, ChangesNothing, Alters, Inside, Reading, MayRefuse}
 pub use Rattle.zeb_register.specs.Catalog.{AreDatabases, AreReadableDatabases, listed_order, PutsDatabase, AreCountedDatabases}
-pub use Rattle.zeb_register.specs.Clauses.{IsReasoned}
+pub use Rattle.zeb_register.specs.Clauses.{IsReasoned, IsReasonedError}
 pub use Rattle.zeb_register.specs.Content.{posted, Content, HasRisingLists, posting_cmp, posting_at, ArePlacesOf, IsChangedAt, IsWithout, place_cmp, AreChangedAt, AreListChanges, IsListChanged, TakesWhole, IsStorable}
 pub use Rattle.zeb_register.specs.Expected.{AreExpected, IsOrdered, IsExpectedAs, IsPostingExpected, key_posting_order, name_order, IsTextOf, number_order}
 pub use Rattle.zeb_register.specs.Faults.{fault_of}
@@ -127,7 +127,7 @@ pub use Rattle.zeb_register.specs.PackedBlocks.{HoldsBlocks, part_in, SpellsPart
 pub use Rattle.zeb_register.specs.PlainRows.{HoldsRows, key_row, posting_row, register_front}
 pub use Rattle.zeb_register.specs.PrivateBetweenRows.{IsRestBetween, three_behind, two_behind}
 pub use Rattle.zeb_register.specs.PrivateCatalog.{listed_row}
-pub use Rattle.zeb_register.specs.PrivateClauses.{Ran, IsReasonedError}
+pub use Rattle.zeb_register.specs.PrivateClauses.{Ran}
 pub use Rattle.zeb_register.specs.PrivateKeyColumns.{IsNumberedRow, register_columns}
 pub use Rattle.zeb_register.specs.PrivatePackedRows.{AreSpelled, IsInBlock, HoldsBlockRows}
 pub use Rattle.zeb_register.specs.Agreeing.{Owns, HoldsUnder, HasNames, IsThere, BelongsThere, EachThere, HoldsThere, KeepsExpectedTexts, ListsAgree, listed_name, expected_name, AreBeside, AreEnds, IsLeastFrom, IsListedId, RecordsAgree, HasRecords, LacksPostingsAndDict}

@@ -295,9 +295,7 @@ all_left (suc i) (x ∷ changes) all = all_left i changes all.1
 
 -- ---- one change, as it was told
 
-pub unit_answers : (db : ℤ) (key : Key) (sysno : ℕ) (past next : List Place) (s mid t : State) (result : Result (Unit {0}) RegFault) → IsUtf8 key.term → RowsRead s.now.trees db key sysno past → IsStrictlySortedBy place_cmp next
-    → Loses (IsPlaceIn db key sysno) postings_tree s.now.trees mid.now.trees → KeepsBesidePostings s.now.trees mid.now.trees → OnOk result (Puts db key sysno next mid t) → result ≢ Err Damaged
-    → Answers (IfDamaged (¬ RowsRead s.now.trees db key sysno past)) (λ done. IsStore t × TurnsRows db key sysno past next s.now.trees t.now.trees) result
-unit_answers db key sysno past next s mid t (Ok done) text found rising lost left put honest =
+pub unit_turned : (db : ℤ) (key : Key) (sysno : ℕ) (past next : List Place) (s mid t : State) → IsUtf8 key.term → RowsRead s.now.trees db key sysno past → IsStrictlySortedBy place_cmp next
+    → Loses (IsPlaceIn db key sysno) postings_tree s.now.trees mid.now.trees → KeepsBesidePostings s.now.trees mid.now.trees → Puts db key sysno next mid t → IsStore t × TurnsRows db key sysno past next s.now.trees t.now.trees
+unit_turned db key sysno past next s mid t text found rising lost left put =
     (put.store, rows_turned s.now.trees mid.now.trees t.now.trees db key sysno past next text found rising lost left put.rows put.others)
-unit_answers db key sysno past next s mid t (Err fault) text found rising lost left put honest = λ told. absurd (honest (ap Err told))

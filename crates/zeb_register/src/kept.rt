@@ -21,7 +21,7 @@ use crate::statements::records::{count_rows, elder_rows, ident_rows, record_rows
 use crate::statements::writing::write;
 use crate::values::{read, read_number, stored};
 use crate::{DatabaseId, RegFault};
-use sqlite::{Alter, Connection, Row, Transaction, params};
+use sqlite::{Alter, Connection, Error, Row, Transaction, params};
 use std::alloc::Global;
 
 const PUT: &str = "INSERT OR REPLACE INTO records VALUES (?1, ?2, ?3, ?4)";
@@ -52,12 +52,11 @@ pub fn record_put<S: Alter>(
     sysno: u64,
     ident: &str,
     bytes: &[u8],
-) -> Result<(), RegFault>
+) -> Result<(), Error>
     ensures same { tx.new.conn.ghost_name ≡ tx.old.conn.ghost_name }
     ensures call { Writes records_tree (Replaces (SharesRecord db.0 (pos sysno) ident.now)
         (record_row db.0 (pos sysno) ident.now bytes.now)) (state S.Store tx.old.conn.now)
         (state S.Store tx.new.conn.now) result }
-    ensures honest { result ≢ Err RegFault.Damaged }
 {
     let sysno = stored(sysno)?;
     let id = db.column();
@@ -71,11 +70,10 @@ pub fn record_take<S: Alter>(
     tx: &mut Transaction<'_, S>,
     db: DatabaseId,
     sysno: u64,
-) -> Result<(), RegFault>
+) -> Result<(), Error>
     ensures same { tx.new.conn.ghost_name ≡ tx.old.conn.ghost_name }
     ensures call { Writes records_tree (Loses (HasNumber db.0 (pos sysno)))
         (state S.Store tx.old.conn.now) (state S.Store tx.new.conn.now) result }
-    ensures honest { result ≢ Err RegFault.Damaged }
 {
     let sysno = stored(sysno)?;
     let id = db.column();

@@ -1,6 +1,6 @@
 //! Texts that the store keeps of itself, each under a name.
 
-ghost use Rattle.std.specs.Prelude.{◌≡◌, ◌≢◌};
+ghost use Rattle.std.specs.Prelude.{◌≡◌};
 ghost use Rattle.sqlite.specs.Held.{state};
 ghost use Rattle.sqlite.specs.State.{IsUnchanged};
 ghost use Rattle.zeb_register.specs.Sql.{Replaces};
@@ -12,7 +12,7 @@ use crate::RegFault;
 use crate::statements::texts::text_rows;
 use crate::statements::writing::write;
 use crate::values::read;
-use sqlite::{Alter, Connection, Transaction, params};
+use sqlite::{Alter, Connection, Error, Transaction, params};
 
 const PUT: &str = "INSERT OR REPLACE INTO meta VALUES (?1, ?2)";
 
@@ -36,15 +36,10 @@ pub fn meta_of<S: Alter>(conn: &mut Connection<S>, name: &str) -> Result<Option<
 }
 
 /// Keeps a text under a name, in place of the one that was there.
-pub fn meta_put<S: Alter>(
-    tx: &mut Transaction<'_, S>,
-    name: &str,
-    value: &str,
-) -> Result<(), RegFault>
+pub fn meta_put<S: Alter>(tx: &mut Transaction<'_, S>, name: &str, value: &str) -> Result<(), Error>
     ensures same { tx.new.conn.ghost_name ≡ tx.old.conn.ghost_name }
     ensures call { Writes meta_tree (Replaces (IsEntryOf name.now) (entry name.now value.now))
         (state S.Store tx.old.conn.now) (state S.Store tx.new.conn.now) result }
-    ensures honest { result ≢ Err RegFault.Damaged }
 {
     write(tx, PUT, params![name, value])
 }

@@ -8,7 +8,7 @@ ghost use Rattle.sqlite.specs.declared.types.Value.TheVariants.{Int};
 ghost use Rattle.sqlite.specs.Order.{column};
 ghost use Rattle.zeb_blocks.specs.Blocks.{BlockSpells};
 ghost use Rattle.zeb_register.specs.Calls.{Reading};
-ghost use Rattle.zeb_register.specs.Clauses.{IsReasoned, TellsWhether};
+ghost use Rattle.zeb_register.specs.Clauses.{IsReasonedError, TellsWhether};
 ghost use Rattle.zeb_register.specs.Expected.{AreExpected, IsOrdered};
 ghost use Rattle.zeb_register.specs.Formats.{packed_blocks};
 ghost use Rattle.zeb_register.specs.PrivateRowExpected.{AreInOrder, HoldsExpected, HoldsKeysAlone, IsBlockBefore, with_key};
@@ -16,9 +16,9 @@ ghost use Rattle.zeb_register.specs.PrivateRowExpected.{AreInOrder, HoldsExpecte
 use crate::agreeing::{Table, lists_beside, table_agrees};
 use crate::belonging::belongs;
 use crate::expected::is_key;
-use crate::{Expected, ExpectedDatabase, KeyPosting, ListedDatabase, RegFault};
+use crate::{Expected, ExpectedDatabase, KeyPosting, ListedDatabase};
 use sqlite::types::ValueRef;
-use sqlite::{Alter, Connection, Row};
+use sqlite::{Alter, Connection, Error, Row};
 use std::alloc::Global;
 use zeb_blocks::{Posting, Postings};
 use zeb_keys::Key;
@@ -28,14 +28,13 @@ pub fn blocks_agree<S: Alter>(
     alloc: Global,
     conn: &mut Connection<S>,
     expected: &Expected,
-) -> Result<bool, RegFault>
+) -> Result<bool, Error>
     ensures call { Reading (state S.Store conn.old) (state S.Store conn.new) result
         (λ _. IsUnchanged) }
     ensures value { TellsWhether (λ trees. AreExpected packed_blocks trees expected.now)
         (IsOrdered expected.now)
         (state S.Store conn.old) (state S.Store conn.new) result }
-    ensures honest { result ≢ Err RegFault.Damaged }
-    ensures refused { IsReasoned (state S.Store conn.old) (state S.Store conn.new) result }
+    ensures refused { IsReasonedError (state S.Store conn.old) (state S.Store conn.new) result }
 {
     let Some(listed) = lists_beside(alloc, conn, expected)? else {
         return Ok(false);
@@ -48,15 +47,14 @@ fn packed_agree<S: Alter>(
     conn: &mut Connection<S>,
     listed: &[ListedDatabase],
     expected: &[ExpectedDatabase],
-) -> Result<bool, RegFault>
+) -> Result<bool, Error>
     requires { length listed.now ≡ length expected.now }
     ensures call { Reading (state S.Store conn.old) (state S.Store conn.new) result
         (λ _. IsUnchanged) }
     ensures value { TellsWhether (λ trees. HoldsExpected Table.Blocks listed.now expected.now trees
         × HoldsKeysAlone listed.now expected.now trees) (AreInOrder expected.now)
         (state S.Store conn.old) (state S.Store conn.new) result }
-    ensures honest { result ≢ Err RegFault.Damaged }
-    ensures refused { IsReasoned (state S.Store conn.old) (state S.Store conn.new) result }
+    ensures refused { IsReasonedError (state S.Store conn.old) (state S.Store conn.new) result }
 {
     if !table_agrees(conn, Table::Blocks, listed, expected)? {
         return Ok(false);
@@ -69,14 +67,13 @@ fn keys_alone<S: Alter>(
     conn: &mut Connection<S>,
     listed: &[ListedDatabase],
     expected: &[ExpectedDatabase],
-) -> Result<bool, RegFault>
+) -> Result<bool, Error>
     requires { length listed.now ≡ length expected.now }
     ensures call { Reading (state S.Store conn.old) (state S.Store conn.new) result
         (λ _. IsUnchanged) }
     ensures value { TellsWhether (HoldsKeysAlone listed.now expected.now) (AreInOrder expected.now)
         (state S.Store conn.old) (state S.Store conn.new) result }
-    ensures honest { result ≢ Err RegFault.Damaged }
-    ensures refused { IsReasoned (state S.Store conn.old) (state S.Store conn.new) result }
+    ensures refused { IsReasonedError (state S.Store conn.old) (state S.Store conn.new) result }
 {
     if !table_agrees(conn, Table::Dict, listed, expected)? {
         return Ok(false);

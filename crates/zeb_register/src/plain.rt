@@ -22,7 +22,7 @@ use crate::statements::postings::{nothing_of, posting_rows, register_rows};
 use crate::terms::{count_terms, term_before, term_count, term_from, text_above};
 use crate::values::read_number;
 use crate::{DatabaseId, Expected, RegFault};
-use sqlite::{Alter, Connection, Row, Transaction};
+use sqlite::{Alter, Connection, Error, Row, Transaction};
 use std::alloc::Global;
 use zeb_blocks::Posting;
 use zeb_keys::Key;
@@ -55,10 +55,7 @@ impl Layout for Rows {
         key_changes_plain(tx, db, key, changes)
     }
 
-    fn database_take<S: Alter>(
-        tx: &mut Transaction<'_, S>,
-        db: DatabaseId,
-    ) -> Result<(), RegFault> {
+    fn database_take<S: Alter>(tx: &mut Transaction<'_, S>, db: DatabaseId) -> Result<(), Error> {
         database_drop_whole(tx, db)
     }
 
@@ -163,7 +160,7 @@ impl Layout for Rows {
         alloc: Global,
         conn: &mut Connection<S>,
         expected: &Expected,
-    ) -> Result<bool, RegFault> {
+    ) -> Result<bool, Error> {
         let Some(listed) = lists_beside(alloc, conn, expected)? else {
             return Ok(false);
         };

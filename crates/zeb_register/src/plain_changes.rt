@@ -25,7 +25,7 @@ use crate::statements::postings::place_rows;
 use crate::statements::writing::write;
 use crate::values::{read_number, stored};
 use crate::{DatabaseId, RegFault};
-use sqlite::{Alter, Row, Transaction, params};
+use sqlite::{Alter, Error, Row, Transaction, params};
 use zeb_keys::Key;
 
 const PUT: &str = "INSERT INTO postings VALUES (?1, ?2, ?3, ?4, ?5, ?6, ?7)";
@@ -75,7 +75,7 @@ fn unit_change<S: Alter>(
         return Err(RegFault::Damaged);
     }
     places_take(tx, db, key, sysno)?;
-    places_put(tx, db, key, sysno, new)
+    Ok(places_put(tx, db, key, sysno, new)?)
 }
 
 /// Whether the rows show just these places, in order.
@@ -135,11 +135,10 @@ fn places_take<S: Alter>(
     db: DatabaseId,
     key: &Key,
     sysno: u64,
-) -> Result<(), RegFault>
+) -> Result<(), Error>
     ensures same { tx.new.conn.ghost_name ≡ tx.old.conn.ghost_name }
     ensures call { Writes postings_tree (Loses (IsPlaceIn db.0 key.now sysno))
         (state S.Store tx.old.conn.now) (state S.Store tx.new.conn.now) result }
-    ensures honest { result ≢ Err RegFault.Damaged }
 {
     let number = stored(sysno)?;
     let id = db.column();
@@ -155,7 +154,7 @@ fn places_put<S: Alter>(
     key: &Key,
     sysno: u64,
     places: &[Place],
-) -> Result<(), RegFault>
+) -> Result<(), Error>
     ensures same { tx.new.conn.ghost_name ≡ tx.old.conn.ghost_name }
     ensures call { Inside (state S.Store tx.old.conn.now) (state S.Store tx.new.conn.now) result
         (λ _ a b. IsTrue a.is_open → GoesOn a b) }
@@ -163,7 +162,6 @@ fn places_put<S: Alter>(
         (λ _. OnOk result
         (Puts db.0 key.now sysno places.now (state S.Store tx.old.conn.now)
         (state S.Store tx.new.conn.now))) }
-    ensures honest { result ≢ Err RegFault.Damaged }
 {
     for place in places {
         place_put(tx, db, key, sysno, *place)?;
@@ -178,11 +176,10 @@ fn place_put<S: Alter>(
     key: &Key,
     sysno: u64,
     place: Place,
-) -> Result<(), RegFault>
+) -> Result<(), Error>
     ensures same { tx.new.conn.ghost_name ≡ tx.old.conn.ghost_name }
     ensures call { Writes postings_tree (Gains (posting_columns db.0 key.now sysno place))
         (state S.Store tx.old.conn.now) (state S.Store tx.new.conn.now) result }
-    ensures honest { result ≢ Err RegFault.Damaged }
 {
     let number = stored(sysno)?;
     let seq = stored(place.seq)?;

@@ -4,7 +4,7 @@ ghost use Rattle.std.specs.Prelude.{◌≡◌, ◌≢◌, ◌<◌, ◌≤◌, �
 ghost use Rattle.sqlite.specs.Held.{state};
 ghost use Rattle.sqlite.specs.Order.{Row};
 ghost use Rattle.zeb_register.specs.Calls.{Reading};
-ghost use Rattle.zeb_register.specs.Clauses.{IsReasoned};
+ghost use Rattle.zeb_register.specs.Clauses.{IsReasonedError};
 ghost use Rattle.zeb_register.specs.Kept.{record_shown};
 ghost use Rattle.zeb_register.specs.PrivateRowExpected.{IsInOrder, posting_shown};
 ghost use Rattle.zeb_register.specs.PrivateRowReads.{Fits, ReadsRests, rests_text, size_of};
@@ -13,8 +13,8 @@ use crate::agreeing::Table;
 use crate::expected::{is_posting, is_record};
 use crate::key_runs::run_end;
 use crate::packed_agreeing::block_end;
-use crate::{ExpectedDatabase, KeyPosting, Record, RegFault};
-use sqlite::{Alter, Connection, Row, params};
+use crate::{ExpectedDatabase, KeyPosting, Record};
+use sqlite::{Alter, Connection, Error, Row, params};
 
 const RESTS_RECORDS: &str = "SELECT sysno, ident, bytes FROM records WHERE db = ?1 ORDER BY sysno";
 
@@ -33,11 +33,10 @@ pub(crate) fn rests_agree<S: Alter>(
     table: Table,
     db: i64,
     database: &ExpectedDatabase,
-) -> Result<bool, RegFault>
+) -> Result<bool, Error>
     ensures call { Reading (state S.Store conn.old) (state S.Store conn.new) result
         (ReadsRests table db database.now) }
-    ensures honest { result ≢ Err RegFault.Damaged }
-    ensures refused { IsReasoned (state S.Store conn.old) (state S.Store conn.new) result }
+    ensures refused { IsReasonedError (state S.Store conn.old) (state S.Store conn.new) result }
 {
     // What is seen outside a transaction is what was committed.
     let _idle = conn.is_autocommit();

@@ -1,13 +1,12 @@
 //! What a layout of the registers has to do, whatever tables it keeps them in.
 
-ghost use Rattle.std.specs.Prelude.{◌≡◌, ◌≢◌, ◌↔◌, ◌*◌, ℕ, ℤ, List, [], length, IfOk, OnOk};
+ghost use Rattle.std.specs.Prelude.{◌≡◌, ◌↔◌, ◌*◌, ℕ, ℤ, List, [], length, IfOk, OnOk};
 ghost use Rattle.std.specs.List.{AllByRecursion};
 ghost use Rattle.sqlite.specs.Held.{state};
 ghost use Rattle.sqlite.specs.State.{IsUnchanged};
 ghost use Rattle.sqlite_rules.specs.Lists.{Has};
 ghost use Rattle.zeb_register.specs.Calls.{GoesOn, Inside, Reading};
-ghost use Rattle.zeb_register.specs.Clauses.{InStore};
-ghost use Rattle.zeb_register.specs.Clauses.{IsReasoned};
+ghost use Rattle.zeb_register.specs.Clauses.{InStore, IsReasonedError};
 ghost use Rattle.zeb_register.specs.Clauses.{Tells, TellsHeld, TellsWhether};
 ghost use Rattle.sqlite.specs.Tree.{Trees};
 ghost use Rattle.zeb_register.specs.Content.{AreChangedAt, Content, HasRisingLists, IsChangedAt, IsStorable, IsWithout, OldsRise};
@@ -21,7 +20,7 @@ ghost use Rattle.zeb_register.specs.Units.{HoldsUnits, counts_as, is_malformed, 
 use crate::statements::inside::nothing_inside;
 use crate::tallies::counts_are_numbers;
 use crate::{DatabaseId, Expected, RegFault};
-use sqlite::{Alter, Connection, Transaction};
+use sqlite::{Alter, Connection, Error, Transaction};
 use std::alloc::Global;
 use zeb_blocks::Posting;
 use zeb_keys::{Key, Register, Term};
@@ -202,7 +201,7 @@ pub trait Layout {
     }
 
     /// Takes a database out, with its records and its rows in every table of the registers.
-    fn database_take<S: Alter>(tx: &mut Transaction<'_, S>, db: DatabaseId) -> Result<(), RegFault>
+    fn database_take<S: Alter>(tx: &mut Transaction<'_, S>, db: DatabaseId) -> Result<(), Error>
         ensures same { tx.new.conn.ghost_name ≡ tx.old.conn.ghost_name }
         ensures call { Inside (state S.Store tx.old.conn.now) (state S.Store tx.new.conn.now) result
             (λ _. GoesOn) }
@@ -210,8 +209,7 @@ pub trait Layout {
             (λ trees. OnOk result
             (TakesWhole db.0 (state S.Store tx.old.conn.now) (state S.Store tx.new.conn.now)
             × ((before after : Content) → holds_in format trees before → IsWithout db.0 before after
-            → holds_in format (state S.Store tx.new.conn.now).now.trees after))) }
-        ensures honest { result ≢ Err RegFault.Damaged };
+            → holds_in format (state S.Store tx.new.conn.now).now.trees after))) };
 
     /// The postings of a key, rising: those that its units say. `Damaged` only where one of its rows is malformed.
     fn key_list<S: Alter>(
@@ -321,14 +319,13 @@ pub trait Layout {
         alloc: Global,
         conn: &mut Connection<S>,
         expected: &Expected,
-    ) -> Result<bool, RegFault>
+    ) -> Result<bool, Error>
         ensures call { Reading (state S.Store conn.old) (state S.Store conn.new) result
             (λ _. IsUnchanged) }
         ensures value { TellsWhether (λ trees. AreExpected format trees expected.now)
             (IsOrdered expected.now)
             (state S.Store conn.old) (state S.Store conn.new) result }
-        ensures honest { result ≢ Err RegFault.Damaged }
-        ensures refused { IsReasoned (state S.Store conn.old) (state S.Store conn.new) result };
+        ensures refused { IsReasonedError (state S.Store conn.old) (state S.Store conn.new) result };
 }
 
 /// A content is told by its postings. It can be changed at one key of one record, and a database can be taken from it, each in one way.

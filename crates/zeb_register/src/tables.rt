@@ -1,6 +1,6 @@
 //! The six tables, made one statement at a time.
 
-ghost use Rattle.std.specs.Prelude.{◌≡◌, ◌≢◌, IsTrue, OnOk};
+ghost use Rattle.std.specs.Prelude.{◌≡◌, IsTrue, OnOk};
 ghost use Rattle.sqlite.specs.Held.{state};
 ghost use Rattle.sqlite.specs.State.{HasCleanDisk, IsUnchanged};
 ghost use Rattle.zeb_register.specs.Tables.{no_schema, store_schema};
@@ -10,7 +10,6 @@ ghost use Rattle.zeb_register.specs.Store.{IsEmptyStore};
 ghost use Rattle.zeb_register.specs.Calls.{GoesOn, Inside};
 ghost use Rattle.zeb_register.specs.Clauses.{DoneUnder, KeepsAllTables};
 
-use crate::RegFault;
 use sqlite::{Alter, Error, Transaction};
 
 /// One of the six tables of a store.
@@ -102,7 +101,7 @@ fn tables_make<S: Alter>(
 /// Makes the tables that are absent. No row of a table that is there changes.
 ///
 /// `Store` also where a table of one of these names is there with other columns that the statement doesn't fit.
-pub fn make_tables<S: Alter>(tx: &mut Transaction<'_, S>) -> Result<(), RegFault>
+pub fn make_tables<S: Alter>(tx: &mut Transaction<'_, S>) -> Result<(), Error>
     ensures same { tx.new.conn.ghost_name ≡ tx.old.conn.ghost_name }
     ensures made { DoneUnder no_schema (state S.Store tx.old.conn.now)
         (state S.Store tx.new.conn.now) result (λ _ b. IsEmptyStore b) }
@@ -112,7 +111,6 @@ pub fn make_tables<S: Alter>(tx: &mut Transaction<'_, S>) -> Result<(), RegFault
         result }
     ensures call { Inside (state S.Store tx.old.conn.now) (state S.Store tx.new.conn.now) result
         (λ _. GoesOn) }
-    ensures honest { result ≢ Err RegFault.Damaged }
 {
     tables_make(
         tx,

@@ -65,12 +65,10 @@ fn count_occurrence(
     newest: u64,
     term: Term,
     sysno: u64,
-) -> Result<(), RegFault>
+) -> Result<(), AllocError>
     requires room { (t : _) → Has counts.old.items t → t.records + 1 < 2 ^ 64 }
-    ensures counted { OnOk result
+    ensures { OnOk result
         (IsCountedIn newest term sysno counts.old.items counts.new.items) }
-    ensures honest { result ≢ Err RegFault.Damaged }
-    ensures unstored { result ≢ Err RegFault.Store }
 {
     if let Some(last) = counts.last_mut() {
         if last.term == term {

@@ -5,17 +5,18 @@ ghost use Rattle.std.specs.Int.{w64};
 ghost use Rattle.sqlite.specs.declared.types.Value.TheVariants.{Blob, Int, Text};
 ghost use Rattle.sqlite.specs.Values.{IsInt};
 ghost use Rattle.sqlite.specs.Order.{column};
+ghost use Rattle.zeb_register.specs.Faults.{fault_of};
 
 use crate::RegFault;
 use sqlite::types::{FromSql, ValueRef};
 use sqlite::{Error, ErrorCode, Row};
 
-/// The number as a column stores it. `Store` above `2^63 - 1`, which no column stores.
-pub fn stored(number: u64) -> Result<i64, RegFault>
+/// The number as a column stores it. It is refused above `2^63 - 1`, which no column stores.
+pub fn stored(number: u64) -> Result<i64, Error>
     ensures ok { IfOk result (λ n. (n ≡ pos number) × FitsSigned w64 n) }
-    ensures err { IfErr result (λ e. (e ≡ RegFault.Store) × (2 ^ 63 ≤ number)) }
+    ensures err { IfErr result (λ e. (fault_of e ≡ RegFault.Store) × (2 ^ 63 ≤ number)) }
 {
-    i64::try_from(number).map_err(|_| RegFault::Store)
+    i64::try_from(number).map_err(|_| Error::SqliteFailure(ErrorCode::IntegerOverflow))
 }
 
 /// The value at this place of a row, in memory of its own. `Damaged` where it is of another type or no UTF-8.

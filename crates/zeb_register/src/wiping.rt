@@ -1,49 +1,43 @@
 //! All rows of all tables.
 
-ghost use Rattle.std.specs.Prelude.{◌≡◌, ◌≢◌};
+ghost use Rattle.std.specs.Prelude.{◌≡◌};
 ghost use Rattle.sqlite.specs.Held.{state};
 ghost use Rattle.zeb_register.specs.Store.{IsStore, IsEmptyStore, LacksLists, LacksRegisters, KeepsLists};
 ghost use Rattle.zeb_register.specs.Calls.{GoesOn, Inside};
 
-use crate::RegFault;
 use crate::statements::whole::table_wipe;
 use crate::tables::StoreTable;
-use sqlite::{Alter, Transaction};
+use sqlite::{Alter, Error, Transaction};
 
 /// Takes every row out of every table.
-pub fn wipe<S: Alter>(tx: &mut Transaction<'_, S>) -> Result<(), RegFault>
+pub fn wipe<S: Alter>(tx: &mut Transaction<'_, S>) -> Result<(), Error>
     ensures same { tx.new.conn.ghost_name ≡ tx.old.conn.ghost_name }
     ensures call { Inside (state S.Store tx.old.conn.now) (state S.Store tx.new.conn.now) result
         (λ _ a b. GoesOn a b × (IsStore a → IsEmptyStore b)) }
-    ensures honest { result ≢ Err RegFault.Damaged }
 {
     lists_wipe(tx)?;
     registers_wipe(tx)
 }
 
 /// Takes the rows of the lists out.
-fn lists_wipe<S: Alter>(tx: &mut Transaction<'_, S>) -> Result<(), RegFault>
+fn lists_wipe<S: Alter>(tx: &mut Transaction<'_, S>) -> Result<(), Error>
     ensures same { tx.new.conn.ghost_name ≡ tx.old.conn.ghost_name }
     ensures call { Inside (state S.Store tx.old.conn.now) (state S.Store tx.new.conn.now) result
         (λ _ a b. GoesOn a b × (IsStore a → IsStore b × LacksLists b.now.trees)) }
-    ensures honest { result ≢ Err RegFault.Damaged }
 {
     table_wipe(tx, StoreTable::Meta)?;
     table_wipe(tx, StoreTable::Databases)?;
-    table_wipe(tx, StoreTable::Records)?;
-    Ok(())
+    table_wipe(tx, StoreTable::Records)
 }
 
 /// Takes every row out of the tables of the registers. What is kept of texts, databases and records stays.
-pub fn registers_wipe<S: Alter>(tx: &mut Transaction<'_, S>) -> Result<(), RegFault>
+pub fn registers_wipe<S: Alter>(tx: &mut Transaction<'_, S>) -> Result<(), Error>
     ensures same { tx.new.conn.ghost_name ≡ tx.old.conn.ghost_name }
     ensures call { Inside (state S.Store tx.old.conn.now) (state S.Store tx.new.conn.now) result
         (λ _ a b. GoesOn a b × (IsStore a → IsStore b × LacksRegisters b.now.trees
         × KeepsLists a.now.trees b.now.trees)) }
-    ensures honest { result ≢ Err RegFault.Damaged }
 {
     table_wipe(tx, StoreTable::Postings)?;
     table_wipe(tx, StoreTable::Blocks)?;
-    table_wipe(tx, StoreTable::Dict)?;
-    Ok(())
+    table_wipe(tx, StoreTable::Dict)
 }

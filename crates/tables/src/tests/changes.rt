@@ -99,21 +99,23 @@ fn change_in<S: Alter, L: Layout>(
     text: &mut String,
 ) -> Done {
     match word {
-        "key_change" => change_key::<S, L>(tx, db, words),
-        "run_changes" => change_run::<S, L>(tx, db, words),
-        "fill" => fill::<S, L>(tx, db, words),
-        "record_put" => record_put(tx, db, words.number()?, words.word(), bytes_of(words.left)),
-        "record_take" => record_take(tx, db, words.number()?),
-        "record_of_ident" => look_for(tx, db, words.left, text),
-        "database_take" => L::database_take(tx, db),
-        _ => Err(RegFault::Memory),
+        "key_change" => change_key::<S, L>(tx, db, words)?,
+        "run_changes" => change_run::<S, L>(tx, db, words)?,
+        "fill" => fill::<S, L>(tx, db, words)?,
+        "record_put" => record_put(tx, db, words.number()?, words.word(), bytes_of(words.left))?,
+        "record_take" => record_take(tx, db, words.number()?)?,
+        "record_of_ident" => look_for(tx, db, words.left, text)?,
+        "database_take" => L::database_take(tx, db)?,
+        _ => return Err(RegFault::Memory),
     }
+    Ok(())
 }
 
 /// Keeps a text, with `;` for the end of a line.
 fn put_text<S: Alter>(tx: &mut Transaction<'_, S>, mut words: Words<'_>) -> Done {
     let name = words.word();
-    meta_put(tx, name, &words.left.replace(words.alloc, ';', "\n")?)
+    meta_put(tx, name, &words.left.replace(words.alloc, ';', "\n")?)?;
+    Ok(())
 }
 
 /// Does a step.

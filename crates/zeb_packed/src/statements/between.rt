@@ -3,13 +3,13 @@
 ghost use Rattle.sqlite.specs.Held.{state};
 ghost use Rattle.zeb_register.specs.PrivateBetweenRows.{IsRestBetween};
 ghost use Rattle.zeb_register.specs.Calls.{Reading};
-ghost use Rattle.zeb_register.specs.PrivateClauses.{IsReasonedError};
+ghost use Rattle.zeb_register.specs.Clauses.{IsReasonedError};
 ghost use Rattle.zeb_register.specs.PrivateKeyColumns.{register_columns};
 ghost use Rattle.zeb_register.specs.PrivateRowStatements.{Lists};
 ghost use Rattle.zeb_register.specs.Store.{blocks_tree};
 
 use sqlite::{Alter, Connection, Error, Row, params};
-use zeb_register::{RegFault, RegisterOf};
+use zeb_register::RegisterOf;
 
 /// The blocks of the terms that are not below `first` and are below `end`: the term, the number of the block, and its bytes.
 pub(crate) fn block_rows_between<S: Alter>(

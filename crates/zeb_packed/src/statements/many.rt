@@ -1,6 +1,6 @@
 //! Statements that put many rows at once, and the values that they put.
 
-ghost use Rattle.std.specs.Prelude.{◌≡◌, ◌≢◌, ◌++◌, List, map, IfOk, OnOk};
+ghost use Rattle.std.specs.Prelude.{◌≡◌, ◌++◌, List, map, IfOk, OnOk};
 ghost use Rattle.sqlite.specs.Held.{state};
 ghost use Rattle.sqlite.specs.Values.{bound};
 ghost use Rattle.zeb_packed.specs.PrivateNewRows.{AreLacking, AreValuesOf, GainsAll, joined, new_block_row, new_count_row};
@@ -13,8 +13,8 @@ use crate::new_rows::{NewBlock, NewCount};
 use sqlite::types::ValueRef;
 use sqlite::{Alter, Error, Transaction, params};
 use std::alloc::Global;
+use zeb_register::DatabaseId;
 use zeb_register::for_layouts::stored;
-use zeb_register::{DatabaseId, RegFault};
 
 /// So many rows are put at once. With twice as many, what statements save is lost on the rows that are left over, which are put one by one.
 pub(crate) const MANY: usize = 32;
@@ -54,10 +54,9 @@ pub(crate) fn block_values<'a, 'b>(
     alloc: Global,
     db: DatabaseId,
     blocks: &'a [NewBlock<'b>],
-) -> Result<Vec<ValueRef<'a>>, RegFault>
+) -> Result<Vec<ValueRef<'a>>, Error>
     ensures values { IfOk result (λ values.
         bound values.items ≡ joined (map (new_block_row db.0) blocks.now)) }
-    ensures honest { result ≢ Err RegFault.Damaged }
 {
     let mut values = Vec::new(alloc);
     for one in blocks {
@@ -71,10 +70,9 @@ fn add_block_values<'a, 'b>(
     values: &mut Vec<ValueRef<'a>>,
     db: DatabaseId,
     one: &'a NewBlock<'b>,
-) -> Result<(), RegFault>
+) -> Result<(), Error>
     ensures added { OnOk result
         (bound values.new.items ≡ bound values.old.items ++ new_block_row db.0 one.now) }
-    ensures honest { result ≢ Err RegFault.Damaged }
 {
     let db = db.column();
     let reg = u32::from(one.key.register.code());
@@ -105,10 +103,9 @@ pub(crate) fn count_values<'a, 'b>(
     alloc: Global,
     db: DatabaseId,
     counts: &'a [NewCount<'b>],
-) -> Result<Vec<ValueRef<'a>>, RegFault>
+) -> Result<Vec<ValueRef<'a>>, Error>
     ensures values { IfOk result (λ values.
         bound values.items ≡ joined (map (new_count_row db.0) counts.now)) }
-    ensures honest { result ≢ Err RegFault.Damaged }
 {
     let mut values = Vec::new(alloc);
     for one in counts {
@@ -122,10 +119,9 @@ fn add_count_values<'a, 'b>(
     values: &mut Vec<ValueRef<'a>>,
     db: DatabaseId,
     one: &'a NewCount<'b>,
-) -> Result<(), RegFault>
+) -> Result<(), Error>
     ensures added { OnOk result
         (bound values.new.items ≡ bound values.old.items ++ new_count_row db.0 one.now) }
-    ensures honest { result ≢ Err RegFault.Damaged }
 {
     let db = db.column();
     let reg = u32::from(one.key.register.code());

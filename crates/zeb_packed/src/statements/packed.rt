@@ -5,13 +5,13 @@ ghost use Rattle.sqlite.specs.Held.{state};
 ghost use Rattle.sqlite.specs.declared.types.Value.TheVariants.{Text};
 ghost use Rattle.zeb_register.specs.Store.{blocks_tree, dict_tree, IsRest};
 ghost use Rattle.zeb_register.specs.Calls.{Reading};
-ghost use Rattle.zeb_register.specs.PrivateClauses.{IsReasonedError};
+ghost use Rattle.zeb_register.specs.Clauses.{IsReasonedError};
 ghost use Rattle.zeb_register.specs.PrivateKeyColumns.{register_columns};
 ghost use Rattle.zeb_packed.specs.PrivatePackedRows.{IsRestBefore, IsRestFrom, ListsFirst, ListsLast};
 ghost use Rattle.zeb_register.specs.PrivateRowStatements.{Lists};
 
 use sqlite::{Alter, Connection, Error, Row, params};
-use zeb_register::{RegFault, RegisterOf};
+use zeb_register::RegisterOf;
 
 /// The first of a register's terms that are not below a text, so many at most.
 pub(crate) const TERMS_FROM: &str =

@@ -3,13 +3,13 @@
 ghost use Rattle.sqlite.specs.Held.{state};
 ghost use Rattle.zeb_register.specs.PrivateBetweenRows.{IsRestBetween};
 ghost use Rattle.zeb_register.specs.Calls.{Reading};
-ghost use Rattle.zeb_register.specs.PrivateClauses.{IsReasonedError};
+ghost use Rattle.zeb_register.specs.Clauses.{IsReasonedError};
 ghost use Rattle.zeb_register.specs.PrivateKeyColumns.{register_columns};
 ghost use Rattle.zeb_register.specs.PrivateRowStatements.{Lists};
 ghost use Rattle.zeb_register.specs.Store.{postings_tree};
 
+use crate::RegisterOf;
 use crate::statements::queries::look_up;
-use crate::{RegFault, RegisterOf};
 use sqlite::{Alter, Connection, Error, Row, params};
 
 const BETWEEN: &str =

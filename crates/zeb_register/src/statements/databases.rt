@@ -1,15 +1,14 @@
 //! Statements on the table `databases`.
 
-ghost use Rattle.std.specs.Prelude.{◌≡◌, ◌≢◌};
+ghost use Rattle.std.specs.Prelude.{◌≡◌};
 ghost use Rattle.sqlite.specs.Held.{state};
 ghost use Rattle.zeb_register.specs.Store.{databases_tree};
 ghost use Rattle.zeb_register.specs.PrivateRowStatements.{AddsDatabase, SetsLast, IsDatabaseRow, IsListedRow, Lists, ListsInside};
 ghost use Rattle.zeb_register.specs.Calls.{Alters, Inside, Reading};
 ghost use Rattle.zeb_register.specs.Clauses.{Writes};
 ghost use Rattle.zeb_register.specs.Clauses.{IsReasonedErrorInside};
-ghost use Rattle.zeb_register.specs.PrivateClauses.{IsReasonedError};
+ghost use Rattle.zeb_register.specs.Clauses.{IsReasonedError};
 
-use crate::RegFault;
 use crate::statements::queries::look_up;
 use crate::statements::writing::write;
 use sqlite::{Alter, Connection, Error, Row, Transaction, params};
@@ -67,11 +66,10 @@ pub(crate) fn database_add<S: Alter>(
     tx: &mut Transaction<'_, S>,
     name: &str,
     last: i64,
-) -> Result<(), RegFault>
+) -> Result<(), Error>
     ensures same { tx.new.conn.ghost_name ≡ tx.old.conn.ghost_name }
     ensures call { Inside (state S.Store tx.old.conn.now) (state S.Store tx.new.conn.now) result
         (λ _ a b. Alters databases_tree (AddsDatabase b.last_rowid name.now last) a b) }
-    ensures honest { result ≢ Err RegFault.Damaged }
 {
     write(tx, ADD, params![name, last])
 }
@@ -80,11 +78,10 @@ pub(crate) fn last_set<S: Alter>(
     tx: &mut Transaction<'_, S>,
     id: i64,
     last: i64,
-) -> Result<(), RegFault>
+) -> Result<(), Error>
     ensures same { tx.new.conn.ghost_name ≡ tx.old.conn.ghost_name }
     ensures call { Writes databases_tree (SetsLast id last) (state S.Store tx.old.conn.now)
         (state S.Store tx.new.conn.now) result }
-    ensures honest { result ≢ Err RegFault.Damaged }
 {
     write(tx, SET_LAST, params![id, last])
 }

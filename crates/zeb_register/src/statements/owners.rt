@@ -4,7 +4,7 @@ ghost use Rattle.std.specs.Prelude.{◌≡◌, ◌≤ℤ◌};
 ghost use Rattle.sqlite.specs.Held.{state};
 ghost use Rattle.zeb_register.specs.Agreeing.{Owns};
 ghost use Rattle.zeb_register.specs.Calls.{Reading};
-ghost use Rattle.zeb_register.specs.PrivateClauses.{IsReasonedError};
+ghost use Rattle.zeb_register.specs.Clauses.{IsReasonedError};
 ghost use Rattle.zeb_register.specs.PrivateRowExpected.{tree_of};
 ghost use Rattle.zeb_register.specs.PrivateRowReads.{ShowsFirst, greatest_text, least_text, next_text};
 ghost use Rattle.zeb_register.specs.PrivateRowTerms.{ReadsRows};

@@ -7,14 +7,14 @@ ghost use Rattle.sqlite.specs.declared.types.Value.TheVariants.{Text};
 ghost use Rattle.zeb_register.specs.PrivateRowStatements.{Lists, ListsInside};
 ghost use Rattle.zeb_register.specs.Store.{postings_tree, IsRest};
 ghost use Rattle.zeb_register.specs.Calls.{Inside, Reading};
-ghost use Rattle.zeb_register.specs.PrivateClauses.{IsReasonedError};
+ghost use Rattle.zeb_register.specs.Clauses.{IsReasonedError};
 ghost use Rattle.zeb_register.specs.PrivateKeyColumns.{HasTermOf, numbered_columns, register_columns};
 ghost use Rattle.zeb_register.specs.PrivateRowTerms.{ShowsNearest, ReadsRows};
 ghost use Rattle.zeb_register.specs.Terms.{Comes};
 
+use crate::RegisterOf;
 use crate::statements::keys::KeyOf;
 use crate::statements::queries::look_up;
-use crate::{RegFault, RegisterOf};
 use sqlite::{Alter, Connection, Error, Row, Transaction, params};
 
 const UNDER_TERM: &str =

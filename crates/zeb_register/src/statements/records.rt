@@ -8,10 +8,8 @@ ghost use Rattle.zeb_register.specs.Store.{records_tree, IsRest};
 ghost use Rattle.zeb_register.specs.PrivateRowStatements.{IsElderRow, IsIdentRow, IsRestAtLeast, Lists, ListsInside, ShowsCount};
 ghost use Rattle.zeb_register.specs.PrivateRowTerms.{ReadsRows};
 ghost use Rattle.zeb_register.specs.Calls.{Inside, Reading};
-ghost use Rattle.zeb_register.specs.Clauses.{IsReasonedErrorInside};
-ghost use Rattle.zeb_register.specs.PrivateClauses.{IsReasonedError};
+ghost use Rattle.zeb_register.specs.Clauses.{IsReasonedError, IsReasonedErrorInside};
 
-use crate::RegFault;
 use crate::statements::queries::look_up;
 use sqlite::{Alter, Connection, Error, Row, Transaction, params};
 

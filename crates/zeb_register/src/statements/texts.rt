@@ -5,9 +5,8 @@ ghost use Rattle.zeb_register.specs.Sql.{HasRow};
 ghost use Rattle.zeb_register.specs.Store.{meta_tree};
 ghost use Rattle.zeb_register.specs.PrivateRowStatements.{IsValueRow, Lists};
 ghost use Rattle.zeb_register.specs.Calls.{Reading};
-ghost use Rattle.zeb_register.specs.PrivateClauses.{IsReasonedError};
+ghost use Rattle.zeb_register.specs.Clauses.{IsReasonedError};
 
-use crate::RegFault;
 use crate::statements::queries::look_up;
 use sqlite::{Alter, Connection, Error, Row, Transaction, params};
 

@@ -1,6 +1,6 @@
 //! Statements that take the rows of a whole table, or of a database in one.
 
-ghost use Rattle.std.specs.Prelude.{◌≡◌, ◌≢◌};
+ghost use Rattle.std.specs.Prelude.{◌≡◌};
 ghost use Rattle.sqlite.specs.Held.{state};
 ghost use Rattle.zeb_register.specs.Clauses.{Writes};
 ghost use Rattle.zeb_register.specs.PrivateRowExpected.{tree_of};
@@ -9,11 +9,11 @@ ghost use Rattle.zeb_register.specs.PrivateStoreTables.{clear_text, tree_at, wip
 ghost use Rattle.zeb_register.specs.Sql.{Loses};
 ghost use Rattle.zeb_register.specs.Store.{IsOfDatabase};
 
+use crate::DatabaseId;
 use crate::agreeing::Table;
 use crate::statements::writing::write;
 use crate::tables::StoreTable;
-use crate::{DatabaseId, RegFault};
-use sqlite::{Alter, Transaction, params};
+use sqlite::{Alter, Error, Transaction, params};
 
 const WIPE_META: &str = "DELETE FROM meta";
 
@@ -63,11 +63,10 @@ fn clear_text(table: Table) -> &'static str
 pub(crate) fn table_wipe<S: Alter>(
     tx: &mut Transaction<'_, S>,
     table: StoreTable,
-) -> Result<(), RegFault>
+) -> Result<(), Error>
     ensures same { tx.new.conn.ghost_name ≡ tx.old.conn.ghost_name }
     ensures call { Writes (tree_at table) Empties (state S.Store tx.old.conn.now)
         (state S.Store tx.new.conn.now) result }
-    ensures honest { result ≢ Err RegFault.Damaged }
 {
     write(tx, wipe_text(table), &[])
 }
@@ -77,11 +76,10 @@ pub(crate) fn table_clear<S: Alter>(
     tx: &mut Transaction<'_, S>,
     table: Table,
     db: DatabaseId,
-) -> Result<(), RegFault>
+) -> Result<(), Error>
     ensures same { tx.new.conn.ghost_name ≡ tx.old.conn.ghost_name }
     ensures call { Writes (tree_of table) (Loses (IsOfDatabase db.0))
         (state S.Store tx.old.conn.now) (state S.Store tx.new.conn.now) result }
-    ensures honest { result ≢ Err RegFault.Damaged }
 {
     let id = db.column();
     write(tx, clear_text(table), params![id])

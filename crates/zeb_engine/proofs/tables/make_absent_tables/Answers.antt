@@ -5,14 +5,14 @@ use Rattle.zeb_engine.proofs.tables.make_absent_tables.Goals as goal
 pub returns-in_err-commit-clause-survives : goal.returns-in_err-commit-clause-survives
 returns-in_err-commit-clause-survives g c =
     let begun = c.transaction-tx.ensures.begun in
-    let did = c.in_ok-make_tables.ensures in
+    let did = c.in-Ok.ensures in
     tables_survive g.S.Store c.args.connection.now c.transaction-tx.result.conn.now (state g.S.Store c.make_tables.new.tx.conn.now) c.commit.new.self.0 c.connection-2-1.given.0 (search rules) begun
     c.make_tables.ensures.call.crash c.commit.ensures.survives (λ first. did.call.ok first (rw begun refl)) (λ first. did.there first (rw begun refl)) (λ first. did.made first (rw begun refl))
 
 pub returns-clause-survives : goal.returns-clause-survives
 returns-clause-survives g c =
     let begun = c.transaction-tx.ensures.begun in
-    let did = c.in_ok-make_tables.ensures in
+    let did = c.in-Ok.ensures in
     tables_survive g.S.Store c.args.connection.now c.transaction-tx.result.conn.now (state g.S.Store c.make_tables.new.tx.conn.now) c.commit.new.self.0 c.connection-2-1.given.0 (search rules) begun
     c.make_tables.ensures.call.crash c.commit.ensures.survives (λ first. did.call.ok first (rw begun refl)) (λ first. did.there first (rw begun refl)) (λ first. did.made first (rw begun refl))
 

@@ -2,11 +2,6 @@ use Rattle.zeb_engine.proofs.Cited.{◌≡◌, Err, ap, rules, state}
 use Rattle.zeb_engine.proofs.MadeTables.{rows_taken}
 use Rattle.zeb_engine.proofs.writes.take.Goals as goal
 
-pub returns-in_err-database_take-clause-takes : goal.returns-in_err-database_take-clause-takes
-returns-in_err-database_take-clause-takes g c clean inside store =
-    let told : c.from_residual.result ≡ Err c.in_err-database_take.field-0.0 = search rules in
-    rw told (λ is. c.in_err-database_take.ensures.honest (ap Err is))
-
 pub returns-clause-takes : goal.returns-clause-takes
 returns-clause-takes g c clean inside store =
     let taken = c.in_ok-database_take.ensures.taken clean inside store in

@@ -7,11 +7,6 @@ returns-in_err-rebuild-clause-remakes g c clean inside store =
     let told : c.from_residual.result ≡ Err c.in_err-rebuild.field-0.0 = search rules in
     rw told (λ is both. (c.in_err-rebuild.ensures.rebuilds clean inside store).damaged (ap Err is) both.0 both.1)
 
-pub returns-in_err-meta_put-clause-remakes : goal.returns-in_err-meta_put-clause-remakes
-returns-in_err-meta_put-clause-remakes g c clean inside store =
-    let told : c.from_residual-in_err-meta_put.result ≡ Err c.in_err-meta_put.field-0.0 = search rules in
-    rw told (λ is. absurd (c.in_err-meta_put.ensures.honest (ap Err is)))
-
 pub returns-clause-remakes : goal.returns-clause-remakes
 returns-clause-remakes g c clean inside store =
     remakes g.L.Layout.format c.args.profile.now (codes "version") _ _ (state g.S.Store c.args.tx.now.conn.now) (state g.S.Store c.rebuild.new.tx.conn.now) (state g.S.Store c.meta_put.new.tx.conn.now)

@@ -13,7 +13,7 @@ pub returns-in_default-clause-value : goal.returns-in_default-clause-value
 returns-in_default-clause-value g c clean store sound =
     let trees = (state g.S.Store c.args.connection.now).now.trees in
     let last = c.args.listed.last in
-    let none = subst (ArePostingsOrNone c.args.profile.now last c.deref.result.now) c.in_default.is c.in_ok-postings.ensures.value in
+    let none = subst (ArePostingsOrNone c.args.profile.now last c.deref.result.now) c.in_default.is c.in_ok-postings.ensures in
     let kept = sound_kept c.args.profile.now trees c.args.listed.id.0 (string_bytes c.args.listed.name) last sound c.in-Ok.records.items (c.in-Ok.ensures.value clean store) in
     let same : c.in-Ok.records.items ≡ c.deref.result.now = search rules in
     none (subst (CanKeepAll c.args.profile.now last) same kept)

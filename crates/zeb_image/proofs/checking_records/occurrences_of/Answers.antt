@@ -1,8 +1,8 @@
 use Rattle.zeb_image.proofs.Cited.{rules, ◌≡◌, ◌∙◌, ◌↔◌, List, IsTrue, Ok, sym, ap, subst, arith, IsUtf8-string_bytes, Contains, FieldText, fields_of, first_fault, units_of, unit_targets, identifier_of, IsOccurrence, Occurrence}
 use Rattle.zeb_image.proofs.checking_records.occurrences_of.Goals as goal
 
-pub returns-clause-value : goal.returns-clause-value
-returns-clause-value c =
+pub returns : goal.returns
+returns c =
     let profile = c.args.profile.now in
     let bytes = c.args.kept.now.bytes.items in
     let fields : c.in-Ok.marc ≡ fields_of bytes = c.in-Ok.ensures.fields_are ∙ ap fields_of c.deref.ensures.value in

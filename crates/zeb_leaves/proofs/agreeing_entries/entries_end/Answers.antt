@@ -9,7 +9,7 @@ loop-entry-preserved c =
     let key = (leaf_of c.args.leaf.now).key in
     let i = c.loop-entry.entry-index in
     let left = drop c.loop-entry.end c.args.postings.now in
-    let it = rw c.in-Some.is at c.in_ok-next.ensures.ends in
+    let it = rw c.in-Some.is at c.in_ok-next.ensures in
     let front = drop_got c.args.entries.now i c.entry-item.result c.loop-entry-test.true c.entry-item.is in (
       it.0,
       λ rest.

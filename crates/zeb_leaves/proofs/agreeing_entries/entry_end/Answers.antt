@@ -14,12 +14,12 @@ Ends leaf postings at found term part =
     MatchOption found ((rest : List KeyPosting) → drop at postings ≢ map (with_key (key_in leaf.index leaf.register term)) part ++ rest)
     (λ end. (end ≤ length postings) × (drop at postings ≡ map (with_key (key_in leaf.index leaf.register term)) part ++ drop end postings))
 
-pub returns-clause-ends : goal.returns-clause-ends
-returns-clause-ends c =
+pub returns : goal.returns
+returns c =
     let leaf = c.args.leaf.now in
     let postings = c.args.postings.now in
     let own = c.in-Some.part.items in
-    let says : SaysPart c.args.entry.now own = rw c.in-Some.is at c.in_ok-part.ensures.said in
+    let says : SaysPart c.args.entry.now own = rw c.in-Some.is at c.in_ok-part.ensures in
     let part = subst (Ends leaf postings c.args.at c.part_end.result c.as_slice.result.now) c.deref.ensures.value c.part_end.ensures in
     let told = subst (λ t. Ends leaf postings c.args.at c.part_end.result t own) c.as_slice.ensures part in
     match_so _ _ _ _ c.part_end.result

@@ -8,19 +8,19 @@ use Rattle.zeb_register.proofs.LeafSums.{shown_rises}
 use Rattle.zeb_leaves.proofs.agreeing_rows.whole_leaf.Goals as goal
 use Rattle.zeb_leaves.proofs.agreeing_rows.whole_leaf.Goals.{then-not-are_few-via-then-not-are_few, then-not-are_few-via-else-not-are_few+then-not-are_from}
 
-pub returns-in_default-2-clause-shown : goal.returns-in_default-2-clause-shown
-returns-in_default-2-clause-shown c leaf shows whole =
+pub returns-in_default-2 : goal.returns-in_default-2
+returns-in_default-2 c leaf shows whole =
     let own = c.in-Some.columns in
     let key = key_in own.index own.register own.term.now in
-    let none = rw c.in_default-2.is at (c.in_ok-entries.ensures.shown key refl) in
+    let none = rw c.in_default-2.is at (c.in_ok-entries.ensures key refl) in
     none leaf.entries (shown_by c.args.row.now key own.block own.bytes.now c.in-Some.ensures leaf shows).2
 
-pub returns-then-not-are_few-clause-shown : goal.returns-then-not-are_few-clause-shown
-returns-then-not-are_few-clause-shown c leaf shows whole =
+pub returns-then-not-are_few : goal.returns-then-not-are_few
+returns-then-not-are_few c leaf shows whole =
     let own = c.in-Some.columns in
     let key = key_in own.index own.register own.term.now in
     let entries = c.in-Some-2.entries.items in
-    let there : ShowsEntries (leaf_shown key own.block own.bytes.now) entries = rw c.in-Some-2.is at (c.in_ok-entries.ensures.shown key refl) in
+    let there : ShowsEntries (leaf_shown key own.block own.bytes.now) entries = rw c.in-Some-2.is at (c.in_ok-entries.ensures key refl) in
     let it = whole_is c.args.row.now key own.block own.bytes.now c.in-Some.ensures entries there leaf shows whole in
     elim c.then-not-are_few.branch [
       | then-not-are_few-via-then-not-are_few w ↦
@@ -33,13 +33,13 @@ returns-then-not-are_few-clause-shown c leaf shows whole =
           let e : true ≡ false = sym yes' ∙ w.if-not-are_from.true in cc
     ]
 
-pub returns-clause-shown : goal.returns-clause-shown
-returns-clause-shown c =
+pub returns : goal.returns
+returns c =
     let own = c.in-Some.columns in
     let key = key_in own.index own.register c.new.result in
     let entries = c.in-Some-2.entries.items in
     let term : c.new.result ≡ own.term.now = c.new.ensures ∙ c.in_ok-term.ensures.items in
-    let there : ShowsEntries (leaf_shown key own.block own.bytes.now) entries = rw c.in-Some-2.is at (c.in_ok-entries.ensures.shown key term) in
+    let there : ShowsEntries (leaf_shown key own.block own.bytes.now) entries = rw c.in-Some-2.is at (c.in_ok-entries.ensures key term) in
     let row = c.in-Some.ensures ∙ ap (λ t. rest_shown (key_in own.index own.register t) own.block own.bytes.now) (sym term) in
     let rising = subst (IsStrictlySortedBy entry_cmp) (sym c.deref-else-not-are_few.ensures.value) (shown_rises (leaf_shown key own.block own.bytes.now) entries there) in
     let few = subst (λ (l : List Entry). 2 ≤ length l → length own.bytes.now ≤ LEAF_BYTES) c.deref.ensures.value (c.are_few.ensures.0 c.if-not-are_few.false) in

@@ -7,10 +7,10 @@ use Rattle.zeb_leaves.proofs.OpenCalls.{open_then}
 use Rattle.zeb_leaves.specs.PrivateAgreeing.{IsEmptyBeside}
 use Rattle.zeb_register.proofs.Calls.{nothing_then, reading_behind, store_same}
 use Rattle.zeb_register.proofs.CallsInTurn.{quiet_then}
-use Rattle.zeb_register.proofs.Causes.{reasoned_after}
+use Rattle.zeb_register.proofs.Causes.{failed_after}
 use Rattle.zeb_register.proofs.OwnersListed.{IsReached, all_reached, first_reached, next_reached, none_next}
 use Rattle.zeb_register.specs.Calls.{Reading}
-use Rattle.zeb_register.specs.Clauses.{IsReasoned}
+use Rattle.zeb_register.specs.Clauses.{IsReasonedError}
 use Rattle.zeb_register.specs.declared.faults.RegFault.{RegFault}
 use Rattle.zeb_leaves.proofs.agreeing_tables.others_are_empty.Goals as goal
 
@@ -144,5 +144,5 @@ returns-in_err-next-clause-refused g c =
     let s2 = state g.S.Store c.is_empty_beside.new.conn in
     let s3 = state g.S.Store c.next_in_blocks.new.conn in
     let first : Reading {A = Bool} {E = RegFault} s0 s2 (Ok true) (λ _. IsUnchanged) = open_then s0 (state g.S.Store c.ids.conn) s2 true _ true (record { idle = inv.idle; ok = inv.ok; same = inv.same; crash = inv.crash }) c.in_ok-is_empty_beside.ensures.call in
-    let reasoned : IsReasoned s2 s3 c.from_residual-in_err-next.result = search rules in
-    λ clean store told. reasoned_after s0 s2 s3 c.from_residual-in_err-next.result first.crash first.ok c.next_in_blocks.ensures.call.crash reasoned told clean store
+    let reasoned : IsReasonedError s2 s3 c.from_residual-in_err-next.result = search rules in
+    failed_after s0 s2 s3 c.from_residual-in_err-next.result first.crash first.ok c.next_in_blocks.ensures.call.crash reasoned

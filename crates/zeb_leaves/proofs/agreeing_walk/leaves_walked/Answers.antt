@@ -14,7 +14,7 @@ use Rattle.zeb_register.proofs.PackedBeside.{drop_none, drop_over}
 use Rattle.zeb_register.proofs.RowReads.{begun_silent, failed_nothing, same_nothing}
 use Rattle.zeb_register.proofs.YesNoAnswers.{told_so}
 use Rattle.zeb_register.specs.Calls.{Reading}
-use Rattle.zeb_register.specs.Clauses.{IsReasoned}
+use Rattle.zeb_register.specs.Clauses.{IsReasonedError}
 use Rattle.zeb_register.specs.declared.expected.KeyPosting.{KeyPosting}
 use Rattle.zeb_register.specs.declared.faults.RegFault.{RegFault}
 use Rattle.zeb_register.specs.declared.faults.RegFault.TheVariants.{Memory}
@@ -101,7 +101,7 @@ returns-in_default-2-clause-call g c =
     let moved = c.next.follows.holds-at-none in
     let left = drop c.rows.at c.args.postings.now in
     let after = λ (clean : HasCleanDisk now). unchanged_then old mid now (inv.given (omega (arith, moved.survives.clean))).0 (rw c.in_ok-row.was at (moved.same clean)) in
-    let none : (leaf : Leaf) (rest : List KeyPosting) → ¬ TakesLeaf (before_of c.rows.before) c.in-Some.row.now leaf left rest = rw c.in_default-2.is at (c.in_ok-taken.ensures.takes inv.rising) in
+    let none : (leaf : Leaf) (rest : List KeyPosting) → ¬ TakesLeaf (before_of c.rows.before) c.in-Some.row.now leaf left rest = rw c.in_default-2.is at (c.in_ok-taken.ensures inv.rising) in
     let it : Reading {A = Bool} {E = RegFault} old now (Ok false) (ReadsLeaves c.args.db c.args.postings.now) = record {
       idle = λ i. moved.mode (inv.idle i);
       ok = λ clean. (
@@ -143,7 +143,7 @@ rows-preserved g c =
     let leaf = leaf_of c.in-Some-2.taken.leaf in
     let left = drop c.rows.at postings in
     let rest = drop c.in-Some-2.taken.end postings in
-    let taken : (c.in-Some-2.taken.end ≤ length postings) × TakesLeaf (before_of c.rows.before) c.in-Some.row.now leaf left rest = rw c.in-Some-2.is at (c.in_ok-taken.ensures.takes inv.rising) in
+    let taken : (c.in-Some-2.taken.end ≤ length postings) × TakesLeaf (before_of c.rows.before) c.in-Some.row.now leaf left rest = rw c.in-Some-2.is at (c.in_ok-taken.ensures inv.rising) in
     record {
       name = moved.same_reference ∙ inv.name;
       idle = λ i. moved.mode (inv.idle i);
@@ -177,7 +177,7 @@ returns-in_err-rows-clause-refused g c =
     let new = state g.S.Store c.query.follows.lender-at-none in
     let held = rw c.in_err-rows.was at c.query.follows.holds-at-none in
     let is = err_from_is_err_and c.from_residual.result c.from_residual.ensures.1 in
-    let it : IsReasoned old new c.from_residual.result = rw (is.1, is.2) (λ clean store told. walk_refused c.args.db old new c.in_err-rows.field-0.0 store (search rules) (simp (c.params-to_sql.ensures, to_z-of_z, c.ranges.db) at (held.err clean))) in
+    let it : IsReasonedError old new c.from_residual.result = rw (is.1, is.2) (λ clean store told. walk_refused c.args.db old new c.in_err-rows.field-0.0 store (search rules) (simp (c.params-to_sql.ensures, to_z-of_z, c.ranges.db) at (held.err clean))) in
     it
 
 pub returns-in_err-row-clause-refused : goal.returns-in_err-row-clause-refused
@@ -188,7 +188,7 @@ returns-in_err-row-clause-refused g c =
     let inv = c.rows.invariant in
     let moved = c.next.follows.holds-at-none in
     let is = err_from_is_err_and c.from_residual-in_err-row.result c.from_residual-in_err-row.ensures.1 in
-    let it : IsReasoned old now c.from_residual-in_err-row.result = rw (is.1, is.2) (λ clean store told.
+    let it : IsReasonedError old now c.from_residual-in_err-row.result = rw (is.1, is.2) (λ clean store told.
     let first = inv.given (omega (arith, moved.survives.clean)) in
     let failed = (rw c.in_err-row.was at (moved.err clean)) text (Int (to_z w64 (of_z w64 c.args.db)) ∷ []) first.1.0 first.1.1 in
     may_after old mid now inv.crash (λ _. first.0.0.is_open) (λ _. walk_refused (to_z w64 (of_z w64 c.args.db)) mid now c.in_err-row.field-0.0 (store_same old mid first.0.0.now_is store) (search rules) failed)) in

@@ -5,7 +5,7 @@ use Rattle.zeb_leaves.proofs.CoveringLeaves.{covers_below, covers_own}
 use Rattle.zeb_leaves.specs.PrivateLeafReads.{IsOfTermBelow, IsOfTermsBelow}
 use Rattle.zeb_leaves.proofs.InsideCalls.{up_to_next}
 use Rattle.zeb_register.proofs.Calls.{reading_then, store_same}
-use Rattle.zeb_register.proofs.Causes.{reasoned_after}
+use Rattle.zeb_register.proofs.Causes.{failed_after}
 use Rattle.zeb_leaves.proofs.covering.covering_leaf.Goals as goal
 
 pub returns-in-Some-clause-covers : goal.returns-in-Some-clause-covers
@@ -27,5 +27,5 @@ returns-in-None-clause-covers g c clean store =
     (c.leaf_of_terms_below.ensures.finds clean (store_same s0 s1 same store))
 
 pub returns-in-None-clause-refused : goal.returns-in-None-clause-refused
-returns-in-None-clause-refused g c clean store told =
-    reasoned_after (state g.S.Store c.args.conn.now) (state g.S.Store c.leaf_of_term.new.conn) _ c.leaf_of_terms_below.result c.in_ok-leaf.ensures.call.crash c.in_ok-leaf.ensures.call.ok c.leaf_of_terms_below.ensures.call.crash c.leaf_of_terms_below.ensures.refused told clean store
+returns-in-None-clause-refused g c =
+    failed_after (state g.S.Store c.args.conn.now) (state g.S.Store c.leaf_of_term.new.conn) _ c.leaf_of_terms_below.result c.in_ok-leaf.ensures.call.crash c.in_ok-leaf.ensures.call.ok c.leaf_of_terms_below.ensures.call.crash c.leaf_of_terms_below.ensures.refused

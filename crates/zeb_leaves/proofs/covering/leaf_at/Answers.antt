@@ -1,4 +1,5 @@
 use Rattle.zeb_leaves.proofs.Cited.{HasCleanDisk, arith, state}
+use Rattle.std.proofs.Common.{true}
 use Rattle.zeb_register.proofs.Calls.{reading_then, store_same}
 use Rattle.zeb_register.proofs.Causes.{reasoned_after}
 use Rattle.zeb_leaves.proofs.CoveringCalls.{answered_uncovered}
@@ -8,7 +9,9 @@ pub returns-in-Some-clause-finds : goal.returns-in-Some-clause-finds
 returns-in-Some-clause-finds g c clean store = rw c.in-Some.is at (c.in_ok-leaf.ensures.covers clean store)
 
 pub returns-in-None-clause-call : goal.returns-in-None-clause-call
-returns-in-None-clause-call g c = reading_then _ _ _ _ _ c.in_ok-leaf.ensures.call c.no_leaf.ensures.call
+returns-in-None-clause-call g c =
+    let first = c.in_ok-leaf.ensures.call in
+    reading_then _ _ _ true _ (record { idle = first.idle; ok = first.ok; same = first.same; crash = first.crash }) c.no_leaf.ensures.call
 
 pub returns-in-None-clause-finds : goal.returns-in-None-clause-finds
 returns-in-None-clause-finds g c clean store =

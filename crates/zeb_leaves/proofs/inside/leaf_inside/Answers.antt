@@ -1,4 +1,5 @@
 use Rattle.zeb_leaves.proofs.Cited.{HasCleanDisk, arith, state}
+use Rattle.std.proofs.Common.{true}
 use Rattle.zeb_leaves.proofs.CoveringCalls.{answered_uncovered}
 use Rattle.zeb_leaves.proofs.InsideCalls.{inside_then}
 use Rattle.zeb_register.proofs.Calls.{store_same}
@@ -8,7 +9,9 @@ pub returns-in-Some-clause-finds : goal.returns-in-Some-clause-finds
 returns-in-Some-clause-finds g c clean inside store = rw c.in-Some.is at (c.in_ok-leaf.ensures.covers clean inside store)
 
 pub returns-in-None-clause-call : goal.returns-in-None-clause-call
-returns-in-None-clause-call g c = inside_then _ _ _ _ _ c.in_ok-leaf.ensures.call c.no_leaf.ensures.call
+returns-in-None-clause-call g c =
+    let first = c.in_ok-leaf.ensures.call in
+    inside_then _ _ _ true _ (record { ok = first.ok; err = λ clean inside. tt; crash = first.crash }) c.no_leaf.ensures.call
 
 pub returns-in-None-clause-finds : goal.returns-in-None-clause-finds
 returns-in-None-clause-finds g c clean inside store =

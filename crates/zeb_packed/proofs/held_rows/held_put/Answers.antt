@@ -1,4 +1,4 @@
-use Rattle.zeb_packed.proofs.Cited.{List, arith, map, rules, subst, sym, state, HasCleanDisk, Changes, blocks_tree, dict_tree, IfOk, IfOk-weaker, goes_keeps, goes_then, on_err, on_err_so, quiet_then, refused_so}
+use Rattle.zeb_packed.proofs.Cited.{List, arith, map, rules, subst, sym, state, HasCleanDisk, Changes, blocks_tree, dict_tree, goes_keeps, goes_then, on_err, quiet_then, refused_so}
 use Rattle.zeb_packed.proofs.HeldPuts.{held_answers}
 use Rattle.zeb_packed.specs.PrivateNewRows.{AreApart, AreLacking, GainsAll, SomeStands, new_block_row, new_count_row}
 use Rattle.zeb_packed.specs.declared.new_rows.NewBlock.{NewBlock}
@@ -14,16 +14,30 @@ returns-clause-call g c opened =
       ok = λ clean inside.
           let was : HasCleanDisk mid = omega (arith, c.counts_put.ensures.crash.clean) in
           let goes = (c.in_ok-blocks_put.ensures.call opened).ok was inside in
-          IfOk-weaker c.counts_put.result _ _ (λ _ done. goes_then first mid last goes done) ((c.counts_put.ensures.call goes.is_open).ok clean goes.mode);
+          goes_then first mid last goes ((c.in_ok-counts_put.ensures.call goes.is_open).ok clean goes.mode);
+      err = λ clean inside. tt;
+      crash = quiet_then first mid last c.blocks_put.ensures.crash c.counts_put.ensures.crash;
+    }
+
+pub returns-in_err-counts_put-clause-call : goal.returns-in_err-counts_put-clause-call
+returns-in_err-counts_put-clause-call g c opened =
+    let first = state g.S.Store c.args.tx.now.conn.now in
+    let mid = state g.S.Store c.blocks_put.new.tx.conn.now in
+    let last = state g.S.Store c.counts_put.new.tx.conn.now in
+    record {
+      ok = search rules;
       err = λ clean inside.
           let was : HasCleanDisk mid = omega (arith, c.counts_put.ensures.crash.clean) in
           let goes = (c.in_ok-blocks_put.ensures.call opened).ok was inside in
-          on_err_so c.counts_put.result _ _ (λ kept. goes_keeps first mid last goes kept) ((c.counts_put.ensures.call goes.is_open).err clean goes.mode);
+          on_err c.from_residual-in_err-counts_put.result _ (goes_keeps first mid last goes ((c.in_err-counts_put.ensures.call goes.is_open).err clean goes.mode));
       crash = quiet_then first mid last c.blocks_put.ensures.crash c.counts_put.ensures.crash;
     }
 
 pub returns-clause-crash : goal.returns-clause-crash
 returns-clause-crash g c = quiet_then _ _ _ c.blocks_put.ensures.crash c.counts_put.ensures.crash
+
+pub returns-in_err-counts_put-clause-crash : goal.returns-in_err-counts_put-clause-crash
+returns-in_err-counts_put-clause-crash g c = quiet_then _ _ _ c.blocks_put.ensures.crash c.counts_put.ensures.crash
 
 pub returns-clause-put : goal.returns-clause-put
 returns-clause-put g c opened apart clean inside store =
@@ -35,9 +49,9 @@ returns-clause-put g c opened apart clean inside store =
     let goes = (c.in_ok-blocks_put.ensures.call opened).ok was inside in
     let blocks = c.deref.ensures.value in
     let put = c.in_ok-blocks_put.ensures.put opened (subst AreApart (sym blocks) apart) was inside store in
-    held_answers db c.args.held.now first mid last c.counts_put.result
+    held_answers db c.args.held.now first mid last
     (subst (λ (l : List NewBlock). Changes blocks_tree (GainsAll (map (new_block_row db) l)) first mid) blocks put.0) (subst (λ (l : List NewBlock). AreLacking db l first.now.trees) blocks put.1)
-    (subst (λ (l : List NewCount). IfOk c.counts_put.result (λ done. Changes dict_tree (GainsAll (map (new_count_row db) l)) mid last)) c.deref-2.ensures.value (c.counts_put.ensures.put goes.is_open clean goes.mode put.0.layout)) c.counts_put.ensures.honest
+    (subst (λ (l : List NewCount). Changes dict_tree (GainsAll (map (new_count_row db) l)) mid last) c.deref-2.ensures.value (c.in_ok-counts_put.ensures.put goes.is_open clean goes.mode put.0.layout))
 
 pub returns-in_err-blocks_put-clause-put : goal.returns-in_err-blocks_put-clause-put
 returns-in_err-blocks_put-clause-put g c opened apart clean inside store =

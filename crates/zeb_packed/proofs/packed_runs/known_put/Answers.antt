@@ -1,4 +1,4 @@
-use Rattle.zeb_packed.proofs.Cited.{Err, ap, arith, rules, IfOk-weaker, state, HasCleanDisk, goes_keeps, goes_then, on_err, on_err_so, quiet_then, refused_so}
+use Rattle.zeb_packed.proofs.Cited.{Err, ap, arith, rules, state, HasCleanDisk, goes_keeps, goes_then, on_err, quiet_then, refused_so}
 use Rattle.zeb_packed.proofs.KeyPuts.{blocks_allowed, key_answers}
 use Rattle.zeb_packed.proofs.packed_runs.known_put.Goals as goal
 
@@ -11,11 +11,22 @@ returns-clause-call g c opened =
       ok = λ clean inside.
           let was : HasCleanDisk mid = omega (arith, c.dict_write.ensures.call.crash.clean) in
           let goes = c.in_ok-after.ensures.call.ok was inside opened in
-          IfOk-weaker c.dict_write.result _ _ (λ _ done. goes_then first mid last goes done.on) (c.dict_write.ensures.call.ok clean goes.mode);
+          goes_then first mid last goes (c.in_ok-dict_write.ensures.call.ok clean goes.mode).on;
+      err = λ clean inside. tt;
+      crash = quiet_then first mid last c.runs_put.ensures.call.crash c.dict_write.ensures.call.crash;
+    }
+
+pub returns-in_err-dict_write-clause-call : goal.returns-in_err-dict_write-clause-call
+returns-in_err-dict_write-clause-call g c opened =
+    let first = state g.S.Store c.args.tx.now.conn.now in
+    let mid = state g.S.Store c.runs_put.new.tx.conn.now in
+    let last = state g.S.Store c.dict_write.new.tx.conn.now in
+    record {
+      ok = search rules;
       err = λ clean inside.
           let was : HasCleanDisk mid = omega (arith, c.dict_write.ensures.call.crash.clean) in
           let goes = c.in_ok-after.ensures.call.ok was inside opened in
-          on_err_so c.dict_write.result _ _ (λ kept. goes_keeps first mid last goes kept) (c.dict_write.ensures.call.err clean goes.mode);
+          on_err c.from_residual-in_err-dict_write.result _ (goes_keeps first mid last goes (c.in_err-dict_write.ensures.call.err clean goes.mode));
       crash = quiet_then first mid last c.runs_put.ensures.call.crash c.dict_write.ensures.call.crash;
     }
 
@@ -29,14 +40,17 @@ returns-in_err-after-clause-call g c opened = record {
 pub returns-clause-crash : goal.returns-clause-crash
 returns-clause-crash g c = quiet_then _ _ _ c.runs_put.ensures.call.crash c.dict_write.ensures.call.crash
 
+pub returns-in_err-dict_write-clause-crash : goal.returns-in_err-dict_write-clause-crash
+returns-in_err-dict_write-clause-crash g c = quiet_then _ _ _ c.runs_put.ensures.call.crash c.dict_write.ensures.call.crash
+
 pub returns-clause-units : goal.returns-clause-units
 returns-clause-units g c opened clean inside store counts =
     let first = state g.S.Store c.args.tx.now.conn.now in
     let mid = state g.S.Store c.runs_put.new.tx.conn.now in
     let was : HasCleanDisk mid = omega (arith, c.dict_write.ensures.call.crash.clean) in
     let goes = c.in_ok-after.ensures.call.ok was inside opened in
-    key_answers c.args.db.0 c.args.key.now c.args.changes.now c.args.known c.in_ok-after.after first mid (state g.S.Store c.dict_write.new.tx.conn.now) c.dict_write.result
-    counts c.requires.known.1 c.requires.text c.requires.stored c.requires.rising (c.in_ok-after.ensures.turned was inside store) (c.dict_write.ensures.call.ok clean goes.mode) c.dict_write.ensures.honest
+    key_answers c.args.db.0 c.args.key.now c.args.changes.now c.args.known c.in_ok-after.after first mid (state g.S.Store c.dict_write.new.tx.conn.now)
+    counts c.requires.known.1 c.requires.text c.requires.stored c.requires.rising (c.in_ok-after.ensures.turned was inside store) (c.in_ok-dict_write.ensures.call.ok clean goes.mode)
 
 pub returns-in_err-after-clause-units : goal.returns-in_err-after-clause-units
 returns-in_err-after-clause-units g c opened clean inside store counts = refused_so _ _ c.from_residual.result c.in_err-after.field-0.0 (search rules) (

@@ -1,8 +1,8 @@
-use Rattle.zeb_register.proofs.Cited.{state, HasCleanDisk, IsUnchanged, rules, ◌≡◌, true, false, ◌+◌, ◌≤◌, FitsSigned, w64, to_z, sym, subst, arith, to_z-of_z, ints, err_from_is_err_and, RegFault, Reading, IsListedId, Owns, tree_of}
+use Rattle.zeb_register.proofs.Cited.{state, HasCleanDisk, IsUnchanged, rules, ◌≡◌, true, false, ◌+◌, ◌≤◌, FitsSigned, w64, to_z, sym, subst, arith, to_z-of_z, ints, Bool, Err, err_from_is_err_and, RegFault, Reading, IsReasonedError, IsListedId, Owns, tree_of}
 use Rattle.zeb_register.proofs.Calls.{nothing_then, reading_behind}
 use Rattle.zeb_register.proofs.CallsInTurn.{quiet_then}
 use Rattle.zeb_register.proofs.OwnersListed.{IsReached, all_reached, below, below_few, first_reached, found_next, next_reached, none_next, turn_more}
-use Rattle.zeb_register.proofs.Causes.{reasoned_after}
+use Rattle.zeb_register.proofs.Causes.{failed_after}
 use Rattle.zeb_register.proofs.belonging.belongs.Goals as goal
 
 pub returns-in_default-clause-value : goal.returns-in_default-clause-value
@@ -69,8 +69,8 @@ returns-in_err-rows-clause-refused g c =
     let s1 = state g.S.Store c.ids.conn in
     let s2 = state g.S.Store c.next_rows.new.conn in
     let is = err_from_is_err_and c.from_residual-in_err-rows.result c.from_residual-in_err-rows.ensures.1 in
-    λ clean store told. reasoned_after s0 s1 s2 c.from_residual-in_err-rows.result inv.crash inv.ok c.next_rows.ensures.call.crash
-    (rw (is.1, is.2) (λ clean store told. c.in_err-rows.ensures.err clean store (search rules))) told clean store
+    let it : IsReasonedError s0 s2 c.from_residual-in_err-rows.result = rw (is.1, is.2) (failed_after {A = Bool} s0 s1 s2 (Err c.in_err-rows.field-0.0) inv.crash inv.ok c.next_rows.ensures.call.crash c.in_err-rows.ensures.err) in
+    it
 
 pub returns-in_default-id_of-clause-call : goal.returns-in_default-id_of-clause-call
 returns-in_default-id_of-clause-call g c = let inv = c.ids.invariant in reading_behind _ _ _ _ true _ inv.idle inv.ok inv.same inv.crash c.in_ok-rows.ensures.call (λ shown. shown.0)

@@ -1,4 +1,4 @@
-use Rattle.zeb_register.proofs.Cited.{unchanged_then, HasGiven, state, Row, HasCleanDisk, Int, rules, ◌≡◌, ◌∙◌, ◌↔◌, ◌++◌, List, [], ◌∷◌, Bool, false, not, Ok, Err, ◌<◌, ◌≤◌, nat_eq, refl, sym, ap, subst, w64, to_z, of_z, arith, to_z-of_z, Decides-eqb, err_from_is_err_and, RegFault, Reading, IsReasoned, IsInOrder, Fits, ReadsRests, rests_text, size_of}
+use Rattle.zeb_register.proofs.Cited.{unchanged_then, HasGiven, state, Row, HasCleanDisk, Int, rules, ◌≡◌, ◌∙◌, ◌↔◌, ◌++◌, List, [], ◌∷◌, Bool, false, not, Ok, Err, ◌<◌, ◌≤◌, nat_eq, refl, sym, ap, subst, w64, to_z, of_z, arith, to_z-of_z, Decides-eqb, err_from_is_err_and, RegFault, Error, Reading, IsReasonedError, IsInOrder, Fits, ReadsRests, rests_text, size_of}
 use Rattle.sqlite.specs.State.{Shown}
 use Rattle.zeb_register.proofs.Calls.{IsSilent, nothing, quiet, store_same}
 use Rattle.zeb_register.proofs.Causes.{may_after}
@@ -62,7 +62,7 @@ returns-in_default-clause-call g c =
     let inv = c.rows.invariant in
     let moved = c.next.follows.holds-at-none in
     let after = λ (clean : HasCleanDisk now). unchanged_then old mid now (inv.given (omega (arith, moved.survives.clean))).0 (rw c.in_ok-row.was at (moved.same clean)) in
-    let it : Reading {A = Bool} {E = RegFault} old now (Ok (nat_eq c.rows.at c.size_of-size.result)) (ReadsRests c.args.table c.args.db c.args.database.now) = record {
+    let it : Reading {A = Bool} {E = Error} old now (Ok (nat_eq c.rows.at c.size_of-size.result)) (ReadsRests c.args.table c.args.db c.args.database.now) = record {
       idle = λ i. moved.mode (inv.idle i);
       ok = λ clean. (
         after clean,
@@ -88,7 +88,7 @@ returns-in_default-row_end-clause-call g c =
     let moved = c.next.follows.holds-at-none in
     let after = λ (clean : HasCleanDisk now). unchanged_then old mid now (inv.given (omega (arith, moved.survives.clean))).0 (rw c.in_ok-row.was at (moved.same clean)) in
     let none : IsInOrder c.args.database.now → (more : List Row) → ¬ Fits c.args.table c.args.database.now (c.in-Some.row.now ∷ more) c.rows.at = rw c.in_default-row_end.is at c.row_end.ensures.fits in
-    let it : Reading {A = Bool} {E = RegFault} old now (Ok false) (ReadsRests c.args.table c.args.db c.args.database.now) = record {
+    let it : Reading {A = Bool} {E = Error} old now (Ok false) (ReadsRests c.args.table c.args.db c.args.database.now) = record {
       idle = λ i. moved.mode (inv.idle i);
       ok = λ clean. (
         after clean,
@@ -139,7 +139,7 @@ returns-in_err-rows-clause-refused g c =
     let new = state g.S.Store c.query.follows.lender-at-none in
     let held = rw c.in_err-rows.was at c.query.follows.holds-at-none in
     let is = err_from_is_err_and c.from_residual.result c.from_residual.ensures.1 in
-    let it : IsReasoned old new c.from_residual.result = rw (is.1, is.2) (λ clean store told. rests_refused c.args.table c.args.db old new c.in_err-rows.field-0.0 store (search rules) (simp (c.rests_text.ensures, c.params-to_sql.ensures, to_z-of_z, c.ranges.db) at (held.err clean))) in
+    let it : IsReasonedError old new c.from_residual.result = rw (is.1, is.2) (λ clean store told. rests_refused c.args.table c.args.db old new c.in_err-rows.field-0.0 store (search rules) (simp (c.rests_text.ensures, c.params-to_sql.ensures, to_z-of_z, c.ranges.db) at (held.err clean))) in
     it
 
 pub returns-in_err-row-clause-refused : goal.returns-in_err-row-clause-refused
@@ -150,7 +150,7 @@ returns-in_err-row-clause-refused g c =
     let inv = c.rows.invariant in
     let moved = c.next.follows.holds-at-none in
     let is = err_from_is_err_and c.from_residual-in_err-row.result c.from_residual-in_err-row.ensures.1 in
-    let it : IsReasoned old now c.from_residual-in_err-row.result = rw (is.1, is.2) (λ clean store told.
+    let it : IsReasonedError old now c.from_residual-in_err-row.result = rw (is.1, is.2) (λ clean store told.
     let first = inv.given (omega (arith, moved.survives.clean)) in
     let failed = (rw c.in_err-row.was at (moved.err clean)) (rests_text c.args.table) (Int (to_z w64 (of_z w64 c.args.db)) ∷ []) first.1.0 first.1.1 in
     may_after old mid now inv.crash (λ _. first.0.0.is_open) (λ _. rests_refused c.args.table (to_z w64 (of_z w64 c.args.db)) mid now c.in_err-row.field-0.0 (store_same old mid first.0.0.now_is store) (search rules) failed)) in

@@ -12,8 +12,8 @@ overflow_add-last c =
     let some : 0 < vec_len c.args.counts.now = c.in-Some.ensures.variant.0 (search rules) in
     omega (arith, c.requires.room c.in-Some.last.now (has_at items (vec_len c.args.counts.now - 1) c.in-Some.last.now c.in-Some.ensures.value (omega (arith, long, some))))
 
-pub returns-then-eq-clause-counted : goal.returns-then-eq-clause-counted
-returns-then-eq-clause-counted c =
+pub returns-then-eq : goal.returns-then-eq
+returns-then-eq c =
     let items = c.args.counts.now.items in
     let last = c.in-Some.last.now in
     let n = vec_len c.args.counts.now - 1 in
@@ -26,8 +26,8 @@ returns-then-eq-clause-counted c =
       | else-sysno-newest w ↦ inl (take n items, last, view, same, inl (w.if-sysno-newest.false, ap (λ v. v.items) w.counts-is ∙ last_set n items last long ∙ sym view))
     ]
 
-pub returns-clause-counted : goal.returns-clause-counted
-returns-clause-counted c =
+pub returns : goal.returns
+returns c =
     let items = c.args.counts.now.items in
     elim c.match-last_mut.branch [
       | in-Some+else-eq w ↦

@@ -29,9 +29,9 @@ loop-row-preserved c =
     let i = c.loop-row.row-index in
     let r = c.row-item.result in
     record {
-      upto = counted_upto i c.loop-row.newest c.in_ok-term.sysno c.in_ok-term.term _ _ c.loop-row.invariant.upto c.in_ok-count_occurrence.ensures.counted;
+      upto = counted_upto i c.loop-row.newest c.in_ok-term.sysno c.in_ok-term.term _ _ c.loop-row.invariant.upto c.in_ok-count_occurrence.ensures;
       counted = λ up. counted_more (IsShown (take i rows)) (IsShown (take (i + 1) rows)) c.in_ok-term.term c.in_ok-term.sysno (shown_more rows i r c.in_ok-term.term c.in_ok-term.sysno c.loop-row-test.true c.row-item.is c.in_ok-term.ensures.ok)
-          (shown_after rows i r c.in_ok-term.term c.in_ok-term.sysno up c.loop-row-test.true c.row-item.is c.in_ok-term.ensures.ok) c.loop-row.newest _ _ (c.loop-row.invariant.counted up).0 (c.loop-row.invariant.counted up).1 c.in_ok-count_occurrence.ensures.counted;
+          (shown_after rows i r c.in_ok-term.term c.in_ok-term.sysno up c.loop-row-test.true c.row-item.is c.in_ok-term.ensures.ok) c.loop-row.newest _ _ (c.loop-row.invariant.counted up).0 (c.loop-row.invariant.counted up).1 c.in_ok-count_occurrence.ensures;
       occur = λ row h. elim ((taken_more rows i r c.loop-row-test.true c.row-item.is row).0 h) [ inl there ↦ c.loop-row.invariant.occur row there | inr same ↦ subst IsOccurrenceRow (sym same) c.in_ok-term.ensures.occurs ];
     }
 
