@@ -5,7 +5,7 @@ ghost use Rattle.zeb_blocks.specs.Blocks.{BlockSpells};
 use crate::rows::rows_hold;
 use std::alloc::{AllocError, Global};
 use std::test::Fail;
-use zeb_blocks::{Damaged, Posting, Postings, push_block, spell};
+use zeb_blocks::{Damaged, Posting, Postings, push_block, records_in, spell};
 
 /// A block's number and its bytes, and the postings that they spell there: system number, unit and place.
 static ROWS: &str = "\
@@ -48,11 +48,11 @@ fn listed(alloc: Global, postings: &[Posting]) -> Result<String, AllocError> {
     listed.join(alloc, " ")
 }
 
-/// Whether the bytes put the postings behind those of a list.
+/// Whether the bytes put the postings behind those of a list, and say of how many records they are.
 fn are_pushed(block: u64, bytes: &[u8], list: &Vec<Posting>) -> Result<bool, AllocError> {
     let mut pushed = list.clone()?;
-    let is_sound = push_block(&mut pushed, block, bytes)?.is_ok();
-    Ok(is_sound && pushed.strip_prefix(list.as_slice()) == Some(list.as_slice()))
+    let is_counted = push_block(&mut pushed, block, bytes)? == Ok(records_in(list));
+    Ok(is_counted && pushed.strip_prefix(list.as_slice()) == Some(list.as_slice()))
 }
 
 /// The postings of a block, where each way of reading gives them and they are spelled as the bytes.
@@ -78,7 +78,7 @@ fn sound_line(
 /// What is said where a block isn't read.
 fn damaged_line(alloc: Global, block: u64, bytes: &[u8]) -> Result<String, AllocError> {
     match push_block(&mut Vec::new(alloc), block, bytes)? {
-        Ok(()) => String::from_str(alloc, "pushed and not read"),
+        Ok(_) => String::from_str(alloc, "pushed and not read"),
         Err(Damaged) => String::from_str(alloc, "damaged"),
     }
 }

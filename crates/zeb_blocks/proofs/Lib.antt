@@ -4,6 +4,7 @@ pub mod Steps
 pub mod Lists
 pub mod Rising
 pub mod Counting
+pub mod CountedRecords
 pub mod Taking
 pub mod Walking
 pub mod Pushing

@@ -1,6 +1,8 @@
 pub mod Numbers
 pub mod Order
 pub mod Blocks
+pub mod Records
+pub mod PrivateRecords
 pub mod Left
 pub mod PrivateLeft
 pub mod Writing

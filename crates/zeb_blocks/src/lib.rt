@@ -7,9 +7,11 @@ mod gaps;
 mod numbers;
 mod postings;
 mod reading;
+mod records;
 mod writing;
 
 pub use numbers::{read_number, write_number};
 pub use postings::{BLOCK_RECORDS, Posting};
 pub use reading::{Damaged, Postings, push_block};
+pub use records::records_in;
 pub use writing::{BlockWriter, spell};

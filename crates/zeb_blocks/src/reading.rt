@@ -4,10 +4,12 @@ ghost use Rattle.std.specs.Iterator.{YieldsFirst, item_count};
 ghost use Rattle.zeb_blocks.specs.declared.postings.Posting.{Posting};
 ghost use Rattle.zeb_blocks.specs.Blocks.{BlockSpells, bytes_of, gaps_of};
 ghost use Rattle.zeb_blocks.specs.Left.{Follows, SpellsFrom, last_from, postings_at};
+ghost use Rattle.zeb_blocks.specs.Records.{record_count};
 
 use crate::gaps::Gaps;
 use crate::numbers::read_number;
 use crate::postings::{BLOCK_RECORDS, Posting, start_of_block};
+use crate::records::records_after;
 use std::alloc::AllocError;
 use std::marker::Model;
 
@@ -49,19 +51,20 @@ fn count_postings(start: Posting, bytes: &[u8]) -> Option<(usize, Posting)>
     Some((count, last))
 }
 
-/// Puts the postings that the bytes have behind another one at the end of a list, and gives the last of them.
+/// Puts the postings that the bytes have behind another one at the end of a list, and gives the last of them and how many records they are of.
 fn push_postings(
     postings: &mut Vec<Posting>,
     start: Posting,
     bytes: &[u8],
-) -> Result<Option<Posting>, AllocError>
+) -> Result<Option<(Posting, u64)>, AllocError>
     ensures found { IfOk result
         (λ found. MatchOption found ((list : List Posting) → ¬ SpellsFrom start list bytes.now)
-        (λ last. (list : List Posting) × SpellsFrom start list bytes.now
-        × (last_from start list ≡ last)
+        (λ end. (list : List Posting) × SpellsFrom start list bytes.now
+        × (last_from start list ≡ end.0) × (end.1 ≡ record_count list)
         × (postings.new.items ≡ postings.old.items ++ list))) }
     ensures kept { (put : List Posting) × (postings.new.items ≡ postings.old.items ++ put) }
 {
+    let mut records: u64 = 0;
     let mut last = start;
     let mut left = bytes;
     while !left.is_empty() {
@@ -69,14 +72,15 @@ fn push_postings(
             return Ok(None);
         };
         postings.push(posting)?;
+        records = records_after(records, last.sysno, posting.sysno);
         last = posting;
         left = behind;
     }
-    Ok(Some(last))
+    Ok(Some((last, records)))
 }
 
-/// Puts the postings that the bytes spell in the block at the end of a list, in one walk over the bytes. `block` is the system numbers
-/// div 256.
+/// Puts the postings that the bytes spell in the block at the end of a list, and gives how many records they are of, in one walk over the
+/// bytes. `block` is the system numbers div 256.
 ///
 /// [`Damaged`] exactly where [`Postings::read`] says so. Then, and where memory ran out, some postings may have been put behind those that
 /// the list had.
@@ -84,10 +88,12 @@ pub fn push_block(
     postings: &mut Vec<Posting>,
     block: u64,
     bytes: &[u8],
-) -> Result<Result<(), Damaged>, AllocError>
+) -> Result<Result<u64, Damaged>, AllocError>
     ensures spelled { IfOk result
         (λ read. OnOk read ((list : List Posting) × BlockSpells block list bytes.now
         × (postings.new.items ≡ postings.old.items ++ list))) }
+    ensures counted { IfOk result (λ read. IfOk read (λ records. (list : List Posting)
+        → BlockSpells block list bytes.now → records ≡ record_count list)) }
     ensures damaged { IfOk result
         (λ read. OnErr read ((list : List Posting) → ¬ BlockSpells block list bytes.now)) }
     ensures kept { (put : List Posting) × (postings.new.items ≡ postings.old.items ++ put) }
@@ -95,14 +101,14 @@ pub fn push_block(
     let Some(start) = start_of_block(block) else {
         return Ok(Err(Damaged));
     };
-    let Some(last) = push_postings(postings, start, bytes)? else {
+    let Some((last, records)) = push_postings(postings, start, bytes)? else {
         return Ok(Err(Damaged));
     };
     let is_inside = last.sysno / BLOCK_RECORDS == block;
     if bytes.is_empty() || !is_inside {
         return Ok(Err(Damaged));
     }
-    Ok(Ok(()))
+    Ok(Ok(records))
 }
 
 /// The postings of a block that are left to read: contracts see their list.

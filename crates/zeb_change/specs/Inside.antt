@@ -1,6 +1,9 @@
 -- What work inside a transaction does to a connection, whatever it does to rows.
 use Rattle.std.specs.Prelude.{IsTrue, MatchResult, Result}
+use Rattle.std.specs.Borrow.{MutBor}
+use Rattle.sqlite.specs.Held.{Held, state}
 use Rattle.sqlite.specs.State.{HasCleanDisk, KeepsCommit, State, Survives}
+use Rattle.sqlite_trees.specs.declared.store.Store.{Ghosts}
 
 -- Inside a transaction: nothing is committed, the transaction goes on, and an open connection stays open.
 pub record Continues (old new : State) : Type 0 where
@@ -16,3 +19,7 @@ StaysInside old new result = MatchResult result (λ _. Continues old new) (λ _.
 pub record WorksInside {T E : Type 0} (old new : State) (result : Result T E) : Type 0 where
   pub stays : HasCleanDisk new → IsTrue old.in_transaction → StaysInside old new result
   pub crash : Survives old new (λ _. ⊥)
+
+-- the same, of a connection that a transaction borrows
+abbrev pub WorksInsideOf : {S T E : Type 0} → Ghosts S → (old new : MutBor (Held S)) → Result T E → Type 0
+WorksInsideOf store old new result = WorksInside (state store old.now) (state store new.now) result

@@ -1,10 +1,13 @@
 -- What a change does with one record, in rows, on any tables of a store: what it answers, and what becomes of the table of records, of the
 -- notes and of the last number. This project's own rules.
 use Rattle.std.specs.Prelude.{◌≡◌, ◌≢◌, ◌⊎◌, ◌+◌, ◌<◌, ◌≤◌, ℕ, ℤ, pos, IsTrue, List, [], ◌∷◌, Option, Some, None, Result, Ok, Err}
+use Rattle.std.specs.Borrow.{MutBor}
 use Rattle.std.specs.List.{AllByRecursion}
 use Rattle.sqlite.specs.Effect.{Database, IsDatabase}
+use Rattle.sqlite.specs.Held.{Held, state}
 use Rattle.sqlite.specs.State.{HasCleanDisk, State}
 use Rattle.sqlite.specs.Tree.{Trees}
+use Rattle.sqlite_trees.specs.declared.store.Store.{Ghosts}
 use Rattle.zeb_profile.specs.declared.directives.Directive.{Directive}
 use Rattle.zeb_keys.specs.declared.keys.Occurrence.{Occurrence}
 use Rattle.zeb_register.specs.declared.kept.Elder.{Elder}
@@ -39,6 +42,10 @@ pub record Point : Type 0 where
 -- this is said of a call inside a transaction on the tables of a store
 abbrev pub OnRows : State → State → Type 0 → Type 0
 OnRows old new Said = HasCleanDisk new → IsTrue old.in_transaction → IsStore old → Said
+
+-- the same, of a connection that a transaction borrows
+abbrev pub OnRowsOf : {S : Type 0} → Ghosts S → (old new : MutBor (Held S)) → Type 0 → Type 0
+OnRowsOf store old new Said = OnRows (state store old.now) (state store new.now) Said
 
 -- a call is done, or it fails so, or it is refused so
 abbrev pub Answers : {T : Type 0} → (Fails Refused : Refusal → Type 0) → (Done : T → Type 0) → Result T Refusal → Type 0

@@ -3,7 +3,7 @@
 ghost use Rattle.std.specs.Prelude.{◌≡◌, ◌↔◌, ◌+◌, true, map, IsErrOf, IfErr, OnOk};
 ghost use Rattle.sqlite.specs.Held.{state};
 ghost use Rattle.zeb_marc.specs.Reading.{StaysAble};
-ghost use Rattle.zeb_change.specs.RecordChanges.{OnRows};
+ghost use Rattle.zeb_change.specs.RecordChanges.{OnRowsOf};
 ghost use Rattle.zeb_change.specs.PrivateRecordChanges.{Steps};
 ghost use Rattle.zeb_change.specs.RecordFolds.{Advances, ChangesFiles, FoldsFiles, FoldsRecord, OfReaders, TakesFiles, TakesRecord};
 ghost use Rattle.zeb_change.specs.PrivateRecordFolds.{TakesReader, at};
@@ -11,7 +11,7 @@ ghost use Rattle.zeb_change.specs.Reading.{NamesFailed, NoneFailed, TellsFaults}
 ghost use Rattle.zeb_change.specs.Outcomes.{fold_refusal, take_refusal};
 ghost use Rattle.zeb_change.specs.PrivateFaults.{as_refusal};
 ghost use Rattle.zeb_change.specs.PrivateReading.{ReadsRecord, TellsFault};
-ghost use Rattle.zeb_change.specs.Inside.{WorksInside};
+ghost use Rattle.zeb_change.specs.Inside.{WorksInsideOf};
 
 use crate::part_faults::{FoldFault, TakeFault};
 use crate::pending::Pending;
@@ -73,13 +73,11 @@ fn note_record<S: Alter>(
     incoming: Incoming<'_>,
 ) -> Result<(), TakeFault>
     ensures same { tx.new.conn.ghost_name ≡ tx.old.conn.ghost_name }
-    ensures inside { WorksInside (state S.Store tx.old.conn.now)
-        (state S.Store tx.new.conn.now) result }
+    ensures inside { WorksInsideOf S.Store tx.old.conn tx.new.conn result }
     ensures steps { Steps setting.now.limits fold.old.progress fold.new.progress }
-    ensures folds { OnRows (state S.Store tx.old.conn.now) (state S.Store tx.new.conn.now)
-        (FoldsRecord setting.now fold.old.progress.database.0
-        incoming.entry.file incoming.entry.nth incoming.entry.bytes.now
-        (at (state S.Store tx.old.conn.now) pending.old fold.old)
+    ensures folds { OnRowsOf S.Store tx.old.conn tx.new.conn
+        (FoldsRecord setting.now fold.old.progress.database.0 incoming.entry.file incoming.entry.nth
+        incoming.entry.bytes.now (at (state S.Store tx.old.conn.now) pending.old fold.old)
         (at (state S.Store tx.new.conn.now) pending.new fold.new)
         (as_refusal take_refusal result)) }
     ensures counted { OnOk result (fold.new.tally.records ≡ fold.old.tally.records + 1) }
@@ -101,11 +99,10 @@ fn take_record<S: Alter, L: Layout>(
     incoming: Incoming<'_>,
 ) -> Result<(), TakeFault>
     ensures same { tx.new.conn.ghost_name ≡ tx.old.conn.ghost_name }
-    ensures inside { WorksInside (state S.Store tx.old.conn.now)
-        (state S.Store tx.new.conn.now) result }
+    ensures inside { WorksInsideOf S.Store tx.old.conn tx.new.conn result }
     ensures steps { Advances setting.now.limits L.format L.row_work fold.old.progress
         fold.new.progress }
-    ensures takes { OnRows (state S.Store tx.old.conn.now) (state S.Store tx.new.conn.now)
+    ensures takes { OnRowsOf S.Store tx.old.conn tx.new.conn
         (TakesRecord setting.now L.format L.row_work fold.old.progress.database.0
         incoming.entry.file incoming.entry.nth incoming.entry.bytes.now
         (at (state S.Store tx.old.conn.now) pending.old fold.old)
@@ -137,11 +134,10 @@ fn fold_file<S: Alter, L: Layout, R: Source>(
     file: u64,
 ) -> Result<(), FoldFault>
     ensures same { tx.new.conn.ghost_name ≡ tx.old.conn.ghost_name }
-    ensures inside { WorksInside (state S.Store tx.old.conn.now)
-        (state S.Store tx.new.conn.now) result }
+    ensures inside { WorksInsideOf S.Store tx.old.conn tx.new.conn result }
     ensures steps { Advances setting.now.limits L.format L.row_work fold.old.progress
         fold.new.progress }
-    ensures takes { OnRows (state S.Store tx.old.conn.now) (state S.Store tx.new.conn.now)
+    ensures takes { OnRowsOf S.Store tx.old.conn tx.new.conn
         (TakesReader setting.now L.format L.row_work fold.old.progress.database.0
         (R.has_failed reader.new) (R.remaining reader.old) file 1
         (at (state S.Store tx.old.conn.now) pending.old fold.old)
@@ -178,11 +174,10 @@ fn fold_readers<S: Alter, L: Layout, R: Source>(
     readers: &mut [R],
 ) -> Result<(), FoldFault>
     ensures same { tx.new.conn.ghost_name ≡ tx.old.conn.ghost_name }
-    ensures inside { WorksInside (state S.Store tx.old.conn.now)
-        (state S.Store tx.new.conn.now) result }
+    ensures inside { WorksInsideOf S.Store tx.old.conn tx.new.conn result }
     ensures steps { Advances setting.now.limits L.format L.row_work fold.old.progress
         fold.new.progress }
-    ensures takes { OnRows (state S.Store tx.old.conn.now) (state S.Store tx.new.conn.now)
+    ensures takes { OnRowsOf S.Store tx.old.conn tx.new.conn
         (OfReaders (NoneFailed R.has_failed readers.new) (map R.remaining readers.old)
         (λ splits. TakesFiles setting.now L.format L.row_work fold.old.progress.database.0 1 splits
         (at (state S.Store tx.old.conn.now) pending.old fold.old)
@@ -208,11 +203,10 @@ fn take_files<S: Alter, L: Layout, R: Source>(
     readers: &mut [R],
 ) -> Result<(), Refusal>
     ensures same { tx.new.conn.ghost_name ≡ tx.old.conn.ghost_name }
-    ensures inside { WorksInside (state S.Store tx.old.conn.now)
-        (state S.Store tx.new.conn.now) result }
+    ensures inside { WorksInsideOf S.Store tx.old.conn tx.new.conn result }
     ensures steps { Advances setting.now.limits L.format L.row_work fold.old.progress
         fold.new.progress }
-    ensures changes { OnRows (state S.Store tx.old.conn.now) (state S.Store tx.new.conn.now)
+    ensures changes { OnRowsOf S.Store tx.old.conn tx.new.conn
         (OfReaders (NoneFailed R.has_failed readers.new) (map R.remaining readers.old)
         (λ splits. ChangesFiles setting.now L.format L.row_work fold.old.progress.database.0 splits
         (at (state S.Store tx.old.conn.now) pending.old fold.old)
@@ -246,17 +240,16 @@ pub fn fold_files<S: Alter, L: Layout, R: Source>(
     readers: &mut [R],
 ) -> Result<(), Refusal>
     ensures same { tx.new.conn.ghost_name ≡ tx.old.conn.ghost_name }
-    ensures inside { WorksInside (state S.Store tx.old.conn.now)
-        (state S.Store tx.new.conn.now) result }
+    ensures inside { WorksInsideOf S.Store tx.old.conn tx.new.conn result }
     // How far the last number and the counts go, whatever is answered.
     ensures steps { Advances setting.now.limits L.format L.row_work fold.old.progress
         fold.new.progress }
     // What it does on any tables of a store, and whatever the readers tell.
-    ensures changes { OnRows (state S.Store tx.old.conn.now) (state S.Store tx.new.conn.now)
+    ensures changes { OnRowsOf S.Store tx.old.conn tx.new.conn
         (OfReaders (NoneFailed R.has_failed readers.new) (map R.remaining readers.old)
         (λ splits. FoldsFiles setting.now L.format L.row_work fold.old.progress.database.0 splits
-        (state S.Store tx.old.conn.now).now (state S.Store tx.new.conn.now).now
-        fold.old fold.new) result) }
+        (state S.Store tx.old.conn.now).now (state S.Store tx.new.conn.now).now fold.old fold.new)
+        result) }
     ensures faults { TellsFaults R.may_fail R.has_failed readers.old readers.new result }
 {
     counts_are_numbers(&fold.progress.work);

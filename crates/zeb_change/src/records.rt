@@ -8,9 +8,9 @@ ghost use Rattle.zeb_change.specs.Folding.{ident_in};
 ghost use Rattle.zeb_change.specs.Occurs.{AreOccurrencesOf};
 ghost use Rattle.zeb_change.specs.Outcomes.{change_refusal, incoming_refusal, register_refusal, turn_refusal};
 ghost use Rattle.zeb_change.specs.PrivateFaults.{as_refusal};
-ghost use Rattle.zeb_change.specs.Inside.{WorksInside};
+ghost use Rattle.zeb_change.specs.Inside.{WorksInsideOf};
 ghost use Rattle.zeb_change.specs.Reasons.{IsAtFault};
-ghost use Rattle.zeb_change.specs.RecordChanges.{Answers, ChangesRecord, TellsFailure, IsSound, OnRows};
+ghost use Rattle.zeb_change.specs.RecordChanges.{Answers, ChangesRecord, IsSound, OnRowsOf, TellsFailure};
 ghost use Rattle.zeb_change.specs.PrivateRecordChanges.{Inserts, Steps, Supplants, TurnsRecord, Withdraws, point};
 
 use crate::faults::RecordFault;
@@ -93,10 +93,9 @@ fn insert<S: Alter>(
     requires whole { IsRecord newer.now.bytes.now newer.now.marc }
     requires free { progress.old.last < setting.now.limits.numbers }
     ensures same { tx.new.conn.ghost_name ≡ tx.old.conn.ghost_name }
-    ensures inside { WorksInside (state S.Store tx.old.conn.now)
-        (state S.Store tx.new.conn.now) result }
+    ensures inside { WorksInsideOf S.Store tx.old.conn tx.new.conn result }
     ensures steps { Steps setting.now.limits progress.old progress.new }
-    ensures inserts { OnRows (state S.Store tx.old.conn.now) (state S.Store tx.new.conn.now)
+    ensures inserts { OnRowsOf S.Store tx.old.conn tx.new.conn
         (Inserts setting.now progress.old.database.0 newer.now.ident.now newer.now.bytes.now
         (point (state S.Store tx.old.conn.now) pending.old progress.old.last)
         (point (state S.Store tx.new.conn.now) pending.new progress.new.last)
@@ -129,9 +128,8 @@ fn replace<S: Alter>(
 ) -> Result<Fate, RegFault>
     requires whole { IsRecord newer.now.bytes.now newer.now.marc }
     ensures same { tx.new.conn.ghost_name ≡ tx.old.conn.ghost_name }
-    ensures inside { WorksInside (state S.Store tx.old.conn.now)
-        (state S.Store tx.new.conn.now) result }
-    ensures supplants { OnRows (state S.Store tx.old.conn.now) (state S.Store tx.new.conn.now)
+    ensures inside { WorksInsideOf S.Store tx.old.conn tx.new.conn result }
+    ensures supplants { OnRowsOf S.Store tx.old.conn tx.new.conn
         (Supplants setting.now progress.now.database.0 newer.now.ident.now newer.now.bytes.now
         elder.now (point (state S.Store tx.old.conn.now) pending.old progress.now.last)
         (point (state S.Store tx.new.conn.now) pending.new progress.now.last)
@@ -158,9 +156,8 @@ fn withdraw<S: Alter>(
     elder: &Elder,
 ) -> Result<Fate, RegFault>
     ensures same { tx.new.conn.ghost_name ≡ tx.old.conn.ghost_name }
-    ensures inside { WorksInside (state S.Store tx.old.conn.now)
-        (state S.Store tx.new.conn.now) result }
-    ensures withdraws { OnRows (state S.Store tx.old.conn.now) (state S.Store tx.new.conn.now)
+    ensures inside { WorksInsideOf S.Store tx.old.conn tx.new.conn result }
+    ensures withdraws { OnRowsOf S.Store tx.old.conn tx.new.conn
         (Withdraws setting.now progress.now.database.0 ident.now elder.now
         (point (state S.Store tx.old.conn.now) pending.old progress.now.last)
         (point (state S.Store tx.new.conn.now) pending.new progress.now.last)
@@ -187,15 +184,13 @@ fn turn_record<S: Alter>(
 ) -> Result<Fate, TurnFault>
     requires whole { IsRecord newer.now.bytes.now newer.now.marc }
     ensures same { tx.new.conn.ghost_name ≡ tx.old.conn.ghost_name }
-    ensures inside { WorksInside (state S.Store tx.old.conn.now)
-        (state S.Store tx.new.conn.now) result }
+    ensures inside { WorksInsideOf S.Store tx.old.conn tx.new.conn result }
     ensures steps { Steps setting.now.limits progress.old progress.new }
-    ensures turns { OnRows (state S.Store tx.old.conn.now) (state S.Store tx.new.conn.now)
-        (TurnsRecord setting.now progress.old.database.0 file nth
-        newer.now.ident.now newer.now.bytes.now setting.now.kind elder
-        (point (state S.Store tx.old.conn.now) pending.old progress.old.last)
-        (point (state S.Store tx.new.conn.now) pending.new progress.new.last)
-        (as_refusal turn_refusal result)) }
+    ensures turns { OnRowsOf S.Store tx.old.conn tx.new.conn
+        (TurnsRecord setting.now progress.old.database.0 file nth newer.now.ident.now
+        newer.now.bytes.now setting.now.kind elder (point (state S.Store tx.old.conn.now)
+        pending.old progress.old.last) (point (state S.Store tx.new.conn.now) pending.new
+        progress.new.last) (as_refusal turn_refusal result)) }
 {
     match (setting.kind, elder) {
         (Kind::Update, Some(elder)) => {
@@ -253,14 +248,12 @@ pub(crate) fn change_record<S: Alter>(
     incoming: Incoming<'_>,
 ) -> Result<Fate, ChangeFault>
     ensures same { tx.new.conn.ghost_name ≡ tx.old.conn.ghost_name }
-    ensures inside { WorksInside (state S.Store tx.old.conn.now)
-        (state S.Store tx.new.conn.now) result }
+    ensures inside { WorksInsideOf S.Store tx.old.conn tx.new.conn result }
     ensures steps { Steps setting.now.limits progress.old progress.new }
-    ensures changes { OnRows (state S.Store tx.old.conn.now) (state S.Store tx.new.conn.now)
-        (ChangesRecord setting.now progress.old.database.0
-        incoming.entry.file incoming.entry.nth incoming.entry.bytes.now
-        (point (state S.Store tx.old.conn.now) pending.old progress.old.last)
-        (point (state S.Store tx.new.conn.now) pending.new progress.new.last)
+    ensures changes { OnRowsOf S.Store tx.old.conn tx.new.conn
+        (ChangesRecord setting.now progress.old.database.0 incoming.entry.file incoming.entry.nth
+        incoming.entry.bytes.now (point (state S.Store tx.old.conn.now) pending.old
+        progress.old.last) (point (state S.Store tx.new.conn.now) pending.new progress.new.last)
         (as_refusal change_refusal result)) }
 {
     let Incoming { bytes, file, nth } = incoming;

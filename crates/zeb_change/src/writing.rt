@@ -5,17 +5,17 @@ ghost use Rattle.std.specs.List.{AllZip};
 ghost use Rattle.std.specs.List.Sorted.{IsStrictlySortedBy};
 ghost use Rattle.sqlite.specs.Held.{state};
 ghost use Rattle.zeb_keys.specs.Order.{key_order};
-ghost use Rattle.zeb_register.specs.Calls.{GoesOn, Inside};
-ghost use Rattle.zeb_register.specs.Clauses.{InStore};
+ghost use Rattle.zeb_register.specs.Calls.{GoesOn};
 ghost use Rattle.zeb_register.specs.Tallies.{CountsNothing, works_for};
 ghost use Rattle.zeb_register.specs.UnitChanges.{NumbersRise};
 ghost use Rattle.zeb_change.specs.declared.key_notes.KeyNotes.{KeyNotes};
 ghost use Rattle.zeb_change.specs.NoteWords.{KeyChange};
 ghost use Rattle.zeb_change.specs.Noted.{IsNothingNoted, KeepsUnwritten, Settles, changes_among};
-ghost use Rattle.zeb_change.specs.Inside.{WorksInside};
+ghost use Rattle.zeb_change.specs.Inside.{WorksInsideOf};
 ghost use Rattle.zeb_change.specs.PrivateNoteWords.{IsCutOff, counts_in, places_in};
 ghost use Rattle.zeb_change.specs.PrivatePending.{AreGivenInOrder, IsGivenFrom, IsTakenFrom};
 ghost use Rattle.zeb_change.specs.PrivateWriting.{CountsInStore, WritesInStore};
+ghost use Rattle.zeb_register.specs.Connections.{InStoreOf, InsideOf};
 
 use crate::key_notes::PlaceCounts;
 use crate::pending::{Pending, TakenKey};
@@ -113,14 +113,13 @@ fn write_run<S: Alter, L: Layout>(
 ) -> Result<(), RegFault>
     requires rising { IsStrictlySortedBy key_order (map (λ (one : TakenKey). one.key) taken.now) }
     ensures same { tx.new.conn.ghost_name ≡ tx.old.conn.ghost_name }
-    ensures call { Inside (state S.Store tx.old.conn.now) (state S.Store tx.new.conn.now) result
-        (λ _. GoesOn) }
+    ensures call { InsideOf S.Store tx.old.conn tx.new.conn result (λ _. GoesOn) }
     ensures rows { (entries : List (Key × KeyNotes)) → AllZip IsTakenFrom entries taken.now
         → WritesInStore L.format db.0 entries (state S.Store tx.old.conn.now)
         (state S.Store tx.new.conn.now) result }
     ensures work { (entries : List (Key × KeyNotes)) → AllZip IsTakenFrom entries taken.now
-        → InStore (state S.Store tx.old.conn.now) (state S.Store tx.new.conn.now) (λ trees.
-        OnOk result (works_for L.format L.row_work (changes_among entries) trees
+        → InStoreOf S.Store tx.old.conn tx.new.conn (λ trees. OnOk result
+        (works_for L.format L.row_work (changes_among entries) trees
         (state S.Store tx.new.conn.now).now.trees work.old work.new)) }
     ensures no_work { CountsNothing L.format L.row_work → work.new ≡ work.old }
 {
@@ -138,8 +137,7 @@ fn write_runs<S: Alter, L: Layout>(
     pending: &mut Pending,
 ) -> Result<(), RegFault>
     ensures same { tx.new.conn.ghost_name ≡ tx.old.conn.ghost_name }
-    ensures inside { WorksInside (state S.Store tx.old.conn.now)
-        (state S.Store tx.new.conn.now) result }
+    ensures inside { WorksInsideOf S.Store tx.old.conn tx.new.conn result }
     ensures rows { WritesInStore L.format db.0 pending.old.notes.entries
         (state S.Store tx.old.conn.now) (state S.Store tx.new.conn.now) result }
     ensures all { OnOk result (IsNothingNoted pending.new
@@ -174,9 +172,9 @@ pub fn write_pending<S: Alter, L: Layout>(
         (state S.Store tx.new.conn.now) pending.old pending.new
         work.old work.new result }
     ensures all { OnOk result (IsNothingNoted pending.new) }
-    ensures keeps { InStore (state S.Store tx.old.conn.now) (state S.Store tx.new.conn.now)
-        (λ trees. OnOk result
-        (KeepsUnwritten L.format db.0 trees (state S.Store tx.new.conn.now).now.trees)) }
+    ensures keeps { InStoreOf S.Store tx.old.conn tx.new.conn
+        (λ trees. OnOk result (KeepsUnwritten L.format db.0 trees
+        (state S.Store tx.new.conn.now).now.trees)) }
     // Over a layout that counts nothing the counts stay, also where it is refused.
     ensures no_work { CountsNothing L.format L.row_work → work.new ≡ work.old }
 {
@@ -195,9 +193,9 @@ pub fn write_where_full<S: Alter, L: Layout>(
     ensures call { Settles L.format L.row_work db.0 (state S.Store tx.old.conn.now)
         (state S.Store tx.new.conn.now) pending.old pending.new
         work.old work.new result }
-    ensures keeps { InStore (state S.Store tx.old.conn.now) (state S.Store tx.new.conn.now)
-        (λ trees. OnOk result
-        (KeepsUnwritten L.format db.0 trees (state S.Store tx.new.conn.now).now.trees)) }
+    ensures keeps { InStoreOf S.Store tx.old.conn tx.new.conn
+        (λ trees. OnOk result (KeepsUnwritten L.format db.0 trees
+        (state S.Store tx.new.conn.now).now.trees)) }
     ensures no_work { CountsNothing L.format L.row_work → work.new ≡ work.old }
 {
     if pending.is_full() {

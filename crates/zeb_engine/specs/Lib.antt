@@ -38,3 +38,4 @@ pub mod Changing
 pub mod Dumping
 pub mod Reindexing
 pub mod Upgrading
+pub mod Sessions

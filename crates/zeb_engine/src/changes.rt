@@ -2,14 +2,13 @@
 
 ghost use Rattle.std.specs.Prelude.{◌≡◌, ◌+◌, ◌<◌, ◌≤◌, ◌^◌, pos, map, MatchResult, Err, OnOk, IfOk, IfErr, false};
 ghost use Rattle.sqlite.specs.Held.{state};
-ghost use Rattle.zeb_register.specs.Calls.{GoesOn, Inside, OnlyReads};
+ghost use Rattle.zeb_register.specs.Calls.{GoesOn, OnlyReads};
 ghost use Rattle.zeb_register.specs.Catalog.{PutsDatabase};
-ghost use Rattle.zeb_register.specs.Clauses.{ChangesTable, InStore, OnStore};
 ghost use Rattle.zeb_register.specs.Store.{databases_tree};
 ghost use Rattle.zeb_register.specs.Tallies.{CountsNothing};
-ghost use Rattle.zeb_change.specs.Inside.{WorksInside};
+ghost use Rattle.zeb_change.specs.Inside.{WorksInsideOf};
 ghost use Rattle.zeb_change.specs.Reading.{NoneFailed, NoReadFault, TellsFaults};
-ghost use Rattle.zeb_change.specs.RecordChanges.{OnRows};
+ghost use Rattle.zeb_change.specs.RecordChanges.{OnRowsOf};
 ghost use Rattle.zeb_image.specs.NameOf.{name_bytes};
 ghost use Rattle.zeb_engine.specs.Changing.{HasNumbersTo};
 ghost use Rattle.zeb_engine.specs.PrivateChanging.{BeginsWith, IsMissedFor, last_of};
@@ -17,6 +16,7 @@ ghost use Rattle.zeb_engine.specs.PrivateConnections.{ReadsAlone};
 ghost use Rattle.zeb_engine.specs.PrivateDatabaseChanges.{AppliesChange, ChangesDatabase, Transacts, asked};
 ghost use Rattle.zeb_engine.specs.PrivateNumbers.{AreGiven, AreWellNumbered, IsMisnumbered};
 ghost use Rattle.zeb_engine.specs.Transactions.{Commanded};
+ghost use Rattle.zeb_register.specs.Connections.{ChangesTableOf, InStoreOf, InsideOf, OnStoreOf};
 
 use crate::readiness::existing_database;
 use crate::replies::Reply;
@@ -92,14 +92,11 @@ fn check_numbers<S: Alter>(
     last: u64,
 ) -> Result<(), RegFault>
     ensures same { tx.new.conn.ghost_name ≡ tx.old.conn.ghost_name }
-    ensures call { Inside (state S.Store tx.old.conn.now) (state S.Store tx.new.conn.now) result
-        (λ _. OnlyReads) }
-    ensures numbers { InStore (state S.Store tx.old.conn.now) (state S.Store tx.new.conn.now)
-        (λ trees.
-        OnOk result (HasNumbersTo last trees database.0)) }
-    ensures honest { InStore (state S.Store tx.old.conn.now) (state S.Store tx.new.conn.now)
-        (λ trees.
-        result ≡ Err RegFault.Damaged → ¬ AreWellNumbered last trees database.0) }
+    ensures call { InsideOf S.Store tx.old.conn tx.new.conn result (λ _. OnlyReads) }
+    ensures numbers { InStoreOf S.Store tx.old.conn tx.new.conn
+        (λ trees. OnOk result (HasNumbersTo last trees database.0)) }
+    ensures honest { InStoreOf S.Store tx.old.conn tx.new.conn
+        (λ trees. result ≡ Err RegFault.Damaged → ¬ AreWellNumbered last trees database.0) }
 {
     let next = number_above(last)?;
     let first = record_from_inside(tx, database, 0)?;
@@ -115,17 +112,13 @@ fn begin_change<S: Alter>(
     last: u64,
 ) -> Result<DatabaseId, RegFault>
     ensures same { tx.new.conn.ghost_name ≡ tx.old.conn.ghost_name }
-    ensures call { Inside (state S.Store tx.old.conn.now) (state S.Store tx.new.conn.now) result
-        (λ _. GoesOn) }
-    ensures put { ChangesTable databases_tree (state S.Store tx.old.conn.now)
-        (state S.Store tx.new.conn.now) result
+    ensures call { InsideOf S.Store tx.old.conn tx.new.conn result (λ _. GoesOn) }
+    ensures put { ChangesTableOf S.Store tx.old.conn tx.new.conn databases_tree result
         (λ id. PutsDatabase id.0 name.now (pos last)) }
-    ensures numbers { InStore (state S.Store tx.old.conn.now) (state S.Store tx.new.conn.now)
-        (λ trees.
-        IfOk result (λ id. HasNumbersTo last trees id.0)) }
-    ensures honest { InStore (state S.Store tx.old.conn.now) (state S.Store tx.new.conn.now) (λ _.
-        result ≡ Err RegFault.Damaged → IsMisnumbered name.now last
-        (state S.Store tx.old.conn.now).now) }
+    ensures numbers { InStoreOf S.Store tx.old.conn tx.new.conn (λ trees. IfOk result
+        (λ id. HasNumbersTo last trees id.0)) }
+    ensures honest { InStoreOf S.Store tx.old.conn tx.new.conn (λ _. result ≡ Err RegFault.Damaged
+        → IsMisnumbered name.now last (state S.Store tx.old.conn.now).now) }
 {
     let database = database_put(tx, name, last)?;
     check_numbers(tx, database, last)?;
@@ -141,13 +134,11 @@ fn apply<S: Alter, L: Layout, R: Source>(
     readers: &mut [R],
 ) -> Result<Reply, Refusal>
     ensures same { tx.new.conn.ghost_name ≡ tx.old.conn.ghost_name }
-    ensures inside { WorksInside (state S.Store tx.old.conn.now)
-        (state S.Store tx.new.conn.now) result }
-    ensures applies { OnRows (state S.Store tx.old.conn.now) (state S.Store tx.new.conn.now)
+    ensures inside { WorksInsideOf S.Store tx.old.conn tx.new.conn result }
+    ensures applies { OnRowsOf S.Store tx.old.conn tx.new.conn
         (AppliesChange (NoneFailed R.has_failed readers.new)
         (asked change.now.setting L.format L.row_work change.now.name.now
-        (map R.remaining readers.old))
-        (last_of change.now.found) work.old work.new
+        (map R.remaining readers.old)) (last_of change.now.found) work.old work.new
         (state S.Store tx.old.conn.now).now (state S.Store tx.new.conn.now).now result) }
     ensures faults { TellsFaults R.may_fail R.has_failed readers.old readers.new result }
     ensures no_work { CountsNothing L.format L.row_work → work.new ≡ work.old }
@@ -205,8 +196,8 @@ fn found_for<S: Alter, L: Layout>(
     ensures idle { connection.new.in_transaction ≡ false }
     ensures reads { ReadsAlone S.Store connection.old connection.new result }
     ensures unread { NoReadFault result }
-    ensures finds { OnStore (state S.Store connection.old) (state S.Store connection.new) (λ trees.
-        MatchResult result (BeginsWith setting.now.kind trees (name_bytes name.now))
+    ensures finds { OnStoreOf S.Store connection.old connection.new
+        (λ trees. MatchResult result (BeginsWith setting.now.kind trees (name_bytes name.now))
         (IsMissedFor setting.now.kind trees (name_bytes name.now))) }
 {
     match setting.kind {

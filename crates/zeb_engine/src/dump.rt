@@ -3,8 +3,6 @@
 ghost use Rattle.std.specs.Prelude.{◌≡◌, false, IfErr};
 ghost use Rattle.sqlite.specs.Held.{state};
 ghost use Rattle.zeb_register.specs.Answers.{TellsOr};
-ghost use Rattle.zeb_register.specs.Calls.{Reading};
-ghost use Rattle.zeb_register.specs.Clauses.{OnStore};
 ghost use Rattle.zeb_register.specs.Kept.{AreReadable};
 ghost use Rattle.zeb_search.specs.Untouched.{IsUntouched};
 ghost use Rattle.zeb_engine.specs.Dumping.{HidesRecords, DumpOver, JoinsRecords};
@@ -12,6 +10,7 @@ ghost use Rattle.zeb_engine.specs.Hidden.{TellsUnlessHidden};
 ghost use Rattle.zeb_image.specs.NameOf.{name_bytes};
 ghost use Rattle.zeb_engine.specs.PrivateConnections.{ReadsAlone};
 ghost use Rattle.zeb_engine.specs.PrivateLooking.{IsAskRefusal};
+ghost use Rattle.zeb_register.specs.Connections.{OnStoreOf, ReadingOf};
 
 use crate::readiness::existing_database;
 use crate::replies::Reply;
@@ -27,8 +26,7 @@ fn bytes_of<S: Alter>(
     connection: &mut Connection<S>,
     database: DatabaseId,
 ) -> Result<Vec<u8>, RegFault>
-    ensures call { Reading (state S.Store connection.old) (state S.Store connection.new) result
-        (λ _. IsUntouched) }
+    ensures call { ReadingOf S.Store connection.old connection.new result (λ _. IsUntouched) }
     // Whatever the tables hold, they are the bytes of records of the database, or one of its records can't be read.
     ensures told { TellsOr (λ trees. ¬ AreReadable trees database.0)
         (λ trees bytes. JoinsRecords trees database.0 bytes.items)
@@ -55,9 +53,9 @@ pub(crate) fn dump<S: Alter, L: Layout>(
     requires idle { connection.old.in_transaction ≡ false }
     ensures reads { ReadsAlone S.Store connection.old connection.new result }
     // Whatever the tables hold, it is of records that the database keeps, or refused by the definition, or as damage that they have.
-    ensures tables { OnStore (state S.Store connection.old) (state S.Store connection.new) (λ trees.
-        TellsUnlessHidden (DumpOver (name_bytes name.now)) (HidesRecords (name_bytes name.now))
-        trees result) }
+    ensures tables { OnStoreOf S.Store connection.old connection.new
+        (λ trees. TellsUnlessHidden (DumpOver (name_bytes name.now))
+        (HidesRecords (name_bytes name.now)) trees result) }
     ensures few { IfErr result IsAskRefusal }
 {
     let database = existing_database::<S, L>(alloc, connection, name)?;

@@ -5,8 +5,6 @@ ghost use Rattle.sqlite.specs.Held.{state};
 ghost use Rattle.sqlite.specs.State.{HasCleanDisk};
 ghost use Rattle.sqlite_rules.specs.Lists.{Has};
 ghost use Rattle.zeb_register.specs.Answers.{TellsOr};
-ghost use Rattle.zeb_register.specs.Calls.{Reading};
-ghost use Rattle.zeb_register.specs.Clauses.{OnStore};
 ghost use Rattle.zeb_search.specs.Registers.{has_ident_in};
 ghost use Rattle.zeb_search.specs.Untouched.{IsUntouched};
 ghost use Rattle.zeb_change.specs.Refused.{why_of, store_failed, Meets};
@@ -15,6 +13,7 @@ ghost use Rattle.zeb_engine.specs.Hidden.{TellsUnlessHidden};
 ghost use Rattle.zeb_image.specs.NameOf.{name_bytes};
 ghost use Rattle.zeb_engine.specs.PrivateConnections.{ReadsAlone};
 ghost use Rattle.zeb_engine.specs.PrivateLooking.{IsAskRefusal};
+ghost use Rattle.zeb_register.specs.Connections.{OnStoreOf, ReadingOf};
 
 use crate::readiness::existing_database;
 use crate::replies::{Hit, Reply};
@@ -45,8 +44,7 @@ fn show<S: Alter>(
     database: DatabaseId,
     numbers: &[u64],
 ) -> Result<Vec<Hit>, RegFault>
-    ensures call { Reading (state S.Store connection.old) (state S.Store connection.new) result
-        (λ _. IsUntouched) }
+    ensures call { ReadingOf S.Store connection.old connection.new result (λ _. IsUntouched) }
     // Whatever the tables hold, each is a kept record's, or, where a column can hold the numbers, one of them can't be shown.
     ensures told { TellsOr (λ trees. ((n : ℕ) → Has numbers.now n → n < 2 ^ 63)
         → HidesOne trees database.0 numbers.now)
@@ -104,8 +102,8 @@ pub(crate) fn find<S: Alter, L: Layout>(
     ensures reads { ReadsAlone S.Store connection.old connection.new result }
     // Whatever the tables hold, the hits are those that the units tell, a hit is shown only as a record that is kept, and damage is told for a
     // row that the query asks for.
-    ensures tables { OnStore (state S.Store connection.old) (state S.Store connection.new) (λ trees.
-        TellsUnlessHidden (FindOver L.format profile.now (name_bytes name.now)
+    ensures tables { OnStoreOf S.Store connection.old connection.new
+        (λ trees. TellsUnlessHidden (FindOver L.format profile.now (name_bytes name.now)
         question.entry.query.now question.entry.first question.entry.count)
         (HidesFind L.format profile.now (name_bytes name.now) question.entry.query.now
         question.entry.first question.entry.count) trees result) }

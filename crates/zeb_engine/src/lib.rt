@@ -10,6 +10,7 @@ mod find;
 mod looks;
 mod readiness;
 mod refusals;
+mod registers;
 mod renewals;
 mod replies;
 mod scan;
@@ -20,8 +21,8 @@ mod writes;
 
 pub use commands::Command;
 pub use refusals::{refusal_line, status};
+pub use registers::Session;
 pub use replies::{Hit, Holding, Reply, render};
-pub use session::Session;
 pub use zeb_analysis::AnalysedLines;
 pub use zeb_change::{Kind, Limits, RecordFault, Refusal};
 pub use zeb_image::DbName;

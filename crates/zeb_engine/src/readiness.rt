@@ -3,12 +3,12 @@
 ghost use Rattle.std.specs.Prelude.{◌≡◌, false, IfErr};
 ghost use Rattle.sqlite.specs.Held.{state};
 ghost use Rattle.sqlite.specs.State.{HasCleanDisk};
-ghost use Rattle.zeb_register.specs.Clauses.{OnStore};
 ghost use Rattle.zeb_register.specs.Formats.{version_of};
 ghost use Rattle.zeb_image.specs.NameOf.{name_bytes};
 ghost use Rattle.zeb_engine.specs.PrivateLooking.{FindsNamed, IsAskRefusal, IsLook, IsUnready, RefusesTexts};
 ghost use Rattle.zeb_engine.specs.Readiness.{IsReadyFor};
 ghost use Rattle.zeb_engine.specs.PrivateConnections.{CommitsNothing, LooksReady, ReadsAlone};
+ghost use Rattle.zeb_register.specs.Connections.{OnStoreOf};
 
 use crate::looks::{keeps_text, kept_version};
 use sqlite::{Alter, Connection};
@@ -82,8 +82,8 @@ pub(crate) fn existing_database<S: Alter, L: Layout>(
     requires idle { connection.old.in_transaction ≡ false }
     ensures reads { ReadsAlone S.Store connection.old connection.new result }
     // Whatever the tables hold, it goes by the row of the name.
-    ensures finds { OnStore (state S.Store connection.old) (state S.Store connection.new) (λ trees.
-        FindsNamed (name_bytes name.now) trees result) }
+    ensures finds { OnStoreOf S.Store connection.old connection.new
+        (λ trees. FindsNamed (name_bytes name.now) trees result) }
     ensures few { IfErr result IsAskRefusal }
 {
     match database_of(connection, name.as_str())? {

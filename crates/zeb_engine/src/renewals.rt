@@ -4,7 +4,6 @@ ghost use Rattle.std.specs.Prelude.{◌≡◌, ◌≢◌, ◌↔◌, false, IfOk
 ghost use Rattle.sqlite.specs.Held.{state};
 ghost use Rattle.sqlite.specs.State.{HasCleanDisk};
 ghost use Rattle.zeb_profile.specs.Canonical.{canonical_text};
-ghost use Rattle.zeb_register.specs.Calls.{Reading};
 ghost use Rattle.zeb_register.specs.Formats.{version_of};
 ghost use Rattle.zeb_register.specs.Store.{IsStore};
 ghost use Rattle.zeb_change.specs.Base.{Base};
@@ -16,6 +15,7 @@ ghost use Rattle.zeb_change.specs.Conditions.{conditions};
 ghost use Rattle.zeb_engine.specs.Costs.{no_work};
 ghost use Rattle.zeb_engine.specs.PrivateDone.{CommandDone};
 ghost use Rattle.zeb_engine.specs.PrivateLooking.{earlier_version};
+ghost use Rattle.zeb_register.specs.Connections.{ReadingOf};
 
 use crate::commands::Command;
 use crate::looks::{Earlier, Standing, check_layout, check_rule};
@@ -60,7 +60,7 @@ fn is_earlier_image<S: Alter>(
     profile: &Profile,
     earlier: Earlier,
 ) -> Result<bool, RegFault>
-    ensures call { Reading (state S.Store connection.old) (state S.Store connection.new) result
+    ensures call { ReadingOf S.Store connection.old connection.new result
         (λ it. Looks (IsTrue it)) }
     ensures value { HasCleanDisk (state S.Store connection.new)
         → IsStore (state S.Store connection.old)

@@ -5,14 +5,13 @@ ghost use Rattle.sqlite.specs.Held.{state};
 ghost use Rattle.sqlite.specs.State.{HasCleanDisk};
 ghost use Rattle.zeb_query.specs.Plans.{scan_value};
 ghost use Rattle.zeb_register.specs.Answers.{TellsOr};
-ghost use Rattle.zeb_register.specs.Calls.{Reading};
-ghost use Rattle.zeb_register.specs.Clauses.{OnStore};
 ghost use Rattle.zeb_search.specs.Untouched.{IsUntouched};
 ghost use Rattle.zeb_engine.specs.Scanning.{HidesAround, HidesTerms, ScanOver, TellsAround, ScanReads};
 ghost use Rattle.zeb_engine.specs.Hidden.{TellsUnlessHidden};
 ghost use Rattle.zeb_image.specs.NameOf.{name_bytes};
 ghost use Rattle.zeb_engine.specs.PrivateConnections.{ReadsAlone};
 ghost use Rattle.zeb_engine.specs.PrivateLooking.{IsAskRefusal};
+ghost use Rattle.zeb_register.specs.Connections.{OnStoreOf, ReadingOf};
 
 use crate::readiness::existing_database;
 use crate::replies::Reply;
@@ -52,8 +51,7 @@ fn terms_around<S: Alter, L: Layout>(
     plan: &ScanPlan,
     around: &Around<'_>,
 ) -> Result<Vec<TermCount>, RegFault>
-    ensures call { Reading (state S.Store connection.old) (state S.Store connection.new) result
-        (λ _. IsUntouched) }
+    ensures call { ReadingOf S.Store connection.old connection.new result (λ _. IsUntouched) }
     // Whatever the tables hold, they are those that the counts tell, or the count of one of them can't be shown.
     ensures told { TellsOr (λ trees. HidesAround L.format trees database.0 (scan_value plan.now)
         around.now.number around.now.position)
@@ -91,8 +89,8 @@ pub(crate) fn scan<S: Alter, L: Layout>(
     ensures reads { ReadsAlone S.Store connection.old connection.new result }
     // Whatever the tables hold, the terms are those that the rows around the start tell, or it is refused by the definition, or as damage
     // that these rows or the database's have.
-    ensures tables { OnStore (state S.Store connection.old) (state S.Store connection.new) (λ trees.
-        TellsUnlessHidden (ScanOver L.format profile.now (name_bytes name.now)
+    ensures tables { OnStoreOf S.Store connection.old connection.new
+        (λ trees. TellsUnlessHidden (ScanOver L.format profile.now (name_bytes name.now)
         around.entry.query.now around.entry.number around.entry.position)
         (HidesTerms L.format profile.now (name_bytes name.now) around.entry.query.now
         around.entry.number around.entry.position) trees result) }

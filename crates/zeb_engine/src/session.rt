@@ -3,19 +3,19 @@
 ghost use Rattle.std.specs.Prelude.{◌≡◌, ◌⊎◌, MatchResult, false, IfErr, IfOk, IsErrAnd, length};
 ghost use Rattle.sqlite.specs.Held.{state};
 ghost use Rattle.sqlite.specs.State.{HasCleanDisk};
-ghost use Rattle.zeb_change.specs.Conditions.{conditions};
 ghost use Rattle.zeb_engine.specs.Counts.{CommandCounts};
 ghost use Rattle.zeb_engine.specs.Crashes.{AdoptLasts, CommandLasts, RunLasts};
 ghost use Rattle.zeb_engine.specs.Does.{AnswersAnyway, CommandOverTables};
 ghost use Rattle.zeb_engine.specs.Headline.{Headline};
 ghost use Rattle.zeb_engine.specs.PrivateDone.{CommandDone};
+ghost use Rattle.zeb_engine.specs.Sessions.{KeepsConditions, conditions_in};
 ghost use Rattle.zeb_engine.specs.Transactions.{CommandHolds};
 ghost use Rattle.zeb_engine.specs.Works.{CommandTurns, InTurn, RunHolds, ServesCommand};
-ghost use Rattle.zeb_register.specs.Formats.{version_of};
 
 use crate::analysis::analyse_files;
 use crate::commands::Command;
 use crate::find::Question;
+use crate::registers::Session;
 use crate::renewals::{reindex, upgrade};
 use crate::replies::Reply;
 use crate::scan::Around;
@@ -32,30 +32,6 @@ mod asking;
 mod changing;
 mod layouts;
 mod writing;
-
-/// A register under a profile. No transaction is open between two commands.
-pub struct Session<S: Alter, L: Layout> {
-    connection: Connection<S>,
-    profile: Profile,
-    limits: Limits,
-    alloc: Global,
-    work: Work,
-    layout: PhantomData<L>,
-    ghost idle: { connection.in_transaction ≡ false },
-}
-
-impl<S: Alter + Drop, L: Layout> Drop for Session<S, L> {
-    fn drop(self) {
-        let Session {
-            connection: _,
-            profile: _,
-            limits: _,
-            alloc: _,
-            work: _,
-            layout: _,
-        } = self;
-    }
-}
 
 impl<S: Alter, L: Layout> Session<S, L> {
     ghost use Rattle.zeb_engine.specs.Adopting.{HasOtherTables};
@@ -104,22 +80,6 @@ impl<S: Alter, L: Layout> Session<S, L> {
         })
     }
 
-    /// Gives the connection back.
-    pub fn release(self) -> Connection<S>
-        ensures same { result ≡ self.connection }
-        ensures idle { result.in_transaction ≡ false }
-    {
-        let Session {
-            connection,
-            profile: _,
-            limits: _,
-            alloc: _,
-            work: _,
-            layout: _,
-        } = self;
-        connection
-    }
-
     /// The work on the registers that the last command counted. In packed blocks a change, a find, a scan and a stat count theirs. In leaves a
     /// change alone does, and in single rows nothing is counted. No other command counts any.
     pub fn work(&self) -> Work
@@ -132,33 +92,25 @@ impl<S: Alter, L: Layout> Session<S, L> {
     pub fn command(&mut self, command: &Command) -> Result<Reply, Refusal>
         // From tables that keep what a register holds it is answered as a step of a run, and they keep what is held then.
         ensures step { HasCleanDisk (state S.Store self.new.connection)
-            → ServesCommand (conditions (version_of L.format) self.old.profile self.old.limits)
-            command.now
+            → ServesCommand (conditions_in L.format self.old) command.now
             (state S.Store self.old.connection) (state S.Store self.new.connection) result }
         // What it does on any tables, why it is refused there, and that nothing changes then.
         ensures tables { HasCleanDisk (state S.Store self.new.connection)
-            → CommandOverTables L.format (conditions (version_of L.format) self.old.profile
-            self.old.limits) command.now
+            → CommandOverTables L.format (conditions_in L.format self.old) command.now
             (state S.Store self.old.connection) (state S.Store self.new.connection) result }
         // Whatever the store and the disk do: an analysis is answered by its files, and only a failure refuses an init.
-        ensures answers { AnswersAnyway (conditions (version_of L.format) self.old.profile
-            self.old.limits) command.now
-            result }
+        ensures answers { AnswersAnyway (conditions_in L.format self.old) command.now result }
         // What it has done to the connection; the session's profile and limits stay.
         ensures holds { CommandHolds S.Store command.now self.old.connection self.new.connection
-            result
-            × ((self.new.profile ≡ self.old.profile) × (self.new.limits ≡ self.old.limits)) }
+            result × KeepsConditions self.old self.new }
         // What a crash leaves.
-        ensures lasts { CommandLasts L.format (conditions (version_of L.format) self.old.profile
-            self.old.limits)
-            command.now (state S.Store self.old.connection) (state S.Store self.new.connection)
-            result }
+        ensures lasts { CommandLasts L.format (conditions_in L.format self.old) command.now
+            (state S.Store self.old.connection) (state S.Store self.new.connection) result }
         // What it has counted. Of an accepted change in packed blocks each of the four counts is the number of changed keys.
         // In leaves the counts are bounded: at most as many leaves count as read, and as written as many and those that come.
         ensures counts { CommandCounts L.format L.row_work L.block_rows
-            (conditions (version_of L.format) self.old.profile self.old.limits) command.now
-            (state S.Store self.old.connection) (state S.Store self.new.connection) result
-            self.new.work }
+            (conditions_in L.format self.old) command.now (state S.Store self.old.connection)
+            (state S.Store self.new.connection) result self.new.work }
     {
         let answer = self.carry_out(command);
         // What is shown is what was committed.
@@ -168,10 +120,9 @@ impl<S: Alter, L: Layout> Session<S, L> {
 
     fn carry_out(&mut self, command: &Command) -> Result<Reply, Refusal>
         ensures done { CommandDone S.Store L.format L.row_work L.block_rows
-            (conditions (version_of L.format) self.old.profile self.old.limits) command.now
-            self.old.connection self.new.connection result self.new.work }
-        ensures under { (self.new.profile ≡ self.old.profile)
-            × (self.new.limits ≡ self.old.limits) }
+            (conditions_in L.format self.old) command.now self.old.connection self.new.connection
+            result self.new.work }
+        ensures under { KeepsConditions self.old self.new }
     {
         self.work = Work::default();
         match command {
@@ -226,26 +177,23 @@ impl<S: Alter, L: Layout> Session<S, L> {
     /// for the answers: nothing was carried out then.
     pub fn run_all(&mut self, commands: &[Command]) -> Result<Vec<Result<Reply, Refusal>>, Refusal>
         // The headline.
-        ensures run { IfOk result (λ answers. Headline
-            (conditions (version_of L.format) self.old.profile self.old.limits) commands.now
-            answers.items
-            (state S.Store self.old.connection) (state S.Store self.new.connection)) }
+        ensures run { IfOk result (λ answers. Headline (conditions_in L.format self.old)
+            commands.now answers.items (state S.Store self.old.connection)
+            (state S.Store self.new.connection)) }
         ensures count { IfOk result (λ answers. length answers.items ≡ length commands.now) }
         // On any tables each command in turn does what is said of one command, on what the one before it left.
         ensures turns { HasCleanDisk (state S.Store self.new.connection)
             → IfOk result (λ answers. InTurn S.Store
-            (CommandTurns L.format L.row_work L.block_rows
-            (conditions (version_of L.format) self.old.profile self.old.limits))
+            (CommandTurns L.format L.row_work L.block_rows (conditions_in L.format self.old))
             commands.now answers.items self.old.connection self.old.work self.new.connection
             self.new.work) }
         // What it has done to the connection; the session's profile and limits stay.
         ensures holds { (HasCleanDisk (state S.Store self.new.connection)
-            → IfOk result (λ answers. RunHolds commands.now
-            answers.items (state S.Store self.old.connection) (state S.Store self.new.connection)))
-            × ((self.new.profile ≡ self.old.profile) × (self.new.limits ≡ self.old.limits)) }
+            → IfOk result (λ answers. RunHolds commands.now answers.items
+            (state S.Store self.old.connection) (state S.Store self.new.connection)))
+            × KeepsConditions self.old self.new }
         // What a crash leaves.
-        ensures lasts { RunLasts (conditions (version_of L.format) self.old.profile self.old.limits)
-            commands.now
+        ensures lasts { RunLasts (conditions_in L.format self.old) commands.now
             (state S.Store self.old.connection) (state S.Store self.new.connection) result }
         ensures memory { IfErr result (λ refusal.
             (refusal ≡ Refusal.Memory) × (self.new.connection ≡ self.old.connection)) }

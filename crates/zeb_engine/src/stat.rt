@@ -3,8 +3,6 @@
 ghost use Rattle.std.specs.Prelude.{◌≡◌, ◌++◌, false, IfErr, IfOk, OnOk, string_bytes};
 ghost use Rattle.sqlite.specs.Held.{state};
 ghost use Rattle.zeb_register.specs.Answers.{TellsOr};
-ghost use Rattle.zeb_register.specs.Calls.{Reading};
-ghost use Rattle.zeb_register.specs.Clauses.{OnStore};
 ghost use Rattle.zeb_search.specs.Untouched.{IsUntouched};
 ghost use Rattle.zeb_engine.specs.Counting.{HidesRegister, HidesRegisters, IsSummedUp, StatOver, Paired, name_of_index, target_in, target_list};
 ghost use Rattle.zeb_engine.specs.Hidden.{TellsUnlessHidden};
@@ -12,6 +10,7 @@ ghost use Rattle.zeb_engine.specs.Answers.{extent_of};
 ghost use Rattle.zeb_image.specs.NameOf.{name_bytes};
 ghost use Rattle.zeb_engine.specs.PrivateConnections.{ReadsAlone};
 ghost use Rattle.zeb_engine.specs.PrivateLooking.{IsAskRefusal};
+ghost use Rattle.zeb_register.specs.Connections.{OnStoreOf, ReadingOf};
 
 use crate::readiness::existing_database;
 use crate::replies::{Holding, Reply};
@@ -84,8 +83,7 @@ fn holdings_of<S: Alter, L: Layout>(
     database: DatabaseId,
     targets: &[(u32, Register)],
 ) -> Result<Vec<Holding>, RegFault>
-    ensures call { Reading (state S.Store connection.old) (state S.Store connection.new) result
-        (λ _. IsUntouched) }
+    ensures call { ReadingOf S.Store connection.old connection.new result (λ _. IsUntouched) }
     // Whatever the tables hold, each stands under the name of its index, and is what its register sums up to.
     ensures told { TellsOr (λ trees. HidesRegister L.format targets.now trees database.0)
         (λ trees holdings. Paired (λ target holding.
@@ -120,8 +118,8 @@ pub(crate) fn stat<S: Alter, L: Layout>(
     ensures reads { ReadsAlone S.Store connection.old connection.new result }
     // Whatever the tables hold, the records are counted, the last number is told and the rows of the registers are sound, or it is refused by
     // the definition, or as damage that these rows or the database's have.
-    ensures tables { OnStore (state S.Store connection.old) (state S.Store connection.new) (λ trees.
-        TellsUnlessHidden (StatOver L.format profile.now (name_bytes name.now))
+    ensures tables { OnStoreOf S.Store connection.old connection.new
+        (λ trees. TellsUnlessHidden (StatOver L.format profile.now (name_bytes name.now))
         (HidesRegisters L.format profile.now (name_bytes name.now)) trees result) }
     ensures few { IfErr result IsAskRefusal }
     ensures no_work { L.row_work ≡ 0 → work.new ≡ work.old }

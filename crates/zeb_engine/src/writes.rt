@@ -5,13 +5,13 @@ ghost use Rattle.sqlite.specs.Held.{state};
 ghost use Rattle.sqlite.specs.State.{Survives};
 ghost use Rattle.zeb_profile.specs.Canonical.{canonical_text};
 ghost use Rattle.zeb_register.specs.Answers.{Answers, IfDamaged};
-ghost use Rattle.zeb_register.specs.Calls.{GoesOn, Inside};
+ghost use Rattle.zeb_register.specs.Calls.{GoesOn};
 ghost use Rattle.zeb_register.specs.Formats.{version_of};
 ghost use Rattle.zeb_register.specs.Store.{meta_tree};
 ghost use Rattle.zeb_change.specs.declared.settings.Limits.{Limits};
 ghost use Rattle.zeb_change.specs.Conditions.{conditions};
 ghost use Rattle.zeb_change.specs.Outcomes.{register_refusal};
-ghost use Rattle.zeb_change.specs.RecordChanges.{OnRows};
+ghost use Rattle.zeb_change.specs.RecordChanges.{OnRowsOf};
 ghost use Rattle.zeb_image.specs.NameOf.{name_bytes};
 ghost use Rattle.zeb_image.specs.Rebuilding.{AreSound};
 ghost use Rattle.zeb_engine.specs.Costs.{no_work};
@@ -20,6 +20,7 @@ ghost use Rattle.zeb_engine.specs.PrivateDone.{CommandDone};
 ghost use Rattle.zeb_engine.specs.PrivateLooking.{IsAskRefusal};
 ghost use Rattle.zeb_engine.specs.PrivateWriting.{LeavesNoDatabase, CreatesDatabase, DropsNamed, IsUnsound, IsWriteRefusal, MakesRow, PutsTexts, RemakesRows, TakesRows, WriteDoes, WriteWorks};
 ghost use Rattle.zeb_engine.specs.Transactions.{Commanded};
+ghost use Rattle.zeb_register.specs.Connections.{InsideOf};
 
 use crate::commands::Command;
 use crate::readiness::{IDENTIFIER, PROFILE, VERSION, existing_database};
@@ -63,9 +64,8 @@ fn put_texts<S: Alter>(
     pattern: &str,
 ) -> Result<(), Error>
     ensures same { tx.new.conn.ghost_name ≡ tx.old.conn.ghost_name }
-    ensures call { Inside (state S.Store tx.old.conn.now) (state S.Store tx.new.conn.now) result
-        (λ _. GoesOn) }
-    ensures put { OnRows (state S.Store tx.old.conn.now) (state S.Store tx.new.conn.now)
+    ensures call { InsideOf S.Store tx.old.conn tx.new.conn result (λ _. GoesOn) }
+    ensures put { OnRowsOf S.Store tx.old.conn tx.new.conn
         ((state S.Store tx.old.conn.now).now.trees meta_tree ≡ []
         → OnOk result (PutsTexts version.now text.now pattern.now (state S.Store tx.old.conn.now)
         (state S.Store tx.new.conn.now))) }
@@ -83,9 +83,8 @@ fn init<S: Alter, L: Layout>(
     pattern: &str,
 ) -> Result<(), RegFault>
     ensures same { tx.new.conn.ghost_name ≡ tx.old.conn.ghost_name }
-    ensures call { Inside (state S.Store tx.old.conn.now) (state S.Store tx.new.conn.now) result
-        (λ _. GoesOn) }
-    ensures begins { OnRows (state S.Store tx.old.conn.now) (state S.Store tx.new.conn.now)
+    ensures call { InsideOf S.Store tx.old.conn tx.new.conn result (λ _. GoesOn) }
+    ensures begins { OnRowsOf S.Store tx.old.conn tx.new.conn
         (OnOk result (LeavesNoDatabase L.format profile.now pattern.now
         (state S.Store tx.new.conn.now).now)) }
     ensures whole { result ≢ Err RegFault.Damaged }
@@ -98,11 +97,10 @@ fn init<S: Alter, L: Layout>(
 /// An empty database under a name that has none.
 fn create<S: Alter, L: Layout>(tx: &mut Transaction<'_, S>, name: &DbName) -> Result<(), RegFault>
     ensures same { tx.new.conn.ghost_name ≡ tx.old.conn.ghost_name }
-    ensures call { Inside (state S.Store tx.old.conn.now) (state S.Store tx.new.conn.now) result
-        (λ _. GoesOn) }
-    ensures makes { OnRows (state S.Store tx.old.conn.now) (state S.Store tx.new.conn.now)
-        (Answers (IfDamaged ⊥) (λ _. MakesRow (name_bytes name.now)
-        (state S.Store tx.old.conn.now).now (state S.Store tx.new.conn.now).now) result) }
+    ensures call { InsideOf S.Store tx.old.conn tx.new.conn result (λ _. GoesOn) }
+    ensures makes { OnRowsOf S.Store tx.old.conn tx.new.conn (Answers (IfDamaged ⊥)
+        (λ _. MakesRow (name_bytes name.now) (state S.Store tx.old.conn.now).now
+        (state S.Store tx.new.conn.now).now) result) }
 {
     database_put(tx, name.as_str(), 0)?;
     Ok(())
@@ -115,11 +113,10 @@ fn take<S: Alter, L: Layout>(
     id: DatabaseId,
 ) -> Result<(), RegFault>
     ensures same { tx.new.conn.ghost_name ≡ tx.old.conn.ghost_name }
-    ensures call { Inside (state S.Store tx.old.conn.now) (state S.Store tx.new.conn.now) result
-        (λ _. GoesOn) }
-    ensures takes { OnRows (state S.Store tx.old.conn.now) (state S.Store tx.new.conn.now)
-        (Answers (IfDamaged ⊥) (λ _. TakesRows L.format id.0
-        (state S.Store tx.old.conn.now).now (state S.Store tx.new.conn.now).now) result) }
+    ensures call { InsideOf S.Store tx.old.conn tx.new.conn result (λ _. GoesOn) }
+    ensures takes { OnRowsOf S.Store tx.old.conn tx.new.conn (Answers (IfDamaged ⊥)
+        (λ _. TakesRows L.format id.0 (state S.Store tx.old.conn.now).now
+        (state S.Store tx.new.conn.now).now) result) }
 {
     L::database_take(tx, id)?;
     Ok(())
@@ -132,9 +129,8 @@ fn reindex<S: Alter, L: Layout>(
     profile: &Profile,
 ) -> Result<(), RegFault>
     ensures same { tx.new.conn.ghost_name ≡ tx.old.conn.ghost_name }
-    ensures call { Inside (state S.Store tx.old.conn.now) (state S.Store tx.new.conn.now) result
-        (λ _. GoesOn) }
-    ensures remakes { OnRows (state S.Store tx.old.conn.now) (state S.Store tx.new.conn.now)
+    ensures call { InsideOf S.Store tx.old.conn tx.new.conn result (λ _. GoesOn) }
+    ensures remakes { OnRowsOf S.Store tx.old.conn tx.new.conn
         (Answers (IfDamaged (IsUnsound profile.now (state S.Store tx.old.conn.now).now.trees))
         (λ _. AreSound profile.now (state S.Store tx.old.conn.now).now.trees
         × RemakesRows L.format profile.now (codes "profile") (canonical_text profile.now)
@@ -152,9 +148,8 @@ fn upgrade<S: Alter, L: Layout>(
     profile: &Profile,
 ) -> Result<(), RegFault>
     ensures same { tx.new.conn.ghost_name ≡ tx.old.conn.ghost_name }
-    ensures call { Inside (state S.Store tx.old.conn.now) (state S.Store tx.new.conn.now) result
-        (λ _. GoesOn) }
-    ensures remakes { OnRows (state S.Store tx.old.conn.now) (state S.Store tx.new.conn.now)
+    ensures call { InsideOf S.Store tx.old.conn tx.new.conn result (λ _. GoesOn) }
+    ensures remakes { OnRowsOf S.Store tx.old.conn tx.new.conn
         (Answers (IfDamaged (IsUnsound profile.now (state S.Store tx.old.conn.now).now.trees))
         (λ _. RemakesRows L.format profile.now (codes "version") (version_of L.format)
         (state S.Store tx.old.conn.now).now (state S.Store tx.new.conn.now).now) result) }
@@ -169,9 +164,8 @@ fn apply<S: Alter, L: Layout>(
     write: &Write<'_>,
 ) -> Result<(), RegFault>
     ensures same { tx.new.conn.ghost_name ≡ tx.old.conn.ghost_name }
-    ensures call { Inside (state S.Store tx.old.conn.now) (state S.Store tx.new.conn.now) result
-        (λ _. GoesOn) }
-    ensures works { OnRows (state S.Store tx.old.conn.now) (state S.Store tx.new.conn.now)
+    ensures call { InsideOf S.Store tx.old.conn tx.new.conn result (λ _. GoesOn) }
+    ensures works { OnRowsOf S.Store tx.old.conn tx.new.conn
         (WriteWorks L.format write.now (state S.Store tx.old.conn.now).now
         (state S.Store tx.new.conn.now).now result) }
     ensures few { IfErr result (λ fault. IsWriteRefusal write.now (register_refusal fault)) }

@@ -4,8 +4,6 @@ ghost use Rattle.std.specs.Prelude.{◌≢◌, ◌↔◌, IsSome, IsTrue, IfOk, 
 ghost use Rattle.sqlite.specs.Held.{state};
 ghost use Rattle.sqlite.specs.State.{HasCleanDisk};
 ghost use Rattle.zeb_profile.specs.Canonical.{canonical_text};
-ghost use Rattle.zeb_register.specs.Calls.{Reading};
-ghost use Rattle.zeb_register.specs.Clauses.{IsReasoned};
 ghost use Rattle.zeb_register.specs.Formats.{version_of};
 ghost use Rattle.zeb_register.specs.Store.{IsStore};
 ghost use Rattle.zeb_change.specs.Base.{Base};
@@ -13,6 +11,7 @@ ghost use Rattle.zeb_image.specs.Holdings.{under};
 ghost use Rattle.zeb_image.specs.Image.{IsImage};
 ghost use Rattle.zeb_image.specs.Looking.{Looks};
 ghost use Rattle.zeb_image.specs.PrivateChecking.{IsExpectationOrNone};
+ghost use Rattle.zeb_register.specs.Connections.{IsReasonedOf, ReadingOf};
 
 use crate::checking_databases::expected_databases;
 use sqlite::{Alter, Connection};
@@ -32,7 +31,7 @@ pub fn is_image<S: Alter, L: Layout>(
     connection: &mut Connection<S>,
     profile: &Profile,
 ) -> Result<bool, RegFault>
-    ensures call { Reading (state S.Store connection.old) (state S.Store connection.new) result
+    ensures call { ReadingOf S.Store connection.old connection.new result
         (λ it. Looks (IsTrue it)) }
     ensures value { HasCleanDisk (state S.Store connection.new)
         → IsStore (state S.Store connection.old)
@@ -40,8 +39,7 @@ pub fn is_image<S: Alter, L: Layout>(
         × IsImage (state S.Store connection.old).now.trees
         (under (version_of L.format) (canonical_text profile.now) bases))) }
     ensures honest { result ≢ Err RegFault.Damaged }
-    ensures refused { IsReasoned (state S.Store connection.old) (state S.Store connection.new)
-        result }
+    ensures refused { IsReasonedOf S.Store connection.old connection.new result }
 {
     // Its profile is some text's.
     profile.is_of_some_text();
@@ -57,15 +55,14 @@ fn expectation<S: Alter, L: Layout>(
     connection: &mut Connection<S>,
     profile: &Profile,
 ) -> Result<Option<Expected>, RegFault>
-    ensures call { Reading (state S.Store connection.old) (state S.Store connection.new) result
+    ensures call { ReadingOf S.Store connection.old connection.new result
         (λ found. Looks (IsSome found)) }
     ensures value { HasCleanDisk (state S.Store connection.new)
         → IsStore (state S.Store connection.old)
         → IfOk result (IsExpectationOrNone L.format profile.now
         (state S.Store connection.old).now.trees) }
     ensures honest { result ≢ Err RegFault.Damaged }
-    ensures refused { IsReasoned (state S.Store connection.old) (state S.Store connection.new)
-        result }
+    ensures refused { IsReasonedOf S.Store connection.old connection.new result }
 {
     let Some(databases) = expected_databases(alloc, connection, profile)? else {
         return Ok(None);

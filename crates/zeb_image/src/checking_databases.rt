@@ -3,11 +3,10 @@
 ghost use Rattle.std.specs.Prelude.{◌≢◌, IsSome, IfOk};
 ghost use Rattle.sqlite.specs.Held.{state};
 ghost use Rattle.sqlite.specs.State.{HasCleanDisk, IsUnchanged};
-ghost use Rattle.zeb_register.specs.Calls.{Reading};
-ghost use Rattle.zeb_register.specs.Clauses.{IsReasoned};
 ghost use Rattle.zeb_register.specs.Store.{IsStore};
 ghost use Rattle.zeb_image.specs.Looking.{Looks};
 ghost use Rattle.zeb_image.specs.PrivateChecking.{AreMadeOrNone, IsMadeOrNone};
+ghost use Rattle.zeb_register.specs.Connections.{IsReasonedOf, ReadingOf};
 
 use crate::checking_records::postings_of;
 use crate::names::DbName;
@@ -23,14 +22,13 @@ pub(crate) fn expected_databases<S: Alter>(
     connection: &mut Connection<S>,
     profile: &Profile,
 ) -> Result<Option<Vec<ExpectedDatabase>>, RegFault>
-    ensures call { Reading (state S.Store connection.old) (state S.Store connection.new) result
+    ensures call { ReadingOf S.Store connection.old connection.new result
         (λ found. Looks (IsSome found)) }
     ensures value { HasCleanDisk (state S.Store connection.new)
         → IsStore (state S.Store connection.old)
         → IfOk result (AreMadeOrNone profile.now (state S.Store connection.old).now.trees) }
     ensures honest { result ≢ Err RegFault.Damaged }
-    ensures refused { IsReasoned (state S.Store connection.old) (state S.Store connection.new)
-        result }
+    ensures refused { IsReasonedOf S.Store connection.old connection.new result }
 {
     let list = match databases(alloc, connection) {
         Ok(list) => list,
@@ -54,14 +52,13 @@ fn expected_database<S: Alter>(
     profile: &Profile,
     listed: ListedDatabase,
 ) -> Result<Option<ExpectedDatabase>, RegFault>
-    ensures call { Reading (state S.Store connection.old) (state S.Store connection.new) result
+    ensures call { ReadingOf S.Store connection.old connection.new result
         (λ found old new. IsSome found → IsUnchanged old new) }
     ensures value { HasCleanDisk (state S.Store connection.new)
         → IsStore (state S.Store connection.old)
         → IfOk result (IsMadeOrNone profile.now (state S.Store connection.old).now.trees listed) }
     ensures honest { result ≢ Err RegFault.Damaged }
-    ensures refused { IsReasoned (state S.Store connection.old) (state S.Store connection.new)
-        result }
+    ensures refused { IsReasonedOf S.Store connection.old connection.new result }
 {
     let ListedDatabase { id, name, last } = listed;
     if last > Limits::GREATEST.numbers || DbName::read(name.as_str()).is_none() {

@@ -2,11 +2,11 @@
 
 ghost use Rattle.std.specs.Prelude.{◌≡◌};
 ghost use Rattle.sqlite.specs.Held.{state};
-ghost use Rattle.zeb_register.specs.Calls.{GoesOn, Inside};
-ghost use Rattle.zeb_register.specs.Clauses.{InStore};
-ghost use Rattle.zeb_change.specs.Inside.{WorksInside};
+ghost use Rattle.zeb_register.specs.Calls.{GoesOn};
+ghost use Rattle.zeb_change.specs.Inside.{WorksInsideOf};
 ghost use Rattle.zeb_image.specs.Rebuilding.{Rebuilds};
 ghost use Rattle.zeb_image.specs.PrivateRebuilding.{PostsDatabase};
+ghost use Rattle.zeb_register.specs.Connections.{InStoreOf, InsideOf};
 
 use crate::rebuilding_records::record_note;
 use sqlite::{Alter, Transaction};
@@ -35,9 +35,8 @@ pub fn rebuild<S: Alter, L: Layout>(
     profile: &Profile,
 ) -> Result<(), RegFault>
     ensures same { tx.new.conn.ghost_name ≡ tx.old.conn.ghost_name }
-    ensures call { Inside (state S.Store tx.old.conn.now) (state S.Store tx.new.conn.now) result
-        (λ _. GoesOn) }
-    ensures rebuilds { InStore (state S.Store tx.old.conn.now) (state S.Store tx.new.conn.now)
+    ensures call { InsideOf S.Store tx.old.conn tx.new.conn result (λ _. GoesOn) }
+    ensures rebuilds { InStoreOf S.Store tx.old.conn tx.new.conn
         (λ _. Rebuilds L.format profile.now (state S.Store tx.old.conn.now)
         (state S.Store tx.new.conn.now) result) }
 {
@@ -58,9 +57,8 @@ fn database_post<S: Alter, L: Layout>(
     db: DatabaseId,
 ) -> Result<(), RegFault>
     ensures same { tx.new.conn.ghost_name ≡ tx.old.conn.ghost_name }
-    ensures inside { WorksInside (state S.Store tx.old.conn.now) (state S.Store tx.new.conn.now)
-        result }
-    ensures posts { InStore (state S.Store tx.old.conn.now) (state S.Store tx.new.conn.now)
+    ensures inside { WorksInsideOf S.Store tx.old.conn tx.new.conn result }
+    ensures posts { InStoreOf S.Store tx.old.conn tx.new.conn
         (λ _. PostsDatabase L.format profile.now db.0 (state S.Store tx.old.conn.now)
         (state S.Store tx.new.conn.now) result) }
 {

@@ -3,6 +3,7 @@
 //! Numbers are those of `zeb_blocks`, ULEB128 (DWARF 5, 7.6) in its shortest form. Leaves are this project's own.
 #![tactic(auto)]
 
+mod counting;
 mod entries;
 mod laws;
 mod merging;
@@ -13,6 +14,7 @@ mod telling;
 mod walking;
 mod writing;
 
+pub use counting::{records_said, records_with};
 pub use entries::{Bytes, Entry, FULL_BYTES, Held, LEAF_BYTES, LeafFault};
 pub use laws::{
     bytes_and_entries_are_one_to_one, leaf_is_cut_at_an_entry, rising_entries_follow,

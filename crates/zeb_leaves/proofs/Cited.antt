@@ -39,7 +39,7 @@ pub use Rattle.zeb_register.proofs.ContentLemmas.{ints_order, some_posting}
 pub use Rattle.zeb_register.proofs.CountLemmas.{count_none, count_so, is_less, less_is, not_same, one_count}
 pub use Rattle.zeb_register.proofs.KeyPlaces.{in_place, own_part, place_in, place_of}
 pub use Rattle.zeb_register.proofs.OccurringLemmas.{key_posted}
-pub use Rattle.zeb_register.proofs.PackedLemmas.{in_part, not_empty, one_spelled, part_in_block, part_in_list}
+pub use Rattle.zeb_register.proofs.PackedLemmas.{in_part, not_empty, part_in_block, part_in_list}
 pub use Rattle.zeb_register.proofs.RisingLists.{all_rise, all_there, joined_rises, kept_rises, never_itself, same_list, told_by, with_all}
 pub use Rattle.zeb_register.proofs.TermsAmong.{records_count, terms_among}
 pub use Rattle.zeb_register.specs.Content.{Content, HasRisingLists, IsWithout, places_in, posted, posting_cmp}

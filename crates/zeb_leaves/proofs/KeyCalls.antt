@@ -1,5 +1,5 @@
 -- What calls that read a key answer, by the leaves that they found: the key's term is the first and the last of its neighbours.
-use Rattle.zeb_leaves.proofs.Cited.{Row, row_cmp, Has, ◌≡◌, ◌≢◌, ◌∙◌, ◌<◌, ◌+◌, ◌≤◌, ◌++◌, ◌∷◌, ℕ, ℤ, List, Ok, Err, Result, [], true, false, refl, sym, ap, subst, inl, inr, arith, Ordering, Less, Equal, Greater, nat_cmp, nat_list_cmp_total, slice_cmp, ordering_then, ordering_reverse, tied_itself, is_less, less_is, sum_by, Entry, Key, Posting, State, IsStore, AreLeavesMiscounted, Covers, HasMalformedLeaf, IsEntryOf, IsLeafOf, IsPartMalformed, IsUncovered, LacksSum, LeavesCount, LeavesReadBlock, SayPart, SaysPart, leaf_key, own_key}
+use Rattle.zeb_leaves.proofs.Cited.{Row, row_cmp, Has, ◌≡◌, ◌≢◌, ◌∙◌, ◌<◌, ◌+◌, ◌≤◌, ◌++◌, ◌∷◌, ℕ, ℤ, List, Ok, Err, Result, [], true, false, refl, sym, ap, subst, inl, inr, arith, Ordering, Less, Equal, Greater, nat_cmp, nat_list_cmp_total, slice_cmp, ordering_then, ordering_reverse, tied_itself, is_less, less_is, sum_by, Entry, Key, Posting, State, IsStore, Covers, HasMalformedLeaf, IsEntryOf, IsLeafOf, IsPartMalformed, IsUncovered, LacksSum, LeavesCount, LeavesReadBlock, SayPart, SaysPart, leaf_key, own_key}
 use Rattle.std.proofs.lemmas.Bool.{cases_lt}
 use Rattle.std.proofs.lemmas.List.Sums.{sum_by-cons}
 use Rattle.std.specs.Ordering.{is_lt}
@@ -20,10 +20,9 @@ use Rattle.zeb_register.specs.Units.{ListsUnits}
 use Rattle.zeb_register.specs.Formats.{packed_leaves}
 use Rattle.zeb_leaves.specs.PrivateSaid.{SayAll, SaysBlock, SaysNoBlock, SomeSaysNone}
 use Rattle.zeb_leaves.specs.PrivateSpans.{AreSpanLeaves, ShowAllSpans, ShowsSpan, SomeShowsNoKey}
-use Rattle.zeb_register.specs.Answers.{Answers, IfDamaged, IfRefused}
+use Rattle.zeb_register.specs.Answers.{Answers, IfRowDamaged}
 use Rattle.zeb_register.specs.Between.{IsBetween}
-use Rattle.zeb_register.specs.declared.faults.RegFault.{RegFault}
-use Rattle.zeb_register.specs.declared.faults.RegFault.TheVariants.{Memory, Store}
+use Rattle.zeb_register.specs.declared.faults.RowFault.{RowFault}
 
 -- ---- one text from itself to itself
 
@@ -122,26 +121,22 @@ module _ (s : State) (store : IsStore s) (db : ℤ) (key : Key) where
         each = λ e. (λ h. (omega arith, ((own.each e).0 h).1), λ h. (own.each e).1 (itself_between key.term, h.1));
       }
 
-      pub answers_listed : (new : State) (result : Result (Vec Posting Global) RegFault) → Answers (λ fault. (fault ≢ Store) × IfDamaged (SomeSaysNone held) fault) (λ list. SayAll held list.items) result
-          → Answers (IfRefused s new (HasMalformedLeaf s.now.trees db key)) (λ list. ListsUnits packed_leaves s.now.trees db key list.items) result
-      answers_listed new (Ok list) say = list_of_parts s.now.trees db key it.own has list.items (said_of_held it.own held list.items it.are say)
-      answers_listed new (Err fault) told = (
-        λ damaged. let bad = unsaid Here held it (λ t b is. only key.term t is) (told.1 damaged) in (bad.0, bad.2),
-        λ failed. absurd (told.0 failed),
-      )
+      pub held_listed : (list : List Posting) → SayAll held list → ListsUnits packed_leaves s.now.trees db key list
+      held_listed list say = list_of_parts s.now.trees db key it.own has list (said_of_held it.own held list it.are say)
 
-      pub answers_counted : (new : State) (result : Result ℕ RegFault) → Answers (λ fault. fault ≡ Memory) (λ records. records ≡ sum_by (λ (one : Held). one.records) held) result
-          → Answers (IfRefused s new (AreLeavesMiscounted s.now.trees db key)) (λ records. LeavesCount s.now.trees db key records) result
-      answers_counted new (Ok records) is = own_summed Leaves key.term it.own records has (is ∙ sym (held_sum it.own held it.are))
-      answers_counted new (Err fault) memory = (λ damaged. absurd (cc), λ failed. absurd (cc))
+      pub held_malformed : SomeSaysNone held → HasMalformedLeaf s.now.trees db key
+      held_malformed none = let bad = unsaid Here held it (λ t b is. only key.term t is) none in (bad.0, bad.2)
+
+      pub held_counted : (records : ℕ) → records ≡ sum_by (λ (one : Held). one.records) held → LeavesCount s.now.trees db key records
+      held_counted records is = own_summed Leaves key.term it.own records has (is ∙ sym (held_sum it.own held it.are))
 
 -- ---- one block of a key
 
 -- what entries say that a row has for it
-pub answers_said : (term : List ℕ) (block : ℕ) (row : Row) (held : List Held) → ShowsSpan term block term (block + 1) row held → (result : Result (Vec Posting Global) RegFault)
-    → Answers (λ fault. (fault ≢ Store) × IfDamaged (SomeSaysNone held) fault) (λ list. SayAll held list.items) result → Answers (λ fault. (fault ≢ Store) × IfDamaged (SaysNoBlock term block row) fault) (λ list. SaysBlock term block row list.items) result
+pub answers_said : (term : List ℕ) (block : ℕ) (row : Row) (held : List Held) → ShowsSpan term block term (block + 1) row held → (result : Result (Vec Posting Global) RowFault)
+    → Answers (IfRowDamaged (SomeSaysNone held)) (λ list. SayAll held list.items) result → Answers (IfRowDamaged (SaysNoBlock term block row)) (λ list. SaysBlock term block row list.items) result
 answers_said term block row held shows (Ok list) say = (held, shows, say)
-answers_said term block row held shows (Err fault) told = (told.0, λ damaged. inr (held, shows, told.1 damaged))
+answers_said term block row held shows (Err fault) told = λ damaged. inr (held, shows, told damaged)
 
 -- the keys from a block on and below the next one of the term are one
 within : (term : List ℕ) (block : ℕ) → ordering_then (slice_cmp nat_cmp term term) (nat_cmp block (block + 1)) ≡ Less
@@ -193,15 +188,13 @@ module _ (s : State) (store : IsStore s) (db : ℤ) (key : Key) (block : ℕ) (r
         each = λ e. (λ h. let known = (own.each e).0 h in (known.0.1, known.1), λ h. (own.each e).1 ((refl, h.0), h.1));
       }
 
-  pub answers_block : (new : State) (result : Result (Vec Posting Global) RegFault) → Answers (λ fault. (fault ≢ Store) × IfDamaged (SaysNoBlock key.term block row) fault) (λ list. SaysBlock key.term block row list.items) result
-      → Answers (IfRefused s new (IsPartMalformed BlockLeaves key.term block)) (λ list. LeavesReadBlock s.now.trees db key block list.items) result
-  answers_block new (Ok list) says =
+  pub block_listed : (list : List Posting) → SaysBlock key.term block row list → LeavesReadBlock s.now.trees db key block list
+  block_listed list says =
       let it = block_has says.0 says.1 in
-      block_said BlockLeaves key.term block it.own (block_own says.0 it) list.items (said_of_held it.own says.0 list.items it.are says.2)
-  answers_block new (Err fault) told = (λ damaged. bad (told.1 damaged), λ failed. absurd (told.0 failed))
-    where
-      bad : SaysNoBlock key.term block row → IsPartMalformed BlockLeaves key.term block
-      bad (inl none) = inl (inl (row, covers, none))
-      bad (inr it) =
-          let found = unsaid s store db key InBlock it.0 (block_has it.0 it.1) (λ t b is. is.0) it.2 in
-          subst (IsPartMalformed BlockLeaves key.term) found.1.1 found.2
+      block_said BlockLeaves key.term block it.own (block_own says.0 it) list (said_of_held it.own says.0 list it.are says.2)
+
+  pub block_malformed : SaysNoBlock key.term block row → IsPartMalformed BlockLeaves key.term block
+  block_malformed (inl none) = inl (inl (row, covers, none))
+  block_malformed (inr it) =
+      let found = unsaid s store db key InBlock it.0 (block_has it.0 it.1) (λ t b is. is.0) it.2 in
+      subst (IsPartMalformed BlockLeaves key.term) found.1.1 found.2

@@ -95,19 +95,17 @@ module _ (s : State) (store : IsStore s) (at : RegisterOf) where
       stands : Stands rows
       stands = subst Stands is below_stands
 
-      pub answers_last : rows ≢ [] → (result : Result (Option (Vec TermCount Global)) RegFault)
-          → Answers (λ fault. (fault ≢ Store) × IfDamaged (HideBelow n start 0 rows []) fault) (λ found. IfSome found (λ list. (counts : List TermCount) × CountBelow n start 0 rows [] counts × (list.items ≡ reverse counts))) result
-          → Answers (IfRefused s new (on → HidesBeside at start n Below s.now.trees)) (λ found. IfSome found (λ list. on → ListsBeside at start n Below s.now.trees list.items)) result
-      answers_last some (Ok None) told = tt
-      answers_last some (Ok (Some list)) told = λ below.
+      pub last_found : (found : Option (Vec TermCount Global)) → IfSome found (λ list. (counts : List TermCount) × CountBelow n start 0 rows [] counts × (list.items ≡ reverse counts))
+          → IfSome found (λ list. on → ListsBeside at start n Below s.now.trees list.items)
+      last_found None told = tt
+      last_found (Some list) told = λ below.
           subst (ListsBefore packed_leaves s.now.trees at.db.0 at.index at.register start n) (sym told.2)
           (last_told s.now.trees at start n one (leaf_shape s store at.db.0 at.index at.register) (one_leaf s store at.db.0 at.index at.register) rows told.0 stands told.1)
-      answers_last some (Err fault) told = (
-        λ damaged below.
-            let first = first_of rows some in
-            last_hides s.now.trees at start n one (leaf_shape s store at.db.0 at.index at.register) (one_leaf s store at.db.0 at.index at.register) first.0 ((stands.known first.0 first.1).0) (least_before start below) rows stands (told.1 damaged),
-        λ failed. absurd (told.0 failed),
-      )
+
+      pub last_hidden : rows ≢ [] → HideBelow n start 0 rows [] → on → HidesBeside at start n Below s.now.trees
+      last_hidden some bad below =
+          let first = first_of rows some in
+          last_hides s.now.trees at start n one (leaf_shape s store at.db.0 at.index at.register) (one_leaf s store at.db.0 at.index at.register) first.0 ((stands.known first.0 first.1).0) (least_before start below) rows stands bad
 
       pub answers_leafless : rows ≡ [] → (d : Database) → d ≡ s.now → (result : Result (Option (Vec TermCount Global)) RegFault)
           → Answers (IfDamaged ((leaf : Row) × IsLeafIn d.trees at leaf)) (λ found. IfSome found (λ list. list.items ≡ []) × ((leaf : Row) → ¬ IsLeafIn d.trees at leaf)) result → (result ≡ Err Store → MayRefuse s new)

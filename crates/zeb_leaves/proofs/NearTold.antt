@@ -16,7 +16,7 @@ use Rattle.zeb_leaves.specs.PrivateTermReads.{AreLeavesFrom, IsLeafFrom, IsRowFr
 use Rattle.zeb_leaves.specs.declared.near_terms.Side.{Side}
 use Rattle.zeb_leaves.specs.declared.near_terms.Side.TheVariants.{From}
 use Rattle.zeb_register.proofs.Selects.{list_so}
-use Rattle.zeb_register.specs.Answers.{Answers, IfDamaged, IfRefused}
+use Rattle.zeb_register.specs.Answers.{Answers, IfRefused}
 use Rattle.zeb_register.specs.Calls.{MayRefuse}
 use Rattle.zeb_register.specs.Formats.{packed_leaves}
 use Rattle.zeb_register.specs.Sql.{IsListOf}
@@ -57,22 +57,19 @@ module _ (s : State) (store : IsStore s) (at : RegisterOf) (start : List ℕ) (n
   abbrev These : Row → Type 0
   These = Leaves s store at.db.0 at.index at.register
 
-  module _ (leaf : Row) (behind : List Row) (listed : IsListOf (IsRowFrom at start s.now.trees) behind) (new : State) where
+  module _ (leaf : Row) (behind : List Row) (listed : IsListOf (IsRowFrom at start s.now.trees) behind) where
     abbrev side : Side
     side = From leaf
 
     are : IsSide at start n side s.now.trees → AreLeavesFrom These start (leaf ∷ behind)
     are covers = (covers, list_so (IsRowFrom at start s.now.trees) (IsLeafFrom These start) behind (row_so s store at start) listed)
 
-    pub answers_first : (result : Result (Option (Vec TermCount Global)) RegFault)
-        → Answers (λ fault. (fault ≢ Store) × IfDamaged (HideRows n start 0 leaf behind []) fault) (λ found. IfSome found (λ counts. CountRows n start 0 leaf behind [] counts.items)) result
-        → Answers (IfRefused s new (IsSide at start n side s.now.trees → HidesBeside at start n side s.now.trees)) (λ found. IfSome found (λ list. IsSide at start n side s.now.trees → ListsBeside at start n side s.now.trees list.items)) result
-    answers_first (Ok None) told = tt
-    answers_first (Ok (Some list)) told = λ covers. first_told s.now.trees at start n one (leaf_shape s store at.db.0 at.index at.register) (one_leaf s store at.db.0 at.index at.register) leaf behind (are covers) list.items told
-    answers_first (Err fault) told = (
-      λ damaged covers. first_hides s.now.trees at start n one (leaf_shape s store at.db.0 at.index at.register) (one_leaf s store at.db.0 at.index at.register) leaf behind (are covers) (told.1 damaged),
-      λ failed. absurd (told.0 failed),
-    )
+    pub first_found : (found : Option (Vec TermCount Global)) → IfSome found (λ counts. CountRows n start 0 leaf behind [] counts.items) → IfSome found (λ list. IsSide at start n side s.now.trees → ListsBeside at start n side s.now.trees list.items)
+    first_found None told = tt
+    first_found (Some list) told = λ covers. first_told s.now.trees at start n one (leaf_shape s store at.db.0 at.index at.register) (one_leaf s store at.db.0 at.index at.register) leaf behind (are covers) list.items told
+
+    pub first_hidden : HideRows n start 0 leaf behind [] → IsSide at start n side s.now.trees → HidesBeside at start n side s.now.trees
+    first_hidden bad covers = first_hides s.now.trees at start n one (leaf_shape s store at.db.0 at.index at.register) (one_leaf s store at.db.0 at.index at.register) leaf behind (are covers) bad
 
   pub leafless_from : ((leaf : Row) → ¬ IsLeafIn s.now.trees at leaf) → ListsFrom packed_leaves s.now.trees at.db.0 at.index at.register start n []
   leafless_from none = none_first s.now.trees at start n one (leaf_shape s store at.db.0 at.index at.register) (one_leaf s store at.db.0 at.index at.register) none

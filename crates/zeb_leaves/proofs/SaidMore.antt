@@ -1,8 +1,6 @@
--- Entries, and what they say, one entry more; and how many records this is of.
-use Rattle.zeb_leaves.proofs.Cited.{◌≡◌, ◌↔◌, ◌∙◌, ◌<◌, ◌+◌, ◌++◌, ◌∷◌, ℕ, List, [], length, refl, sym, ap, subst, nat_eq, Posting, HasRecordOf, IsCount, one_count}
+-- Entries, and what they say, one entry more.
+use Rattle.zeb_leaves.proofs.Cited.{◌≡◌, ◌∙◌, ◌<◌, ◌+◌, ◌++◌, ◌∷◌, ℕ, List, [], length, refl, sym, ap, subst, Posting}
 use Rattle.std.proofs.Common.{get_or, take}
-use Rattle.std.proofs.lemmas.Bool.{eq-eqb, eqb-true}
-use Rattle.std.specs.Prelude.{IsTrue}
 use Rattle.std.proofs.lemmas.List.{append_assoc, append-nil, take_more}
 use Rattle.zeb_leaf.specs.declared.entries.Held.{Held}
 use Rattle.zeb_leaves.specs.PrivateSaid.{SayAll, Says}
@@ -16,10 +14,3 @@ pub said_more : (held : List Held) (i : ℕ) (one : Held) (list part : List Post
 said_more held i one list part within is say says =
     let here : take (i + 1) held ≡ take i held ++ one ∷ [] = take_more held i one within ∙ ap (λ h. take i held ++ h ∷ []) (sym is) in
     subst (λ (l : List Held). SayAll l (list ++ part)) (sym here) (said_behind (take i held) one list part say says)
-
--- a number is that of the list's records just where it is the one that was counted
-pub counted_so : (list : List Posting) (found records : ℕ) → IsCount (HasRecordOf list) found → IsTrue (nat_eq found records) ↔ IsCount (HasRecordOf list) records
-counted_so list found records is = (
-  λ same. subst (IsCount (HasRecordOf list)) (eqb-true found records same) is,
-  λ also. eq-eqb found records (one_count (HasRecordOf list) found records is also),
-)

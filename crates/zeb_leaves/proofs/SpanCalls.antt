@@ -120,15 +120,14 @@ module _ (s : State) (store : IsStore s) (at : RegisterOf) where
       has : HeldIn (IsLeafIn s.now.trees at) (λ t b. IsBetween first last t) held
       has = all_spans (IsLeafIn s.now.trees at) (leaf_shape s store at.db.0 at.index at.register) (one_leaf s store at.db.0 at.index at.register) first last known rows held are shows
 
-      pub answers_between : (new : State) (result : Result (Vec Posting Global) RegFault) → Answers (λ fault. (fault ≢ Store) × IfDamaged (SomeSaysNone held) fault) (λ list. SayAll held list.items) result
-          → Answers (IfRefused s new (HasMalformedBetween packed_leaves s.now.trees at first last)) (λ list. ListsBetween packed_leaves s.now.trees at first last list.items) result
-      answers_between new (Ok list) say = span_listed s.now.trees at first last held has list.items say
-      answers_between new (Err fault) told = (λ damaged. span_unsaid s.now.trees at first last held has (told.1 damaged), λ failed. absurd (told.0 failed))
+      pub listed_between : (list : List Posting) → SayAll held list → ListsBetween packed_leaves s.now.trees at first last list
+      listed_between list say = span_listed s.now.trees at first last held has list say
 
-      pub said_in_turn : (result : Result (Vec Posting Global) RegFault) → Answers (λ fault. (fault ≢ Store) × IfDamaged (SomeSaysNone held) fault) (λ list. SayAll held list.items) result
-          → IfOk result (λ (list : Vec Posting Global). (own : List Entry) × AreEntriesBetween s.now.trees at first last own × SayParts own list.items)
-      said_in_turn (Ok list) say = (has.own, record { rising = has.has.rising; each = has.has.each }, said_of_held has.own held list.items has.are say)
-      said_in_turn (Err fault) told = tt
+      pub unsaid_between : SomeSaysNone held → HasMalformedBetween packed_leaves s.now.trees at first last
+      unsaid_between none = span_unsaid s.now.trees at first last held has none
+
+      pub said_in_turn : (list : List Posting) → SayAll held list → (own : List Entry) × AreEntriesBetween s.now.trees at first last own × SayParts own list
+      said_in_turn list say = (has.own, record { rising = has.has.rising; each = has.has.each }, said_of_held has.own held list has.are say)
 
   -- where the last text is below the first one, no term stands between
   pub answers_none : (first last : List ℕ) → is_lt (slice_cmp nat_cmp last first) ≡ true → (new : State) (result : Result (Vec Posting Global) RegFault) → IfOk result (λ list. list.items ≡ []) → result ≢ Err Damaged → (result ≡ Err Store → MayRefuse s new)

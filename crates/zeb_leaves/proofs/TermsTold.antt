@@ -18,10 +18,10 @@ use Rattle.zeb_leaves.specs.PrivateTermReads.{AreLeavesFrom, CountAll, HideAllOw
 use Rattle.zeb_register.specs.Terms.{HidesCount, HidesSome, ListsAll, ListsCounts}
 use Rattle.zeb_register.specs.Formats.{packed_leaves}
 use Rattle.zeb_register.proofs.Selects.{list_so}
-use Rattle.zeb_register.specs.Answers.{Answers, IfDamaged, IfRefused}
+use Rattle.zeb_register.specs.Answers.{Answers, IfDamaged}
 use Rattle.zeb_register.specs.Sql.{IsListOf}
 use Rattle.zeb_register.specs.declared.faults.RegFault.{RegFault}
-use Rattle.zeb_register.specs.declared.faults.RegFault.TheVariants.{Damaged, Store}
+use Rattle.zeb_register.specs.declared.faults.RegFault.TheVariants.{Damaged}
 use Rattle.zeb_register.specs.declared.registers.RegisterOf.{RegisterOf}
 
 -- each text is from the empty one on
@@ -126,10 +126,8 @@ module _ (s : State) (store : IsStore s) (at : RegisterOf) where
         let has = all_own own shows in
         lists_counted s.now.trees at (FromText []) own has counts (all_counted own counts has.rising all) (λ _. Unit {0}) (λ t h. tt) (λ term any block. from_least term)
 
-    pub answers_all : (new : State) (result : Result (Vec TermCount Global) RegFault) → Answers (λ fault. (fault ≢ Store) × IfDamaged (HideAllOwns IsNoText [] rows) fault) (λ counts. (own : List Entry) × ShowAllOwns [] rows own × CountAll own [] counts.items) result
-        → Answers (IfRefused s new (HidesSome packed_leaves s.now.trees at.db.0 at.index at.register)) (λ list. ListsAll packed_leaves s.now.trees at.db.0 at.index at.register list.items) result
-    answers_all new (Ok list) told = all_listed told.0 list.items told.1 told.2
-    answers_all new (Err fault) told = (λ damaged. hidden_term s.now.trees at [] 0 (some_hidden IsNoText (told.1 damaged)), λ failed. absurd (told.0 failed))
+    pub all_hidden : HideAllOwns IsNoText [] rows → HidesSome packed_leaves s.now.trees at.db.0 at.index at.register
+    all_hidden bad = hidden_term s.now.trees at [] 0 (some_hidden IsNoText bad)
 
   -- no leaf covers the first block of the empty term
   pub uncovered_hides : IsUncovered (IsLeafIn s.now.trees at) (leaf_key [] 0) → HidesSome packed_leaves s.now.trees at.db.0 at.index at.register

@@ -11,10 +11,9 @@ use Rattle.zeb_leaf.specs.Walks.{Follows, IsStuck, Place, Steps, Walk}
 use Rattle.zeb_leaves.specs.PrivateSpans.{ShowsNone}
 use Rattle.zeb_leaves.specs.PrivateNearTerms.{AreEnough, CountUntil, CountsRow, HidesRow}
 use Rattle.zeb_leaves.specs.PrivateTermReads.{AreEntries, CountsIn, End, ShowsOwn, is_own}
-use Rattle.zeb_register.specs.Answers.{Answers, IfDamaged}
+use Rattle.zeb_register.specs.Answers.{Answers, IfRowDamaged}
 use Rattle.zeb_register.specs.Covering.{HasTextTerm}
-use Rattle.zeb_register.specs.declared.faults.RegFault.{RegFault}
-use Rattle.zeb_register.specs.declared.faults.RegFault.TheVariants.{Store}
+use Rattle.zeb_register.specs.declared.faults.RowFault.{RowFault}
 
 -- ---- the entries of bytes
 
@@ -130,14 +129,14 @@ module _ (row : Row) (bytes : List ℕ) (blob : column row 2 ≡ Blob bytes) (te
       let same : shows.0 ≡ bytes = cc in
       none entries (subst (λ (b : List ℕ). AreEntries b entries) same shows.2)
 
-  pub own_answers : (first : List ℕ) (from : ℕ) (end : End) (result : Result (Vec Entry Global) RegFault)
-      → Answers (λ fault. (fault ≢ Store) × IfDamaged ((list : List Entry) → ¬ AreEntries bytes list) fault) (λ own. (list : List Entry) × AreEntries bytes list × (own.items ≡ filter (is_own first from end) list)) result
-      → Answers (λ fault. (fault ≢ Store) × IfDamaged (ShowsNone row) fault) (λ own. ShowsOwn first from end row own.items) result
+  pub own_answers : (first : List ℕ) (from : ℕ) (end : End) (result : Result (Vec Entry Global) RowFault)
+      → Answers (IfRowDamaged ((list : List Entry) → ¬ AreEntries bytes list)) (λ own. (list : List Entry) × AreEntries bytes list × (own.items ≡ filter (is_own first from end) list)) result
+      → Answers (IfRowDamaged (ShowsNone row)) (λ own. ShowsOwn first from end row own.items) result
   own_answers first from end (Ok own) it = (it.0, shown it.0 it.1, it.2)
-  own_answers first from end (Err fault) it = (it.0, λ damaged. none_shown (it.1 damaged))
+  own_answers first from end (Err fault) it = λ damaged. none_shown (it damaged)
 
-  pub until_answers : (n : ℕ) (first : List ℕ) (from : ℕ) (end : End) (old new : List TermCount) (result : Result Bool RegFault)
-      → Answers (λ fault. (fault ≢ Store) × IfDamaged ((list : List Entry) → ¬ AreEntries bytes list) fault) (λ enough. (list : List Entry) × AreEntries bytes list × CountUntil n (filter (is_own first from end) list) old new enough) result
-      → Answers (λ fault. (fault ≢ Store) × IfDamaged (HidesRow n first from end row old) fault) (λ enough. CountsRow n first from end row old new enough) result
+  pub until_answers : (n : ℕ) (first : List ℕ) (from : ℕ) (end : End) (old new : List TermCount) (result : Result Bool RowFault)
+      → Answers (IfRowDamaged ((list : List Entry) → ¬ AreEntries bytes list)) (λ enough. (list : List Entry) × AreEntries bytes list × CountUntil n (filter (is_own first from end) list) old new enough) result
+      → Answers (IfRowDamaged (HidesRow n first from end row old)) (λ enough. CountsRow n first from end row old new enough) result
   until_answers n first from end old new (Ok enough) it = (filter (is_own first from end) it.0, (it.0, shown it.0 it.1, refl), it.2)
-  until_answers n first from end old new (Err fault) it = (it.0, λ damaged. inl (none_shown (it.1 damaged)))
+  until_answers n first from end old new (Err fault) it = λ damaged. inl (none_shown (it damaged))

@@ -10,7 +10,7 @@ use crate::agreeing_rows::ShownLeaf;
 use crate::said_postings::push_said;
 use std::alloc::{AllocError, Global};
 use zeb_leaf::{Entry, Held};
-use zeb_register::{KeyPosting, Posting, RegFault};
+use zeb_register::{KeyPosting, Posting, RowFault};
 
 /// The postings that an entry says, if it says any.
 fn part_said(alloc: Global, entry: &Entry) -> Result<Option<Vec<Posting>>, AllocError>
@@ -25,8 +25,8 @@ fn part_said(alloc: Global, entry: &Entry) -> Result<Option<Vec<Posting>>, Alloc
     let mut part = Vec::new(alloc);
     match push_said(&mut part, &held) {
         Ok(()) => Ok(Some(part)),
-        Err(RegFault::Damaged) => Ok(None),
-        Err(RegFault::Store | RegFault::Memory) => Err(AllocError),
+        Err(RowFault::Damaged) => Ok(None),
+        Err(RowFault::Memory) => Err(AllocError),
     }
 }
 

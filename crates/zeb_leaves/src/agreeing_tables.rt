@@ -1,12 +1,10 @@
 //! Whole tables beside what is expected of them, where registers are kept in leaves.
 
 ghost use Rattle.std.specs.Prelude.{◌≡◌, ◌↔◌, length, IsTrue};
-ghost use Rattle.sqlite.specs.Held.{state};
 ghost use Rattle.sqlite.specs.State.{IsUnchanged};
 ghost use Rattle.zeb_leaves.specs.PrivateAgreeing.{EachHasLeaves, IsEmptyBeside, OthersAreEmpty, PostingsRise};
 ghost use Rattle.zeb_register.specs.Agreeing.{LacksPostingsAndDict};
-ghost use Rattle.zeb_register.specs.Calls.{Reading};
-ghost use Rattle.zeb_register.specs.Clauses.{IsReasonedError, Tells, TellsWhether};
+ghost use Rattle.zeb_register.specs.Connections.{IsReasonedErrorOf, ReadingOf, TellsOf, TellsWhetherOf};
 ghost use Rattle.zeb_register.specs.Expected.{AreExpected, IsOrdered};
 ghost use Rattle.zeb_register.specs.Formats.{packed_leaves};
 
@@ -26,12 +24,10 @@ pub fn leaves_agree<S: Alter>(
     conn: &mut Connection<S>,
     expected: &Expected,
 ) -> Result<bool, Error>
-    ensures call { Reading (state S.Store conn.old) (state S.Store conn.new) result
-        (λ _. IsUnchanged) }
-    ensures value { TellsWhether (λ trees. AreExpected packed_leaves trees expected.now)
-        (IsOrdered expected.now)
-        (state S.Store conn.old) (state S.Store conn.new) result }
-    ensures refused { IsReasonedError (state S.Store conn.old) (state S.Store conn.new) result }
+    ensures call { ReadingOf S.Store conn.old conn.new result (λ _. IsUnchanged) }
+    ensures value { TellsWhetherOf S.Store conn.old conn.new
+        (λ trees. AreExpected packed_leaves trees expected.now) (IsOrdered expected.now) result }
+    ensures refused { IsReasonedErrorOf S.Store conn.old conn.new result }
 {
     let Some(listed) = lists_beside(alloc, conn, expected)? else {
         return Ok(false);
@@ -47,12 +43,11 @@ fn registers_agree<S: Alter>(
     expected: &[ExpectedDatabase],
 ) -> Result<bool, Error>
     requires { length listed.now ≡ length expected.now }
-    ensures call { Reading (state S.Store conn.old) (state S.Store conn.new) result
-        (λ _. IsUnchanged) }
-    ensures value { TellsWhether (λ trees. LacksPostingsAndDict trees
-        × (OthersAreEmpty listed.now trees × EachHasLeaves listed.now expected.now trees))
-        (PostingsRise expected.now) (state S.Store conn.old) (state S.Store conn.new) result }
-    ensures refused { IsReasonedError (state S.Store conn.old) (state S.Store conn.new) result }
+    ensures call { ReadingOf S.Store conn.old conn.new result (λ _. IsUnchanged) }
+    ensures value { TellsWhetherOf S.Store conn.old conn.new
+        (λ trees. LacksPostingsAndDict trees × (OthersAreEmpty listed.now trees
+        × EachHasLeaves listed.now expected.now trees)) (PostingsRise expected.now) result }
+    ensures refused { IsReasonedErrorOf S.Store conn.old conn.new result }
 {
     if !postings_and_dict_lack_rows(conn)? {
         return Ok(false);
@@ -68,12 +63,11 @@ fn ids_agree<S: Alter>(
     expected: &[ExpectedDatabase],
 ) -> Result<bool, Error>
     requires { length listed.now ≡ length expected.now }
-    ensures call { Reading (state S.Store conn.old) (state S.Store conn.new) result
-        (λ _. IsUnchanged) }
-    ensures value { TellsWhether (λ trees. OthersAreEmpty listed.now trees
-        × EachHasLeaves listed.now expected.now trees)
-        (PostingsRise expected.now) (state S.Store conn.old) (state S.Store conn.new) result }
-    ensures refused { IsReasonedError (state S.Store conn.old) (state S.Store conn.new) result }
+    ensures call { ReadingOf S.Store conn.old conn.new result (λ _. IsUnchanged) }
+    ensures value { TellsWhetherOf S.Store conn.old conn.new
+        (λ trees. OthersAreEmpty listed.now trees × EachHasLeaves listed.now expected.now trees)
+        (PostingsRise expected.now) result }
+    ensures refused { IsReasonedErrorOf S.Store conn.old conn.new result }
 {
     if !others_are_empty(alloc, conn, listed)? {
         return Ok(false);
@@ -92,11 +86,10 @@ fn others_are_empty<S: Alter>(
     conn: &mut Connection<S>,
     listed: &[ListedDatabase],
 ) -> Result<bool, Error>
-    ensures call { Reading (state S.Store conn.old) (state S.Store conn.new) result
-        (λ _. IsUnchanged) }
-    ensures value { Tells (state S.Store conn.old) (state S.Store conn.new) result
-        (λ trees agree. IsTrue agree ↔ OthersAreEmpty listed.now trees) }
-    ensures refused { IsReasonedError (state S.Store conn.old) (state S.Store conn.new) result }
+    ensures call { ReadingOf S.Store conn.old conn.new result (λ _. IsUnchanged) }
+    ensures value { TellsOf S.Store conn.old conn.new result (λ trees agree. IsTrue agree
+        ↔ OthersAreEmpty listed.now trees) }
+    ensures refused { IsReasonedErrorOf S.Store conn.old conn.new result }
 {
     let Some(ends) = ends_in_blocks(conn)? else {
         return Ok(true);
@@ -126,11 +119,11 @@ fn is_empty_beside<S: Alter>(
     listed: &[ListedDatabase],
     id: i64,
 ) -> Result<bool, Error>
-    ensures call { Reading (state S.Store conn.old) (state S.Store conn.new) result
-        (λ _ old new. IsTrue old.is_open → IsUnchanged old new) }
-    ensures value { Tells (state S.Store conn.old) (state S.Store conn.new) result
-        (λ trees agree. IsTrue agree ↔ IsEmptyBeside listed.now trees id) }
-    ensures refused { IsReasonedError (state S.Store conn.old) (state S.Store conn.new) result }
+    ensures call { ReadingOf S.Store conn.old conn.new result (λ _ old new. IsTrue old.is_open
+        → IsUnchanged old new) }
+    ensures value { TellsOf S.Store conn.old conn.new result (λ trees agree. IsTrue agree
+        ↔ IsEmptyBeside listed.now trees id) }
+    ensures refused { IsReasonedErrorOf S.Store conn.old conn.new result }
 {
     if is_listed(listed, id) {
         return Ok(true);

@@ -2,11 +2,9 @@
 
 ghost use Rattle.std.specs.Prelude.{◌≤◌, List, length, drop, IfOk, IfSome, MatchOption};
 ghost use Rattle.std.specs.List.Sorted.{IsStrictlySortedBy};
-ghost use Rattle.sqlite.specs.Held.{state};
 ghost use Rattle.zeb_leaf.specs.Order.{entry_cmp};
 ghost use Rattle.zeb_leaves.specs.PrivateAgreeing.{Leaf, ReadsLeaves, TakesLeaf, before_of, leaf_of};
-ghost use Rattle.zeb_register.specs.Calls.{Reading};
-ghost use Rattle.zeb_register.specs.Clauses.{IsReasonedError};
+ghost use Rattle.zeb_register.specs.Connections.{IsReasonedErrorOf, ReadingOf};
 
 use crate::agreeing_entries::entries_end;
 use crate::agreeing_rows::{ShownLeaf, follows, whole_leaf};
@@ -58,9 +56,8 @@ pub(crate) fn leaves_walked<S: Alter>(
     db: i64,
     postings: &[KeyPosting],
 ) -> Result<bool, Error>
-    ensures call { Reading (state S.Store conn.old) (state S.Store conn.new) result
-        (ReadsLeaves db postings.now) }
-    ensures refused { IsReasonedError (state S.Store conn.old) (state S.Store conn.new) result }
+    ensures call { ReadingOf S.Store conn.old conn.new result (ReadsLeaves db postings.now) }
+    ensures refused { IsReasonedErrorOf S.Store conn.old conn.new result }
 {
     // What is seen outside a transaction is what was committed.
     let _idle = conn.is_autocommit();

@@ -6,8 +6,7 @@ ghost use Rattle.std.specs.Ordering.{is_lt, nat_cmp};
 ghost use Rattle.sqlite.specs.Held.{state};
 ghost use Rattle.sqlite.specs.State.{IsUnchanged};
 ghost use Rattle.zeb_leaves.specs.KeyReads.{TellsInTurn};
-ghost use Rattle.zeb_register.specs.Calls.{Reading};
-ghost use Rattle.zeb_register.specs.Clauses.{IsReasoned};
+ghost use Rattle.zeb_register.specs.Connections.{IsReasonedOf, ReadingOf};
 ghost use Rattle.zeb_register.specs.Formats.{packed_leaves};
 ghost use Rattle.zeb_register.specs.Units.{ListsTerms};
 
@@ -29,8 +28,7 @@ fn ordered_between<S: Alter>(
     last: &str,
 ) -> Result<Vec<Posting>, RegFault>
     requires { is_lt (slice_cmp nat_cmp last.now first.now) ≡ false }
-    ensures call { Reading (state S.Store conn.old) (state S.Store conn.new) result
-        (λ _. IsUnchanged) }
+    ensures call { ReadingOf S.Store conn.old conn.new result (λ _. IsUnchanged) }
     ensures units { ListsTerms packed_leaves at first.now last.now (state S.Store conn.old)
         (state S.Store conn.new) result }
     ensures turn { TellsInTurn at first.now last.now (state S.Store conn.old)
@@ -39,7 +37,7 @@ fn ordered_between<S: Alter>(
     let end = text_above(alloc, last)?;
     let rows = span_leaves(alloc, conn, at, first, end.as_str())?;
     let held = spans_in(alloc, &rows, first.as_bytes(), end.as_str().as_bytes())?;
-    postings_said(alloc, &held)
+    Ok(postings_said(alloc, &held)?)
 }
 
 /// Whether a text comes before another one in the order of their bytes.
@@ -55,11 +53,10 @@ fn none_between<S: Alter>(
     conn: &mut Connection<S>,
     at: RegisterOf,
 ) -> Result<Vec<Posting>, RegFault>
-    ensures call { Reading (state S.Store conn.old) (state S.Store conn.new) result
-        (λ _. IsUnchanged) }
+    ensures call { ReadingOf S.Store conn.old conn.new result (λ _. IsUnchanged) }
     ensures none { IfOk result (λ list. list.items ≡ []) }
     ensures honest { result ≢ Err RegFault.Damaged }
-    ensures refused { IsReasoned (state S.Store conn.old) (state S.Store conn.new) result }
+    ensures refused { IsReasonedOf S.Store conn.old conn.new result }
 {
     some_row(conn, at)?;
     Ok(Vec::new(alloc))
@@ -74,8 +71,7 @@ pub fn postings_between<S: Alter>(
     first: &str,
     last: &str,
 ) -> Result<Vec<Posting>, RegFault>
-    ensures call { Reading (state S.Store conn.old) (state S.Store conn.new) result
-        (λ _. IsUnchanged) }
+    ensures call { ReadingOf S.Store conn.old conn.new result (λ _. IsUnchanged) }
     ensures units { ListsTerms packed_leaves at first.now last.now (state S.Store conn.old)
         (state S.Store conn.new) result }
     ensures turn { TellsInTurn at first.now last.now (state S.Store conn.old)

@@ -1,14 +1,12 @@
 //! The leaf that covers a block of a term.
 
 ghost use Rattle.std.specs.Prelude.{◌≡◌, ◌<◌, ◌^◌, None};
-ghost use Rattle.sqlite.specs.Held.{state};
 ghost use Rattle.sqlite.specs.State.{IsUnchanged};
 ghost use Rattle.zeb_register.specs.Covering.{leaf_key};
 ghost use Rattle.zeb_leaves.specs.PrivateLeafReads.{IsCovering, IsGreatest, IsLeafAt, IsLeafIn, IsUncovered};
 ghost use Rattle.zeb_leaves.specs.PrivateLeafReads.{IsLastOf, IsOfTermBelow, IsOfTermsBelow};
 ghost use Rattle.zeb_register.specs.Answers.{Answers, IfDamaged};
-ghost use Rattle.zeb_register.specs.Calls.{Reading};
-ghost use Rattle.zeb_register.specs.Clauses.{IsReasoned, IsReasonedError, OnStore, Tells};
+ghost use Rattle.zeb_register.specs.Connections.{IsReasonedErrorOf, IsReasonedOf, OnStoreOf, ReadingOf, TellsOf};
 
 use crate::statements::{row_of_term, row_of_terms_below, some_row};
 use sqlite::{Alter, Connection, Error, Row};
@@ -29,11 +27,10 @@ fn leaf_of_term<S: Alter>(
     term: &str,
     end: i64,
 ) -> Result<Option<Row>, Error>
-    ensures call { Reading (state S.Store conn.old) (state S.Store conn.new) result
-        (λ _. IsUnchanged) }
-    ensures finds { Tells (state S.Store conn.old) (state S.Store conn.new) result
+    ensures call { ReadingOf S.Store conn.old conn.new result (λ _. IsUnchanged) }
+    ensures finds { TellsOf S.Store conn.old conn.new result
         (λ trees found. IsGreatest (IsOfTermBelow at term.now end trees) found) }
-    ensures refused { IsReasonedError (state S.Store conn.old) (state S.Store conn.new) result }
+    ensures refused { IsReasonedErrorOf S.Store conn.old conn.new result }
 {
     let rows = row_of_term(conn, at, term, end)?;
     Ok(last_row(rows))
@@ -45,11 +42,10 @@ pub(crate) fn leaf_of_terms_below<S: Alter>(
     at: RegisterOf,
     term: &str,
 ) -> Result<Option<Row>, Error>
-    ensures call { Reading (state S.Store conn.old) (state S.Store conn.new) result
-        (λ _. IsUnchanged) }
-    ensures finds { Tells (state S.Store conn.old) (state S.Store conn.new) result
+    ensures call { ReadingOf S.Store conn.old conn.new result (λ _. IsUnchanged) }
+    ensures finds { TellsOf S.Store conn.old conn.new result
         (λ trees found. IsGreatest (IsOfTermsBelow at term.now trees) found) }
-    ensures refused { IsReasonedError (state S.Store conn.old) (state S.Store conn.new) result }
+    ensures refused { IsReasonedErrorOf S.Store conn.old conn.new result }
 {
     let rows = row_of_terms_below(conn, at, term)?;
     Ok(last_row(rows))
@@ -64,11 +60,10 @@ pub(crate) fn covering_leaf<S: Alter>(
     block: u64,
 ) -> Result<Option<Row>, Error>
     requires { block < 2 ^ 56 }
-    ensures call { Reading (state S.Store conn.old) (state S.Store conn.new) result
-        (λ _. IsUnchanged) }
-    ensures covers { Tells (state S.Store conn.old) (state S.Store conn.new) result
+    ensures call { ReadingOf S.Store conn.old conn.new result (λ _. IsUnchanged) }
+    ensures covers { TellsOf S.Store conn.old conn.new result
         (λ trees found. IsCovering (IsLeafIn trees at) (leaf_key term.now block) found) }
-    ensures refused { IsReasonedError (state S.Store conn.old) (state S.Store conn.new) result }
+    ensures refused { IsReasonedErrorOf S.Store conn.old conn.new result }
 {
     let end = block as i64 + 1;
     match leaf_of_term(conn, at, term, end)? {
@@ -82,12 +77,11 @@ pub(crate) fn no_leaf<S: Alter>(
     conn: &mut Connection<S>,
     at: RegisterOf,
 ) -> Result<Option<Row>, RegFault>
-    ensures call { Reading (state S.Store conn.old) (state S.Store conn.new) result
-        (λ _. IsUnchanged) }
-    ensures none { OnStore (state S.Store conn.old) (state S.Store conn.new) (λ trees. Answers
-        (IfDamaged ((leaf : _) × IsLeafIn trees at leaf))
-        (λ found. (found ≡ None) × ((leaf : _) → ¬ IsLeafIn trees at leaf)) result) }
-    ensures refused { IsReasoned (state S.Store conn.old) (state S.Store conn.new) result }
+    ensures call { ReadingOf S.Store conn.old conn.new result (λ _. IsUnchanged) }
+    ensures none { OnStoreOf S.Store conn.old conn.new (λ trees. Answers
+        (IfDamaged ((leaf : _) × IsLeafIn trees at leaf)) (λ found. (found ≡ None)
+        × ((leaf : _) → ¬ IsLeafIn trees at leaf)) result) }
+    ensures refused { IsReasonedOf S.Store conn.old conn.new result }
 {
     let rows = some_row(conn, at)?;
     if rows.is_empty() {
@@ -104,12 +98,11 @@ pub(crate) fn leaf_at<S: Alter>(
     block: u64,
 ) -> Result<Option<Row>, RegFault>
     requires { block < 2 ^ 56 }
-    ensures call { Reading (state S.Store conn.old) (state S.Store conn.new) result
-        (λ _. IsUnchanged) }
-    ensures finds { OnStore (state S.Store conn.old) (state S.Store conn.new) (λ trees. Answers
-        (IfDamaged (IsUncovered (IsLeafIn trees at) (leaf_key term.now block)))
+    ensures call { ReadingOf S.Store conn.old conn.new result (λ _. IsUnchanged) }
+    ensures finds { OnStoreOf S.Store conn.old conn.new
+        (λ trees. Answers (IfDamaged (IsUncovered (IsLeafIn trees at) (leaf_key term.now block)))
         (λ found. IsLeafAt (IsLeafIn trees at) (leaf_key term.now block) found) result) }
-    ensures refused { IsReasoned (state S.Store conn.old) (state S.Store conn.new) result }
+    ensures refused { IsReasonedOf S.Store conn.old conn.new result }
 {
     match covering_leaf(conn, at, term, block)? {
         Some(leaf) => Ok(Some(leaf)),

@@ -1,14 +1,14 @@
 //! The first terms of a register from a text on, each with how many records have it, by the entries of its first leaves there.
 
-ghost use Rattle.std.specs.Prelude.{◌≡◌, ◌≢◌, ◌⊎◌, ◌≤◌, ◌++◌, [], List, IsTrue, Some, IfSome, false};
+ghost use Rattle.std.specs.Prelude.{◌≡◌, ◌⊎◌, ◌≤◌, ◌++◌, [], List, IsTrue, Some, IfSome, false};
 ghost use Rattle.sqlite.specs.Held.{state};
 ghost use Rattle.sqlite.specs.Order.{Row as Columns};
 ghost use Rattle.sqlite.specs.State.{IsUnchanged};
 ghost use Rattle.zeb_leaves.specs.PrivateNearCalls.{MayTellBeside};
 ghost use Rattle.zeb_leaves.specs.PrivateNearTerms.{CountRows, GoesPast, HideRows, HidesRow, StopsAt};
 ghost use Rattle.zeb_leaves.specs.declared.near_terms.Side.TheVariants.{From};
-ghost use Rattle.zeb_register.specs.Answers.{Answers, IfDamaged};
-ghost use Rattle.zeb_register.specs.Calls.{Reading};
+ghost use Rattle.zeb_register.specs.Answers.{Answers, IfRowDamaged};
+ghost use Rattle.zeb_register.specs.Connections.{ReadingOf};
 
 use crate::near_rows::{are_all, first_rows};
 use crate::spans::own_key;
@@ -16,7 +16,7 @@ use crate::until_enough::{are_enough, row_until};
 use sqlite::{Alter, Connection, Row};
 use std::alloc::Global;
 use zeb_leaf::BlockKey;
-use zeb_register::{RegFault, RegisterOf, TermCount};
+use zeb_register::{RegFault, RegisterOf, RowFault, TermCount};
 
 /// Counts the entries of a row from the first key on and below the own key of the next row, and tells whether there are enough terms.
 fn up_to_next(
@@ -26,10 +26,9 @@ fn up_to_next(
     from: BlockKey,
     next: BlockKey,
     n: u64,
-) -> Result<bool, RegFault>
-    ensures { Answers (λ fault. (fault ≢ RegFault.Store)
-        × IfDamaged (HidesRow n from.entry.term.now from.entry.block
-        (Some (next.entry.term.now, next.entry.block)) row.now counts.old.items) fault)
+) -> Result<bool, RowFault>
+    ensures { Answers (IfRowDamaged (HidesRow n from.entry.term.now from.entry.block
+        (Some (next.entry.term.now, next.entry.block)) row.now counts.old.items))
         (λ enough. (IsTrue enough × StopsAt n from.entry.term.now from.entry.block
         next.entry.term.now next.entry.block row.now counts.old.items counts.new.items)
         ⊎ ((enough ≡ false) × GoesPast n from.entry.term.now from.entry.block
@@ -48,10 +47,9 @@ fn first_counts<'a>(
     whole: bool,
     first: &'a [u8],
     n: u64,
-) -> Result<Option<Vec<TermCount>>, RegFault>
-    ensures { (rest : List Columns) → (IsTrue whole → rest ≡ []) → Answers (λ fault.
-        (fault ≢ RegFault.Store)
-        × IfDamaged (HideRows n first.now 0 leaf.now (behind.now ++ rest) []) fault)
+) -> Result<Option<Vec<TermCount>>, RowFault>
+    ensures { (rest : List Columns) → (IsTrue whole → rest ≡ []) → Answers
+        (IfRowDamaged (HideRows n first.now 0 leaf.now (behind.now ++ rest) []))
         (λ found. IfSome found (λ counts.
         CountRows n first.now 0 leaf.now (behind.now ++ rest) [] counts.items)) result }
 {
@@ -88,12 +86,12 @@ pub(crate) fn first_within<S: Alter>(
     limit: u32,
 ) -> Result<Option<Vec<TermCount>>, RegFault>
     requires { 1 ≤ n }
-    ensures call { Reading (state S.Store conn.old) (state S.Store conn.new) result
-        (λ _. IsUnchanged) }
+    ensures call { ReadingOf S.Store conn.old conn.new result (λ _. IsUnchanged) }
     ensures tells { MayTellBeside at start.now n (From leaf.now) (state S.Store conn.old)
         (state S.Store conn.new) result }
 {
     let rows = first_rows(conn, at, start, limit)?;
     let whole = are_all(&rows, limit);
-    first_counts(alloc, leaf, &rows, whole, start.as_bytes(), n)
+    let counts = first_counts(alloc, leaf, &rows, whole, start.as_bytes(), n)?;
+    Ok(counts)
 }

@@ -2,15 +2,14 @@
 
 ghost use Rattle.std.specs.Prelude.{◌≡◌, ◌<◌, ◌++◌, ◌∷◌, ◌^◌, [], None, Some, IfErr, IfOk, IsTrue};
 ghost use Rattle.std.specs.Option.{option_map};
-ghost use Rattle.sqlite.specs.Held.{state};
 ghost use Rattle.zeb_leaf.specs.declared.spans.BlockKey.{BlockKey as KeyOfBlock};
 ghost use Rattle.zeb_leaves.specs.PrivateLeafReads.{IsCovering, IsLeafAt, IsLeafIn, IsLeast};
 ghost use Rattle.zeb_leaves.specs.PrivateLeafReads.{IsNextBehind, IsUncovered, TellsKey};
 ghost use Rattle.zeb_leaves.specs.PrivateLeafWrites.{HidesEnd, IsEndAt};
 ghost use Rattle.zeb_leaves.specs.PrivateTermReads.{IsRowFrom};
 ghost use Rattle.zeb_register.specs.Answers.{Answers, IfDamaged};
-ghost use Rattle.zeb_register.specs.Calls.{Inside, OnlyReads};
-ghost use Rattle.zeb_register.specs.Clauses.{InStore, TellsInside};
+ghost use Rattle.zeb_register.specs.Calls.{OnlyReads};
+ghost use Rattle.zeb_register.specs.Connections.{InStoreOf, InsideOf, TellsInsideOf};
 ghost use Rattle.zeb_register.specs.Covering.{IsUpTo, leaf_key};
 
 use crate::own_entries::is_below;
@@ -63,10 +62,8 @@ fn covering_by_term<S: Alter>(
 ) -> Result<Option<Row>, Error>
     requires { block < 2 ^ 56 }
     ensures same { tx.new.conn.ghost_name ≡ tx.old.conn.ghost_name }
-    ensures call { Inside (state S.Store tx.old.conn.now) (state S.Store tx.new.conn.now) result
-        (λ _. OnlyReads) }
-    ensures covers { TellsInside (state S.Store tx.old.conn.now) (state S.Store tx.new.conn.now)
-        result
+    ensures call { InsideOf S.Store tx.old.conn tx.new.conn result (λ _. OnlyReads) }
+    ensures covers { TellsInsideOf S.Store tx.old.conn tx.new.conn result
         (λ trees found. IsCovering (IsLeafIn trees at) (leaf_key term.now block) found) }
 {
     let end = block as i64 + 1;
@@ -86,10 +83,8 @@ fn covering_leaf<S: Alter>(
 ) -> Result<Option<Row>, Error>
     requires { block < 2 ^ 56 }
     ensures same { tx.new.conn.ghost_name ≡ tx.old.conn.ghost_name }
-    ensures call { Inside (state S.Store tx.old.conn.now) (state S.Store tx.new.conn.now) result
-        (λ _. OnlyReads) }
-    ensures covers { TellsInside (state S.Store tx.old.conn.now) (state S.Store tx.new.conn.now)
-        result
+    ensures call { InsideOf S.Store tx.old.conn tx.new.conn result (λ _. OnlyReads) }
+    ensures covers { TellsInsideOf S.Store tx.old.conn tx.new.conn result
         (λ trees found. IsCovering (IsLeafIn trees at) (leaf_key term.now block) found) }
 {
     let end = text_above(alloc, term)?;
@@ -108,11 +103,10 @@ fn covering_leaf<S: Alter>(
 /// No leaf. `Damaged` where the register has one.
 fn no_leaf<S: Alter>(tx: &mut Transaction<'_, S>, at: RegisterOf) -> Result<Option<Row>, RegFault>
     ensures same { tx.new.conn.ghost_name ≡ tx.old.conn.ghost_name }
-    ensures call { Inside (state S.Store tx.old.conn.now) (state S.Store tx.new.conn.now) result
-        (λ _. OnlyReads) }
-    ensures none { InStore (state S.Store tx.old.conn.now) (state S.Store tx.new.conn.now)
-        (λ trees. Answers (IfDamaged ((leaf : _) × IsLeafIn trees at leaf))
-        (λ found. (found ≡ None) × ((leaf : _) → ¬ IsLeafIn trees at leaf)) result) }
+    ensures call { InsideOf S.Store tx.old.conn tx.new.conn result (λ _. OnlyReads) }
+    ensures none { InStoreOf S.Store tx.old.conn tx.new.conn (λ trees. Answers
+        (IfDamaged ((leaf : _) × IsLeafIn trees at leaf)) (λ found. (found ≡ None)
+        × ((leaf : _) → ¬ IsLeafIn trees at leaf)) result) }
 {
     match some_row_inside(tx, at)? {
         Some(_) => Err(RegFault::Damaged),
@@ -130,11 +124,9 @@ pub(crate) fn leaf_inside<S: Alter>(
 ) -> Result<Option<Row>, RegFault>
     requires { block < 2 ^ 56 }
     ensures same { tx.new.conn.ghost_name ≡ tx.old.conn.ghost_name }
-    ensures call { Inside (state S.Store tx.old.conn.now) (state S.Store tx.new.conn.now) result
-        (λ _. OnlyReads) }
-    ensures finds { InStore (state S.Store tx.old.conn.now) (state S.Store tx.new.conn.now)
-        (λ trees. Answers
-        (IfDamaged (IsUncovered (IsLeafIn trees at) (leaf_key term.now block)))
+    ensures call { InsideOf S.Store tx.old.conn tx.new.conn result (λ _. OnlyReads) }
+    ensures finds { InStoreOf S.Store tx.old.conn tx.new.conn
+        (λ trees. Answers (IfDamaged (IsUncovered (IsLeafIn trees at) (leaf_key term.now block)))
         (λ found. IsLeafAt (IsLeafIn trees at) (leaf_key term.now block) found) result) }
 {
     match covering_leaf(alloc, tx, at, term, block)? {
@@ -151,10 +143,8 @@ fn key_of_terms_above<S: Alter>(
     term: &str,
 ) -> Result<Option<Row>, Error>
     ensures same { tx.new.conn.ghost_name ≡ tx.old.conn.ghost_name }
-    ensures call { Inside (state S.Store tx.old.conn.now) (state S.Store tx.new.conn.now) result
-        (λ _. OnlyReads) }
-    ensures finds { TellsInside (state S.Store tx.old.conn.now) (state S.Store tx.new.conn.now)
-        result
+    ensures call { InsideOf S.Store tx.old.conn tx.new.conn result (λ _. OnlyReads) }
+    ensures finds { TellsInsideOf S.Store tx.old.conn tx.new.conn result
         (λ trees key. TellsKey (IsLeast (IsRowFrom at (term.now ++ 0 ∷ []) trees)) key) }
 {
     let first = text_above(alloc, term)?;
@@ -172,11 +162,9 @@ fn behind_by_term<S: Alter>(
 ) -> Result<Option<Row>, Error>
     requires { block < 2 ^ 56 }
     ensures same { tx.new.conn.ghost_name ≡ tx.old.conn.ghost_name }
-    ensures call { Inside (state S.Store tx.old.conn.now) (state S.Store tx.new.conn.now) result
-        (λ _. OnlyReads) }
-    ensures finds { TellsInside (state S.Store tx.old.conn.now) (state S.Store tx.new.conn.now)
-        result (λ trees key.
-        TellsKey (IsNextBehind (IsLeafIn trees at) (leaf_key term.now block)) key) }
+    ensures call { InsideOf S.Store tx.old.conn tx.new.conn result (λ _. OnlyReads) }
+    ensures finds { TellsInsideOf S.Store tx.old.conn tx.new.conn result
+        (λ trees key. TellsKey (IsNextBehind (IsLeafIn trees at) (leaf_key term.now block)) key) }
 {
     let first = block as i64 + 1;
     match key_of_term_from(tx, at, term, first)? {
@@ -196,11 +184,9 @@ pub(crate) fn key_behind<S: Alter>(
 ) -> Result<Option<Row>, Error>
     requires { block < 2 ^ 56 }
     ensures same { tx.new.conn.ghost_name ≡ tx.old.conn.ghost_name }
-    ensures call { Inside (state S.Store tx.old.conn.now) (state S.Store tx.new.conn.now) result
-        (λ _. OnlyReads) }
-    ensures finds { TellsInside (state S.Store tx.old.conn.now) (state S.Store tx.new.conn.now)
-        result (λ trees key.
-        TellsKey (IsNextBehind (IsLeafIn trees at) (leaf_key term.now block)) key) }
+    ensures call { InsideOf S.Store tx.old.conn tx.new.conn result (λ _. OnlyReads) }
+    ensures finds { TellsInsideOf S.Store tx.old.conn tx.new.conn result
+        (λ trees key. TellsKey (IsNextBehind (IsLeafIn trees at) (leaf_key term.now block)) key) }
 {
     let key = BlockKey {
         term: term.as_bytes(),

@@ -1,25 +1,25 @@
 //! What leaves say of a key: its postings, its count, and the postings of one of its blocks.
 
-ghost use Rattle.std.specs.Prelude.{◌≢◌, ◌<◌, ◌^◌};
+ghost use Rattle.std.specs.Prelude.{◌<◌, ◌^◌};
 ghost use Rattle.sqlite.specs.Held.{state};
 ghost use Rattle.sqlite.specs.State.{IsUnchanged};
 ghost use Rattle.zeb_leaves.specs.KeyReads.{CountsLeafKey, TellsLeafBlock};
 ghost use Rattle.zeb_leaves.specs.PrivateSaid.{SaysBlock, SaysNoBlock};
-ghost use Rattle.zeb_register.specs.Answers.{Answers, IfDamaged};
-ghost use Rattle.zeb_register.specs.Calls.{Reading};
+ghost use Rattle.zeb_register.specs.Answers.{Answers, IfRowDamaged};
+ghost use Rattle.zeb_register.specs.Connections.{ReadingOf};
 ghost use Rattle.zeb_register.specs.Formats.{packed_leaves};
 ghost use Rattle.zeb_register.specs.Units.{ListsKey};
 
 use crate::covering::leaf_at;
-use crate::said_postings::{postings_said, records_said};
+use crate::said_postings::postings_said;
 use crate::spans::{push_row_span, span_leaves, spans_in};
 use sqlite::{Alter, Connection, Row};
 use std::alloc::Global;
 use zeb_blocks::Posting;
 use zeb_keys::Key;
-use zeb_leaf::BlockKey;
+use zeb_leaf::{BlockKey, records_said};
 use zeb_register::for_layouts::text_above;
-use zeb_register::{DatabaseId, RegFault, RegisterOf};
+use zeb_register::{DatabaseId, RegFault, RegisterOf, RowFault};
 
 /// The postings of a key, rising: those that its units say. `Damaged` only where one of its blocks is malformed.
 pub fn key_list<S: Alter>(
@@ -28,8 +28,7 @@ pub fn key_list<S: Alter>(
     db: DatabaseId,
     key: &Key,
 ) -> Result<Vec<Posting>, RegFault>
-    ensures call { Reading (state S.Store conn.old) (state S.Store conn.new) result
-        (λ _. IsUnchanged) }
+    ensures call { ReadingOf S.Store conn.old conn.new result (λ _. IsUnchanged) }
     ensures units { ListsKey packed_leaves db.0 key.now (state S.Store conn.old)
         (state S.Store conn.new) result }
 {
@@ -42,7 +41,7 @@ pub fn key_list<S: Alter>(
     let end = text_above(alloc, term)?;
     let rows = span_leaves(alloc, conn, at, term, end.as_str())?;
     let held = spans_in(alloc, &rows, term.as_bytes(), end.as_str().as_bytes())?;
-    postings_said(alloc, &held)
+    Ok(postings_said(alloc, &held)?)
 }
 
 /// How many records have a key: so many as its entries say together. What their blocks spell isn't asked. `Damaged` only where it has no count.
@@ -52,8 +51,7 @@ pub fn key_count<S: Alter>(
     db: DatabaseId,
     key: &Key,
 ) -> Result<u64, RegFault>
-    ensures call { Reading (state S.Store conn.old) (state S.Store conn.new) result
-        (λ _. IsUnchanged) }
+    ensures call { ReadingOf S.Store conn.old conn.new result (λ _. IsUnchanged) }
     ensures count { CountsLeafKey db.0 key.now (state S.Store conn.old) (state S.Store conn.new)
         result }
 {
@@ -66,14 +64,13 @@ pub fn key_count<S: Alter>(
     let end = text_above(alloc, term)?;
     let rows = span_leaves(alloc, conn, at, term, end.as_str())?;
     let held = spans_in(alloc, &rows, term.as_bytes(), end.as_str().as_bytes())?;
-    records_said(&held)
+    Ok(records_said(&held)?)
 }
 
 /// The postings that a row says of one block of a term.
-fn block_of_row(alloc: Global, row: &Row, term: &[u8], block: u64) -> Result<Vec<Posting>, RegFault>
+fn block_of_row(alloc: Global, row: &Row, term: &[u8], block: u64) -> Result<Vec<Posting>, RowFault>
     requires { block < 2 ^ 56 }
-    ensures { Answers (λ fault. (fault ≢ RegFault.Store)
-        × IfDamaged (SaysNoBlock term.now block row.now) fault)
+    ensures { Answers (IfRowDamaged (SaysNoBlock term.now block row.now))
         (λ list. SaysBlock term.now block row.now list.items) result }
 {
     let mut held = Vec::new(alloc);
@@ -96,8 +93,7 @@ pub fn block_list<S: Alter>(
     block: u64,
 ) -> Result<Vec<Posting>, RegFault>
     requires { block < 2 ^ 56 }
-    ensures call { Reading (state S.Store conn.old) (state S.Store conn.new) result
-        (λ _. IsUnchanged) }
+    ensures call { ReadingOf S.Store conn.old conn.new result (λ _. IsUnchanged) }
     ensures units { TellsLeafBlock db.0 key.now block (state S.Store conn.old)
         (state S.Store conn.new) result }
 {
@@ -108,7 +104,7 @@ pub fn block_list<S: Alter>(
     };
     let term = key.term.as_str();
     match leaf_at(conn, at, term, block)? {
-        Some(row) => block_of_row(alloc, &row, term.as_bytes(), block),
+        Some(row) => Ok(block_of_row(alloc, &row, term.as_bytes(), block)?),
         None => Ok(Vec::new(alloc)),
     }
 }

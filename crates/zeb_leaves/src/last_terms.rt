@@ -1,6 +1,6 @@
 //! The last terms of a register below a text, each with how many records have it, by the entries of its last leaves there.
 
-ghost use Rattle.std.specs.Prelude.{◌≡◌, ◌≢◌, ◌↔◌, ◌⊎◌, ◌≤◌, ◌++◌, [], List, IsTrue, IfSome, false, reverse};
+ghost use Rattle.std.specs.Prelude.{◌≡◌, ◌↔◌, ◌⊎◌, ◌≤◌, ◌++◌, [], List, IsTrue, IfSome, false, reverse};
 ghost use Rattle.sqlite.specs.Held.{state};
 ghost use Rattle.sqlite.specs.Order.{Row as Columns};
 ghost use Rattle.sqlite.specs.State.{IsUnchanged};
@@ -9,9 +9,8 @@ ghost use Rattle.zeb_leaves.specs.PrivateNearCalls.{MayTellBeside};
 ghost use Rattle.zeb_leaves.specs.PrivateNearTerms.{AreEnoughAt, CountBelow, CountsDown, GoesDown, HideBelow};
 ghost use Rattle.zeb_leaves.specs.PrivateNearTerms.{HidesDown, StopsDown};
 ghost use Rattle.zeb_leaves.specs.declared.near_terms.Side.TheVariants.{Below};
-ghost use Rattle.zeb_register.specs.Answers.{Answers, IfDamaged};
-ghost use Rattle.zeb_register.specs.Calls.{Reading};
-ghost use Rattle.zeb_register.specs.Clauses.{IsReasoned, OnStore};
+ghost use Rattle.zeb_register.specs.Answers.{Answers, IfDamaged, IfRowDamaged};
+ghost use Rattle.zeb_register.specs.Connections.{IsReasonedOf, OnStoreOf, ReadingOf};
 
 use crate::covering::no_leaf;
 use crate::near_rows::{are_all, last_rows};
@@ -21,7 +20,7 @@ use crate::until_enough::{are_enough, entries_until};
 use sqlite::{Alter, Connection, Row};
 use std::alloc::Global;
 use zeb_leaf::BlockKey;
-use zeb_register::{RegFault, RegisterOf, TermCount};
+use zeb_register::{RegFault, RegisterOf, RowFault, TermCount};
 
 /// Whether no entry of a key below this one is of one of the `n` terms that are counted.
 fn are_enough_at(counts: &[TermCount], n: u64, own: BlockKey) -> bool
@@ -38,10 +37,9 @@ fn row_down(
     own: BlockKey,
     end: BlockKey,
     n: u64,
-) -> Result<bool, RegFault>
-    ensures { Answers (λ fault. (fault ≢ RegFault.Store)
-        × IfDamaged (HidesDown n end.entry.term.now end.entry.block
-        own.entry.term.now own.entry.block row.now counts.old.items) fault)
+) -> Result<bool, RowFault>
+    ensures { Answers (IfRowDamaged (HidesDown n end.entry.term.now end.entry.block
+        own.entry.term.now own.entry.block row.now counts.old.items))
         (λ enough. CountsDown n end.entry.term.now end.entry.block
         own.entry.term.now own.entry.block row.now counts.old.items counts.new.items enough)
         result }
@@ -59,10 +57,9 @@ fn down_to_own(
     own: BlockKey,
     end: BlockKey,
     n: u64,
-) -> Result<bool, RegFault>
-    ensures { Answers (λ fault. (fault ≢ RegFault.Store)
-        × IfDamaged (HidesDown n end.entry.term.now end.entry.block
-        own.entry.term.now own.entry.block row.now counts.old.items) fault)
+) -> Result<bool, RowFault>
+    ensures { Answers (IfRowDamaged (HidesDown n end.entry.term.now end.entry.block
+        own.entry.term.now own.entry.block row.now counts.old.items))
         (λ enough. (IsTrue enough × StopsDown n end.entry.term.now end.entry.block
         own.entry.term.now own.entry.block row.now counts.old.items counts.new.items)
         ⊎ ((enough ≡ false) × GoesDown n end.entry.term.now end.entry.block
@@ -88,10 +85,9 @@ fn last_counts<'a>(
     whole: bool,
     start: &'a [u8],
     n: u64,
-) -> Result<Option<Vec<TermCount>>, RegFault>
-    ensures { (rest : List Columns) → (IsTrue whole → rest ≡ []) → Answers (λ fault.
-        (fault ≢ RegFault.Store)
-        × IfDamaged (HideBelow n start.now 0 (rows.now ++ rest) []) fault)
+) -> Result<Option<Vec<TermCount>>, RowFault>
+    ensures { (rest : List Columns) → (IsTrue whole → rest ≡ []) → Answers
+        (IfRowDamaged (HideBelow n start.now 0 (rows.now ++ rest) []))
         (λ found. IfSome found (λ counts.
         CountBelow n start.now 0 (rows.now ++ rest) [] counts.items)) result }
 {
@@ -113,7 +109,7 @@ fn last_counts<'a>(
     if is_least(end) {
         return Ok(Some(counts));
     }
-    Err(RegFault::Damaged)
+    Err(RowFault::Damaged)
 }
 
 /// The same, in the order of their bytes.
@@ -123,10 +119,9 @@ fn terms_below(
     whole: bool,
     start: &[u8],
     n: u64,
-) -> Result<Option<Vec<TermCount>>, RegFault>
-    ensures { (rest : List Columns) → (IsTrue whole → rest ≡ []) → Answers (λ fault.
-        (fault ≢ RegFault.Store)
-        × IfDamaged (HideBelow n start.now 0 (rows.now ++ rest) []) fault)
+) -> Result<Option<Vec<TermCount>>, RowFault>
+    ensures { (rest : List Columns) → (IsTrue whole → rest ≡ []) → Answers
+        (IfRowDamaged (HideBelow n start.now 0 (rows.now ++ rest) []))
         (λ found. IfSome found (λ list. (counts : List _)
         × CountBelow n start.now 0 (rows.now ++ rest) [] counts × (list.items ≡ reverse counts)))
         result }
@@ -144,13 +139,11 @@ fn no_leaf_terms<S: Alter>(
     conn: &mut Connection<S>,
     at: RegisterOf,
 ) -> Result<Option<Vec<TermCount>>, RegFault>
-    ensures call { Reading (state S.Store conn.old) (state S.Store conn.new) result
-        (λ _. IsUnchanged) }
-    ensures none { OnStore (state S.Store conn.old) (state S.Store conn.new) (λ trees. Answers
-        (IfDamaged ((leaf : _) × IsLeafIn trees at leaf))
-        (λ found. IfSome found (λ list. list.items ≡ []) × ((leaf : _) → ¬ IsLeafIn trees at leaf))
-        result) }
-    ensures refused { IsReasoned (state S.Store conn.old) (state S.Store conn.new) result }
+    ensures call { ReadingOf S.Store conn.old conn.new result (λ _. IsUnchanged) }
+    ensures none { OnStoreOf S.Store conn.old conn.new (λ trees. Answers
+        (IfDamaged ((leaf : _) × IsLeafIn trees at leaf)) (λ found. IfSome found
+        (λ list. list.items ≡ []) × ((leaf : _) → ¬ IsLeafIn trees at leaf)) result) }
+    ensures refused { IsReasonedOf S.Store conn.old conn.new result }
 {
     no_leaf(conn, at)?;
     Ok(Some(Vec::new(alloc)))
@@ -166,8 +159,7 @@ pub(crate) fn last_within<S: Alter>(
     limit: u32,
 ) -> Result<Option<Vec<TermCount>>, RegFault>
     requires { (1 ≤ n) × (1 ≤ limit) }
-    ensures call { Reading (state S.Store conn.old) (state S.Store conn.new) result
-        (λ _. IsUnchanged) }
+    ensures call { ReadingOf S.Store conn.old conn.new result (λ _. IsUnchanged) }
     ensures tells { MayTellBeside at start.now n Below (state S.Store conn.old)
         (state S.Store conn.new) result }
 {
@@ -176,5 +168,5 @@ pub(crate) fn last_within<S: Alter>(
         return no_leaf_terms(alloc, conn, at);
     }
     let whole = are_all(&rows, limit);
-    terms_below(alloc, &rows, whole, start.as_bytes(), n)
+    Ok(terms_below(alloc, &rows, whole, start.as_bytes(), n)?)
 }

@@ -1,12 +1,10 @@
 //! The leaves nearest to a text, so many at most.
 
 ghost use Rattle.std.specs.Prelude.{◌<◌, ◌↔◌, IsTrue, length};
-ghost use Rattle.sqlite.specs.Held.{state};
 ghost use Rattle.zeb_leaves.specs.PrivateLeafReads.{IsOfTermsBelow};
 ghost use Rattle.zeb_leaves.specs.PrivateNearRows.{ListsBack, ListsFront};
 ghost use Rattle.zeb_leaves.specs.PrivateTermReads.{IsRowFrom};
-ghost use Rattle.zeb_register.specs.Calls.{Reading};
-ghost use Rattle.zeb_register.specs.Clauses.{IsReasonedError};
+ghost use Rattle.zeb_register.specs.Connections.{IsReasonedErrorOf, ReadingOf};
 ghost use Rattle.zeb_register.specs.PrivateRowTerms.{ReadsRows};
 
 use sqlite::{Alter, Connection, Error, Row, params};
@@ -27,10 +25,9 @@ pub(crate) fn first_rows<S: Alter>(
     start: &str,
     limit: u32,
 ) -> Result<Vec<Row>, Error>
-    ensures call { Reading (state S.Store conn.old) (state S.Store conn.new) result
-        (λ rows a b. ReadsRows (λ trees. ListsFront limit (IsRowFrom at start.now trees)) a b
-        rows.items) }
-    ensures err { IsReasonedError (state S.Store conn.old) (state S.Store conn.new) result }
+    ensures call { ReadingOf S.Store conn.old conn.new result (λ rows a b. ReadsRows
+        (λ trees. ListsFront limit (IsRowFrom at start.now trees)) a b rows.items) }
+    ensures err { IsReasonedErrorOf S.Store conn.old conn.new result }
 {
     let db = at.db.column();
     let reg = u32::from(at.register.code());
@@ -45,10 +42,9 @@ pub(crate) fn last_rows<S: Alter>(
     start: &str,
     limit: u32,
 ) -> Result<Vec<Row>, Error>
-    ensures call { Reading (state S.Store conn.old) (state S.Store conn.new) result
-        (λ rows a b. ReadsRows (λ trees. ListsBack limit (IsOfTermsBelow at start.now trees)) a b
-        rows.items) }
-    ensures err { IsReasonedError (state S.Store conn.old) (state S.Store conn.new) result }
+    ensures call { ReadingOf S.Store conn.old conn.new result (λ rows a b. ReadsRows
+        (λ trees. ListsBack limit (IsOfTermsBelow at start.now trees)) a b rows.items) }
+    ensures err { IsReasonedErrorOf S.Store conn.old conn.new result }
 {
     let db = at.db.column();
     let reg = u32::from(at.register.code());

@@ -5,8 +5,7 @@ ghost use Rattle.std.specs.Prelude.{◌≡◌, ◌≢◌, ◌≤◌, [], Err};
 ghost use Rattle.sqlite.specs.Held.{state};
 ghost use Rattle.sqlite.specs.State.{IsUnchanged};
 ghost use Rattle.zeb_leaves.specs.PrivateNearCalls.{MayTellBeside, TellsBeside};
-ghost use Rattle.zeb_register.specs.Calls.{Reading};
-ghost use Rattle.zeb_register.specs.Clauses.{IsReasoned};
+ghost use Rattle.zeb_register.specs.Connections.{IsReasonedOf, ReadingOf};
 ghost use Rattle.zeb_register.specs.Formats.{packed_leaves};
 ghost use Rattle.zeb_register.specs.Terms.{TellsBefore, TellsFrom};
 
@@ -51,8 +50,7 @@ fn terms_within<S: Alter>(
     limit: u32,
 ) -> Result<Option<Vec<TermCount>>, RegFault>
     requires { (1 ≤ n) × (1 ≤ limit) }
-    ensures call { Reading (state S.Store conn.old) (state S.Store conn.new) result
-        (λ _. IsUnchanged) }
+    ensures call { ReadingOf S.Store conn.old conn.new result (λ _. IsUnchanged) }
     ensures tells { MayTellBeside at start.now n side.now (state S.Store conn.old)
         (state S.Store conn.new) result }
 {
@@ -72,8 +70,7 @@ fn terms_beside<S: Alter>(
     n: u64,
 ) -> Result<Vec<TermCount>, RegFault>
     requires { 1 ≤ n }
-    ensures call { Reading (state S.Store conn.old) (state S.Store conn.new) result
-        (λ _. IsUnchanged) }
+    ensures call { ReadingOf S.Store conn.old conn.new result (λ _. IsUnchanged) }
     ensures tells { TellsBeside at start.now n side.now (state S.Store conn.old)
         (state S.Store conn.new) result }
 {
@@ -94,10 +91,10 @@ fn no_terms<S: Alter>(
     conn: &mut Connection<S>,
     at: RegisterOf,
 ) -> Result<Vec<TermCount>, RegFault>
-    ensures call { Reading (state S.Store conn.old) (state S.Store conn.new) result
-        (λ list a b. (list.items ≡ []) × IsUnchanged a b) }
+    ensures call { ReadingOf S.Store conn.old conn.new result (λ list a b. (list.items ≡ [])
+        × IsUnchanged a b) }
     ensures honest { result ≢ Err RegFault.Damaged }
-    ensures refused { IsReasoned (state S.Store conn.old) (state S.Store conn.new) result }
+    ensures refused { IsReasonedOf S.Store conn.old conn.new result }
 {
     some_row(conn, at)?;
     Ok(Vec::new(alloc))
@@ -112,8 +109,7 @@ pub fn terms_from<S: Alter>(
     start: &str,
     n: u64,
 ) -> Result<Vec<TermCount>, RegFault>
-    ensures call { Reading (state S.Store conn.old) (state S.Store conn.new) result
-        (λ _. IsUnchanged) }
+    ensures call { ReadingOf S.Store conn.old conn.new result (λ _. IsUnchanged) }
     ensures units { TellsFrom packed_leaves at start.now n (state S.Store conn.old)
         (state S.Store conn.new) result }
 {
@@ -135,8 +131,7 @@ pub fn terms_before<S: Alter>(
     start: &str,
     n: u64,
 ) -> Result<Vec<TermCount>, RegFault>
-    ensures call { Reading (state S.Store conn.old) (state S.Store conn.new) result
-        (λ _. IsUnchanged) }
+    ensures call { ReadingOf S.Store conn.old conn.new result (λ _. IsUnchanged) }
     ensures units { TellsBefore packed_leaves at start.now n (state S.Store conn.old)
         (state S.Store conn.new) result }
 {

@@ -3,13 +3,11 @@
 ghost use Rattle.std.specs.Prelude.{◌≡◌, ◌↔◌, true, IfSome, IsTrue};
 ghost use Rattle.std.specs.Cmp.Lexicographic.{slice_cmp};
 ghost use Rattle.std.specs.Ordering.{is_lt, nat_cmp};
-ghost use Rattle.sqlite.specs.Held.{state};
 ghost use Rattle.sqlite.specs.State.{IsUnchanged};
 ghost use Rattle.zeb_leaves.specs.PrivateLeafReads.{IsLeafAt, IsLeafIn, IsUncovered};
 ghost use Rattle.zeb_leaves.specs.PrivateSpans.{HasTermBelow, IsOnlyLeaf};
 ghost use Rattle.zeb_register.specs.Answers.{Answers, IfDamaged};
-ghost use Rattle.zeb_register.specs.Calls.{Reading};
-ghost use Rattle.zeb_register.specs.Clauses.{IsReasoned, IsReasonedError, OnStore, Tells};
+ghost use Rattle.zeb_register.specs.Connections.{IsReasonedErrorOf, IsReasonedOf, OnStoreOf, ReadingOf, TellsOf};
 ghost use Rattle.zeb_register.specs.Covering.{leaf_key};
 
 use crate::covering::{leaf_at, leaf_of_terms_below};
@@ -38,12 +36,10 @@ pub(crate) fn only_leaf<S: Alter>(
     end: &str,
 ) -> Result<Option<Row>, Error>
     requires { is_lt (slice_cmp nat_cmp first.now end.now) ≡ true }
-    ensures call { Reading (state S.Store conn.old) (state S.Store conn.new) result
-        (λ _. IsUnchanged) }
-    ensures finds { Tells (state S.Store conn.old) (state S.Store conn.new) result
-        (λ trees found. IfSome found (λ leaf.
-        IsOnlyLeaf (IsLeafIn trees at) first.now end.now leaf)) }
-    ensures refused { IsReasonedError (state S.Store conn.old) (state S.Store conn.new) result }
+    ensures call { ReadingOf S.Store conn.old conn.new result (λ _. IsUnchanged) }
+    ensures finds { TellsOf S.Store conn.old conn.new result (λ trees found. IfSome found
+        (λ leaf. IsOnlyLeaf (IsLeafIn trees at) first.now end.now leaf)) }
+    ensures refused { IsReasonedErrorOf S.Store conn.old conn.new result }
 {
     // Of the leaves of all terms below the end this is the greatest: where it is below the first text, none stands between them.
     let Some(leaf) = leaf_of_terms_below(conn, at, end)? else {
@@ -62,12 +58,11 @@ pub(crate) fn leaf_from<S: Alter>(
     at: RegisterOf,
     first: &str,
 ) -> Result<Option<Row>, RegFault>
-    ensures call { Reading (state S.Store conn.old) (state S.Store conn.new) result
-        (λ _. IsUnchanged) }
-    ensures finds { OnStore (state S.Store conn.old) (state S.Store conn.new) (λ trees. Answers
-        (IfDamaged (IsUncovered (IsLeafIn trees at) (leaf_key first.now 0)))
+    ensures call { ReadingOf S.Store conn.old conn.new result (λ _. IsUnchanged) }
+    ensures finds { OnStoreOf S.Store conn.old conn.new
+        (λ trees. Answers (IfDamaged (IsUncovered (IsLeafIn trees at) (leaf_key first.now 0)))
         (λ found. IsLeafAt (IsLeafIn trees at) (leaf_key first.now 0) found) result) }
-    ensures refused { IsReasoned (state S.Store conn.old) (state S.Store conn.new) result }
+    ensures refused { IsReasonedOf S.Store conn.old conn.new result }
 {
     let end = text_above(alloc, first)?;
     match only_leaf(conn, at, first, end.as_str())? {

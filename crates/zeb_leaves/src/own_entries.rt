@@ -1,6 +1,6 @@
 //! The entries that a leaf has of the keys from one on and below another.
 
-ghost use Rattle.std.specs.Prelude.{◌≡◌, ◌≢◌, ◌++◌, ◌∷◌, [], List, IsTrue, MatchOption, OnOk, false, filter, not};
+ghost use Rattle.std.specs.Prelude.{◌≡◌, ◌++◌, ◌∷◌, [], List, IsTrue, MatchOption, OnOk, false, filter, not};
 ghost use Rattle.std.specs.Option.{option_map};
 ghost use Rattle.std.specs.Ordering.{is_lt};
 ghost use Rattle.zeb_leaf.specs.Answers.{entry_of};
@@ -10,13 +10,13 @@ ghost use Rattle.zeb_leaf.specs.declared.entries.Entry.{Entry as LeafEntry};
 ghost use Rattle.zeb_leaf.specs.declared.spans.BlockKey.{BlockKey as KeyOfBlock};
 ghost use Rattle.zeb_leaves.specs.PrivateSpans.{ShowsNone};
 ghost use Rattle.zeb_leaves.specs.PrivateTermReads.{AreEntries, ShowsOwn, is_own};
-ghost use Rattle.zeb_register.specs.Answers.{Answers, IfDamaged};
+ghost use Rattle.zeb_register.specs.Answers.{Answers, IfRowDamaged};
 
 use crate::spans::{leaf_bytes, told_of_leaf};
 use sqlite::Row;
 use std::alloc::{AllocError, Global};
 use zeb_leaf::{BlockKey, Entry, Held, LeafReader, copy_entry};
-use zeb_register::RegFault;
+use zeb_register::RowFault;
 
 /// Whether a key is below another one.
 pub(crate) fn is_below(key: BlockKey, other: BlockKey) -> bool
@@ -72,8 +72,8 @@ pub(crate) fn is_own_entry(
 
 /// The next entry of a walk over a leaf: its term is the walk's then.
 #[inline(always)]
-pub(crate) fn next_entry<'a>(reader: &mut LeafReader<'a>) -> Result<Option<Held<'a>>, RegFault>
-    ensures { Answers (λ fault. (fault ≢ RegFault.Store) × IfDamaged (IsStuck reader.old) fault)
+pub(crate) fn next_entry<'a>(reader: &mut LeafReader<'a>) -> Result<Option<Held<'a>>, RowFault>
+    ensures { Answers (IfRowDamaged (IsStuck reader.old))
         (λ found. MatchOption found ((reader.old.left ≡ []) × (reader.new ≡ reader.old))
         (λ held. Steps reader.old (entry_of reader.new.place.term held) reader.new)) result }
 {
@@ -103,9 +103,8 @@ fn entries_in(
     bytes: &[u8],
     from: BlockKey,
     end: Option<BlockKey>,
-) -> Result<Vec<Entry>, RegFault>
-    ensures { Answers (λ fault. (fault ≢ RegFault.Store)
-        × IfDamaged ((list : List LeafEntry) → ¬ AreEntries bytes.now list) fault)
+) -> Result<Vec<Entry>, RowFault>
+    ensures { Answers (IfRowDamaged ((list : List LeafEntry) → ¬ AreEntries bytes.now list))
         (λ own. (list : List LeafEntry) × AreEntries bytes.now list
         × (own.items ≡ filter (is_own from.entry.term.now from.entry.block
         (option_map (λ (k : KeyOfBlock). (k.term.now, k.block)) end.entry)) list)) result }
@@ -127,8 +126,8 @@ pub(crate) fn own_entries(
     row: &Row,
     from: BlockKey,
     end: Option<BlockKey>,
-) -> Result<Vec<Entry>, RegFault>
-    ensures { Answers (λ fault. (fault ≢ RegFault.Store) × IfDamaged (ShowsNone row.now) fault)
+) -> Result<Vec<Entry>, RowFault>
+    ensures { Answers (IfRowDamaged (ShowsNone row.now))
         (λ own. ShowsOwn from.entry.term.now from.entry.block
         (option_map (λ (k : KeyOfBlock). (k.term.now, k.block)) end.entry) row.now own.items)
         result }

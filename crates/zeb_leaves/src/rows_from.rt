@@ -1,14 +1,12 @@
 //! The leaves that cover the blocks of all terms from a text on.
 
 ghost use Rattle.std.specs.Prelude.{◌≡◌, ◌≢◌, ◌∷◌, List, Err};
-ghost use Rattle.sqlite.specs.Held.{state};
 ghost use Rattle.sqlite.specs.State.{IsUnchanged};
 ghost use Rattle.zeb_register.specs.Covering.{leaf_key};
 ghost use Rattle.zeb_leaves.specs.PrivateLeafReads.{IsLeafIn, IsUncovered};
 ghost use Rattle.zeb_leaves.specs.PrivateTermReads.{AreLeavesFrom, IsRowFrom};
 ghost use Rattle.zeb_register.specs.Answers.{Answers, IfDamaged};
-ghost use Rattle.zeb_register.specs.Calls.{Reading};
-ghost use Rattle.zeb_register.specs.Clauses.{IsReasoned, IsReasonedError, OnStore, Tells};
+ghost use Rattle.zeb_register.specs.Connections.{IsReasonedErrorOf, IsReasonedOf, OnStoreOf, ReadingOf, TellsOf};
 ghost use Rattle.zeb_register.specs.PrivateRowStatements.{Lists};
 ghost use Rattle.zeb_register.specs.Sql.{IsListOf};
 
@@ -28,9 +26,9 @@ fn rows_from<S: Alter>(
     at: RegisterOf,
     first: &str,
 ) -> Result<Vec<Row>, Error>
-    ensures call { Reading (state S.Store conn.old) (state S.Store conn.new) result
-        (λ rows a b. Lists (IsRowFrom at first.now) a b rows.items) }
-    ensures err { IsReasonedError (state S.Store conn.old) (state S.Store conn.new) result }
+    ensures call { ReadingOf S.Store conn.old conn.new result (λ rows a b. Lists
+        (IsRowFrom at first.now) a b rows.items) }
+    ensures err { IsReasonedErrorOf S.Store conn.old conn.new result }
 {
     let db = at.db.column();
     let reg = u32::from(at.register.code());
@@ -45,13 +43,11 @@ fn rows_behind<S: Alter>(
     first: &str,
     leaf: Row,
 ) -> Result<Vec<Row>, RegFault>
-    ensures call { Reading (state S.Store conn.old) (state S.Store conn.new) result
-        (λ _. IsUnchanged) }
-    ensures lists { Tells (state S.Store conn.old) (state S.Store conn.new) result
-        (λ trees rows. (behind : List _) × (rows.items ≡ leaf ∷ behind)
-        × IsListOf (IsRowFrom at first.now trees) behind) }
+    ensures call { ReadingOf S.Store conn.old conn.new result (λ _. IsUnchanged) }
+    ensures lists { TellsOf S.Store conn.old conn.new result (λ trees rows. (behind : List _)
+        × (rows.items ≡ leaf ∷ behind) × IsListOf (IsRowFrom at first.now trees) behind) }
     ensures honest { result ≢ Err RegFault.Damaged }
-    ensures refused { IsReasoned (state S.Store conn.old) (state S.Store conn.new) result }
+    ensures refused { IsReasonedOf S.Store conn.old conn.new result }
 {
     let mut rows = rows_from(conn, at, first)?;
     rows.insert(0, leaf)?;
@@ -66,12 +62,11 @@ pub(crate) fn leaves_from<S: Alter>(
     at: RegisterOf,
     first: &str,
 ) -> Result<Vec<Row>, RegFault>
-    ensures call { Reading (state S.Store conn.old) (state S.Store conn.new) result
-        (λ _. IsUnchanged) }
-    ensures finds { OnStore (state S.Store conn.old) (state S.Store conn.new) (λ trees. Answers
-        (IfDamaged (IsUncovered (IsLeafIn trees at) (leaf_key first.now 0)))
+    ensures call { ReadingOf S.Store conn.old conn.new result (λ _. IsUnchanged) }
+    ensures finds { OnStoreOf S.Store conn.old conn.new
+        (λ trees. Answers (IfDamaged (IsUncovered (IsLeafIn trees at) (leaf_key first.now 0)))
         (λ rows. AreLeavesFrom (IsLeafIn trees at) first.now rows.items) result) }
-    ensures refused { IsReasoned (state S.Store conn.old) (state S.Store conn.new) result }
+    ensures refused { IsReasonedOf S.Store conn.old conn.new result }
 {
     match leaf_at(conn, at, first, 0)? {
         Some(leaf) => rows_behind(conn, at, first, leaf),

@@ -3,7 +3,6 @@
 ghost use Rattle.std.specs.Prelude.{◌≡◌, ◌≢◌, ◌↔◌, ◌++◌, ◌∷◌, [], ℕ, List, true, Err, IfErr, IfOk, IsTrue};
 ghost use Rattle.std.specs.Cmp.Lexicographic.{slice_cmp};
 ghost use Rattle.std.specs.Ordering.{is_lt, nat_cmp};
-ghost use Rattle.sqlite.specs.Held.{state};
 ghost use Rattle.sqlite.specs.Order.{column};
 ghost use Rattle.sqlite.specs.State.{IsUnchanged};
 ghost use Rattle.sqlite.specs.declared.types.Value.TheVariants.{Blob, Text};
@@ -11,9 +10,8 @@ ghost use Rattle.zeb_register.specs.Covering.{HasTextTerm, leaf_key};
 ghost use Rattle.zeb_leaves.specs.PrivateLeafReads.{IsLeafIn, IsUncovered};
 ghost use Rattle.zeb_leaves.specs.PrivateSpans.{AreSpanLeaves, IsRowBetween, ShowAllSpans, ShowSpans};
 ghost use Rattle.zeb_leaves.specs.PrivateSpans.{ShowsKey, ShowsNone, ShowsSpan, SomeShowsNoKey};
-ghost use Rattle.zeb_register.specs.Answers.{Answers, IfDamaged};
-ghost use Rattle.zeb_register.specs.Calls.{Reading};
-ghost use Rattle.zeb_register.specs.Clauses.{IsReasoned, OnStore, Tells};
+ghost use Rattle.zeb_register.specs.Answers.{Answers, IfDamaged, IfRowDamaged};
+ghost use Rattle.zeb_register.specs.Connections.{IsReasonedOf, OnStoreOf, ReadingOf, TellsOf};
 ghost use Rattle.zeb_register.specs.Sql.{IsListOf};
 
 use crate::covering::leaf_at;
@@ -24,7 +22,7 @@ use sqlite::{Alter, Connection, Row};
 use std::alloc::Global;
 use zeb_leaf::{BlockKey, Held, LeafFault, push_span};
 use zeb_register::for_layouts::{read_bytes, read_number};
-use zeb_register::{RegFault, RegisterOf};
+use zeb_register::{RegFault, RegisterOf, RowFault};
 
 /// A leaf, and behind it the rows of the terms from the first text on and below the end.
 fn span_from<S: Alter>(
@@ -34,13 +32,12 @@ fn span_from<S: Alter>(
     end: &str,
     leaf: Row,
 ) -> Result<Vec<Row>, RegFault>
-    ensures call { Reading (state S.Store conn.old) (state S.Store conn.new) result
-        (λ _. IsUnchanged) }
-    ensures lists { Tells (state S.Store conn.old) (state S.Store conn.new) result
-        (λ trees rows. (behind : List _) × (rows.items ≡ leaf ∷ behind)
-        × IsListOf (IsRowBetween at first.now end.now trees) behind) }
+    ensures call { ReadingOf S.Store conn.old conn.new result (λ _. IsUnchanged) }
+    ensures lists { TellsOf S.Store conn.old conn.new result (λ trees rows. (behind : List _)
+        × (rows.items ≡ leaf ∷ behind) × IsListOf (IsRowBetween at first.now end.now trees)
+        behind) }
     ensures honest { result ≢ Err RegFault.Damaged }
-    ensures refused { IsReasoned (state S.Store conn.old) (state S.Store conn.new) result }
+    ensures refused { IsReasonedOf S.Store conn.old conn.new result }
 {
     let mut rows = rows_between(conn, at, first, end)?;
     rows.insert(0, leaf)?;
@@ -55,13 +52,12 @@ fn many_leaves<S: Alter>(
     first: &str,
     end: &str,
 ) -> Result<Vec<Row>, RegFault>
-    ensures call { Reading (state S.Store conn.old) (state S.Store conn.new) result
-        (λ _. IsUnchanged) }
-    ensures finds { OnStore (state S.Store conn.old) (state S.Store conn.new) (λ trees. Answers
-        (IfDamaged (IsUncovered (IsLeafIn trees at) (leaf_key first.now 0)))
+    ensures call { ReadingOf S.Store conn.old conn.new result (λ _. IsUnchanged) }
+    ensures finds { OnStoreOf S.Store conn.old conn.new
+        (λ trees. Answers (IfDamaged (IsUncovered (IsLeafIn trees at) (leaf_key first.now 0)))
         (λ rows. (last : List ℕ) → end.now ≡ last ++ 0 ∷ []
         → AreSpanLeaves (IsLeafIn trees at) first.now last rows.items) result) }
-    ensures refused { IsReasoned (state S.Store conn.old) (state S.Store conn.new) result }
+    ensures refused { IsReasonedOf S.Store conn.old conn.new result }
 {
     match leaf_at(conn, at, first, 0)? {
         Some(leaf) => span_from(conn, at, first, end, leaf),
@@ -79,13 +75,12 @@ pub(crate) fn span_leaves<S: Alter>(
     end: &str,
 ) -> Result<Vec<Row>, RegFault>
     requires { is_lt (slice_cmp nat_cmp first.now end.now) ≡ true }
-    ensures call { Reading (state S.Store conn.old) (state S.Store conn.new) result
-        (λ _. IsUnchanged) }
-    ensures finds { OnStore (state S.Store conn.old) (state S.Store conn.new) (λ trees. Answers
-        (IfDamaged (IsUncovered (IsLeafIn trees at) (leaf_key first.now 0)))
+    ensures call { ReadingOf S.Store conn.old conn.new result (λ _. IsUnchanged) }
+    ensures finds { OnStoreOf S.Store conn.old conn.new
+        (λ trees. Answers (IfDamaged (IsUncovered (IsLeafIn trees at) (leaf_key first.now 0)))
         (λ rows. (last : List ℕ) → end.now ≡ last ++ 0 ∷ []
         → AreSpanLeaves (IsLeafIn trees at) first.now last rows.items) result) }
-    ensures refused { IsReasoned (state S.Store conn.old) (state S.Store conn.new) result }
+    ensures refused { IsReasonedOf S.Store conn.old conn.new result }
 {
     let Some(leaf) = only_leaf(conn, at, first, end)? else {
         return many_leaves(alloc, conn, at, first, end);
@@ -97,22 +92,22 @@ pub(crate) fn span_leaves<S: Alter>(
 
 /// The bytes of the text at this place of a row, as they lie there. They take no memory: they are refused as `Damaged` alone, where there
 /// is another type.
-fn read_text(row: &Row, at: usize) -> Result<&[u8], RegFault>
+fn read_text(row: &Row, at: usize) -> Result<&[u8], RowFault>
     ensures ok { IfOk result (λ bytes. column row.now at ≡ Text bytes.now) }
-    ensures refused { IfErr result (λ fault. (fault ≡ RegFault.Damaged)
+    ensures refused { IfErr result (λ fault. (fault ≡ RowFault.Damaged)
         × ((bytes : List ℕ) → column row.now at ≢ Text bytes)) }
 {
     match row.get_ref(at) {
         Ok(ValueRef::Text(bytes)) => Ok(bytes),
-        _ => Err(RegFault::Damaged),
+        _ => Err(RowFault::Damaged),
     }
 }
 
 /// The own key of a leaf. It takes no memory: it is refused as `Damaged` alone, where the row shows none.
 #[tactic(auto, using(crate::proofs::SpanCalls::key_shown, crate::proofs::SpanCalls::no_text, crate::proofs::SpanCalls::no_number))]
-pub(crate) fn own_key(row: &Row) -> Result<BlockKey<'_>, RegFault>
+pub(crate) fn own_key(row: &Row) -> Result<BlockKey<'_>, RowFault>
     ensures ok { IfOk result (λ key. ShowsKey row.now key.term.now key.block) }
-    ensures refused { IfErr result (λ fault. (fault ≡ RegFault.Damaged)
+    ensures refused { IfErr result (λ fault. (fault ≡ RowFault.Damaged)
         × ((term : List ℕ) (block : ℕ) → ¬ ShowsKey row.now term block)) }
 {
     let term = read_text(row, 0)?;
@@ -132,25 +127,24 @@ fn has_text_term(row: &Row) -> bool
 
 /// The bytes of a leaf. They take no memory: they are refused as `Damaged` alone, where the leaf's own term is no text, or where another type
 /// is in their place.
-pub(crate) fn leaf_bytes(row: &Row) -> Result<&[u8], RegFault>
+pub(crate) fn leaf_bytes(row: &Row) -> Result<&[u8], RowFault>
     ensures ok { IfOk result (λ bytes. (column row.now 2 ≡ Blob bytes.now) × HasTextTerm row.now) }
-    ensures refused { IfErr result (λ fault. (fault ≡ RegFault.Damaged)
+    ensures refused { IfErr result (λ fault. (fault ≡ RowFault.Damaged)
         × ((bytes : List ℕ) → column row.now 2 ≡ Blob bytes → ¬ HasTextTerm row.now)) }
 {
     if !has_text_term(row) {
-        return Err(RegFault::Damaged);
+        return Err(RowFault::Damaged);
     }
     read_bytes(row, 2)
 }
 
 /// As what the fault of a leaf is told.
-pub(crate) fn told_of_leaf(fault: LeafFault) -> RegFault
-    ensures damaged { result ≡ RegFault.Damaged → fault ≡ LeafFault.Malformed }
-    ensures unstored { result ≢ RegFault.Store }
+pub(crate) fn told_of_leaf(fault: LeafFault) -> RowFault
+    ensures { result ≡ RowFault.Damaged → fault ≡ LeafFault.Malformed }
 {
     match fault {
-        LeafFault::Malformed => RegFault::Damaged,
-        LeafFault::Memory => RegFault::Memory,
+        LeafFault::Malformed => RowFault::Damaged,
+        LeafFault::Memory => RowFault::Memory,
     }
 }
 
@@ -162,8 +156,8 @@ pub(crate) fn push_row_span<'a>(
     row: &'a Row,
     first: BlockKey,
     end: BlockKey,
-) -> Result<(), RegFault>
-    ensures { Answers (λ fault. (fault ≢ RegFault.Store) × IfDamaged (ShowsNone row.now) fault)
+) -> Result<(), RowFault>
+    ensures { Answers (IfRowDamaged (ShowsNone row.now))
         (λ _. (among : List _)
         × ShowsSpan first.entry.term.now first.entry.block end.entry.term.now end.entry.block
         row.now among × (held.new.items ≡ held.old.items ++ among)) result }
@@ -182,9 +176,8 @@ fn spans_from<'a>(
     behind: &'a [Row],
     first: &'a [u8],
     end: &[u8],
-) -> Result<Vec<Held<'a>>, RegFault>
-    ensures { Answers (λ fault. (fault ≢ RegFault.Store)
-        × IfDamaged (SomeShowsNoKey (leaf.now ∷ behind.now)) fault)
+) -> Result<Vec<Held<'a>>, RowFault>
+    ensures { Answers (IfRowDamaged (SomeShowsNoKey (leaf.now ∷ behind.now)))
         (λ held. ShowSpans end.now first.now 0 leaf.now behind.now held.items) result }
 {
     let mut held = Vec::new(alloc);
@@ -213,9 +206,8 @@ pub(crate) fn spans_in<'a>(
     rows: &'a [Row],
     first: &'a [u8],
     end: &[u8],
-) -> Result<Vec<Held<'a>>, RegFault>
-    ensures { Answers (λ fault. (fault ≢ RegFault.Store) × IfDamaged
-        (SomeShowsNoKey rows.now) fault)
+) -> Result<Vec<Held<'a>>, RowFault>
+    ensures { Answers (IfRowDamaged (SomeShowsNoKey rows.now))
         (λ held. ShowAllSpans end.now first.now rows.now held.items) result }
 {
     match rows.split_first() {

@@ -1,11 +1,9 @@
 //! The statements that find the leaves of a register: one shows the block of some leaf, each other a leaf by its term, block and bytes.
 
-ghost use Rattle.sqlite.specs.Held.{state};
 ghost use Rattle.zeb_leaves.specs.PrivateLeafReads.{IsInRegister, IsOfTermBelow, IsOfTermsBelow};
 ghost use Rattle.zeb_leaves.specs.PrivateLeafReads.{ShowsGreatest, ShowsSome};
 ghost use Rattle.zeb_leaves.specs.PrivateSpans.{IsRowBetween};
-ghost use Rattle.zeb_register.specs.Calls.{Reading};
-ghost use Rattle.zeb_register.specs.Clauses.{IsReasonedError};
+ghost use Rattle.zeb_register.specs.Connections.{IsReasonedErrorOf, ReadingOf};
 ghost use Rattle.zeb_register.specs.PrivateRowStatements.{Lists};
 ghost use Rattle.zeb_register.specs.PrivateRowTerms.{ReadsRows};
 
@@ -33,10 +31,9 @@ pub(crate) fn row_of_term<S: Alter>(
     term: &str,
     end: i64,
 ) -> Result<Vec<Row>, Error>
-    ensures call { Reading (state S.Store conn.old) (state S.Store conn.new) result
-        (λ rows a b. ReadsRows (λ trees. ShowsGreatest (IsOfTermBelow at term.now end trees)) a b
-        rows.items) }
-    ensures err { IsReasonedError (state S.Store conn.old) (state S.Store conn.new) result }
+    ensures call { ReadingOf S.Store conn.old conn.new result (λ rows a b. ReadsRows
+        (λ trees. ShowsGreatest (IsOfTermBelow at term.now end trees)) a b rows.items) }
+    ensures err { IsReasonedErrorOf S.Store conn.old conn.new result }
 {
     let db = at.db.column();
     let reg = u32::from(at.register.code());
@@ -50,10 +47,9 @@ pub(crate) fn row_of_terms_below<S: Alter>(
     at: RegisterOf,
     term: &str,
 ) -> Result<Vec<Row>, Error>
-    ensures call { Reading (state S.Store conn.old) (state S.Store conn.new) result
-        (λ rows a b. ReadsRows (λ trees. ShowsGreatest (IsOfTermsBelow at term.now trees)) a b
-        rows.items) }
-    ensures err { IsReasonedError (state S.Store conn.old) (state S.Store conn.new) result }
+    ensures call { ReadingOf S.Store conn.old conn.new result (λ rows a b. ReadsRows
+        (λ trees. ShowsGreatest (IsOfTermsBelow at term.now trees)) a b rows.items) }
+    ensures err { IsReasonedErrorOf S.Store conn.old conn.new result }
 {
     let db = at.db.column();
     let reg = u32::from(at.register.code());
@@ -72,9 +68,9 @@ pub(crate) fn rows_between<S: Alter>(
     first: &str,
     end: &str,
 ) -> Result<Vec<Row>, Error>
-    ensures call { Reading (state S.Store conn.old) (state S.Store conn.new) result
-        (λ rows a b. Lists (IsRowBetween at first.now end.now) a b rows.items) }
-    ensures err { IsReasonedError (state S.Store conn.old) (state S.Store conn.new) result }
+    ensures call { ReadingOf S.Store conn.old conn.new result (λ rows a b. Lists
+        (IsRowBetween at first.now end.now) a b rows.items) }
+    ensures err { IsReasonedErrorOf S.Store conn.old conn.new result }
 {
     let db = at.db.column();
     let reg = u32::from(at.register.code());
@@ -87,9 +83,9 @@ pub(crate) fn some_row<S: Alter>(
     conn: &mut Connection<S>,
     at: RegisterOf,
 ) -> Result<Vec<Row>, Error>
-    ensures call { Reading (state S.Store conn.old) (state S.Store conn.new) result
-        (λ rows a b. ReadsRows (λ trees. ShowsSome (IsInRegister at trees)) a b rows.items) }
-    ensures err { IsReasonedError (state S.Store conn.old) (state S.Store conn.new) result }
+    ensures call { ReadingOf S.Store conn.old conn.new result (λ rows a b. ReadsRows
+        (λ trees. ShowsSome (IsInRegister at trees)) a b rows.items) }
+    ensures err { IsReasonedErrorOf S.Store conn.old conn.new result }
 {
     let db = at.db.column();
     let reg = u32::from(at.register.code());

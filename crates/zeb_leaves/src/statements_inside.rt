@@ -6,8 +6,8 @@ ghost use Rattle.sqlite.specs.Values.{bound};
 ghost use Rattle.zeb_leaves.specs.PrivateLeafReads.{IsGreatest, IsLeafIn, IsLeast, ShowsLast, TellsKey, TellsSome};
 ghost use Rattle.zeb_leaves.specs.PrivateLeafReads.{IsOfTermBelow, IsOfTermFrom, IsOfTermsBelow};
 ghost use Rattle.zeb_leaves.specs.PrivateTermReads.{IsRowFrom};
-ghost use Rattle.zeb_register.specs.Calls.{Inside, OnlyReads};
-ghost use Rattle.zeb_register.specs.Clauses.{TellsInside};
+ghost use Rattle.zeb_register.specs.Calls.{OnlyReads};
+ghost use Rattle.zeb_register.specs.Connections.{InsideOf, TellsInsideOf};
 ghost use Rattle.zeb_register.specs.Queries.{IsSilent};
 
 use crate::covering::last_row;
@@ -47,10 +47,9 @@ pub(crate) fn leaf_of_term_inside<S: Alter>(
     end: i64,
 ) -> Result<Option<Row>, Error>
     ensures same { tx.new.conn.ghost_name ≡ tx.old.conn.ghost_name }
-    ensures call { Inside (state S.Store tx.old.conn.now) (state S.Store tx.new.conn.now) result
-        (λ _. OnlyReads) }
-    ensures finds { TellsInside (state S.Store tx.old.conn.now) (state S.Store tx.new.conn.now)
-        result (λ trees found. IsGreatest (IsOfTermBelow at term.now end trees) found) }
+    ensures call { InsideOf S.Store tx.old.conn tx.new.conn result (λ _. OnlyReads) }
+    ensures finds { TellsInsideOf S.Store tx.old.conn tx.new.conn result
+        (λ trees found. IsGreatest (IsOfTermBelow at term.now end trees) found) }
 {
     let db = at.db.column();
     let reg = u32::from(at.register.code());
@@ -65,10 +64,9 @@ pub(crate) fn leaf_of_terms_below_inside<S: Alter>(
     term: &str,
 ) -> Result<Option<Row>, Error>
     ensures same { tx.new.conn.ghost_name ≡ tx.old.conn.ghost_name }
-    ensures call { Inside (state S.Store tx.old.conn.now) (state S.Store tx.new.conn.now) result
-        (λ _. OnlyReads) }
-    ensures finds { TellsInside (state S.Store tx.old.conn.now) (state S.Store tx.new.conn.now)
-        result (λ trees found. IsGreatest (IsOfTermsBelow at term.now trees) found) }
+    ensures call { InsideOf S.Store tx.old.conn tx.new.conn result (λ _. OnlyReads) }
+    ensures finds { TellsInsideOf S.Store tx.old.conn tx.new.conn result
+        (λ trees found. IsGreatest (IsOfTermsBelow at term.now trees) found) }
 {
     let db = at.db.column();
     let reg = u32::from(at.register.code());
@@ -82,10 +80,9 @@ pub(crate) fn some_row_inside<S: Alter>(
     at: RegisterOf,
 ) -> Result<Option<Row>, Error>
     ensures same { tx.new.conn.ghost_name ≡ tx.old.conn.ghost_name }
-    ensures call { Inside (state S.Store tx.old.conn.now) (state S.Store tx.new.conn.now) result
-        (λ _. OnlyReads) }
-    ensures finds { TellsInside (state S.Store tx.old.conn.now) (state S.Store tx.new.conn.now)
-        result (λ trees found. TellsSome (IsLeafIn trees at) found) }
+    ensures call { InsideOf S.Store tx.old.conn tx.new.conn result (λ _. OnlyReads) }
+    ensures finds { TellsInsideOf S.Store tx.old.conn tx.new.conn result
+        (λ trees found. TellsSome (IsLeafIn trees at) found) }
 {
     let db = at.db.column();
     let reg = u32::from(at.register.code());
@@ -101,10 +98,9 @@ pub(crate) fn key_of_term_from<S: Alter>(
     first: i64,
 ) -> Result<Option<Row>, Error>
     ensures same { tx.new.conn.ghost_name ≡ tx.old.conn.ghost_name }
-    ensures call { Inside (state S.Store tx.old.conn.now) (state S.Store tx.new.conn.now) result
-        (λ _. OnlyReads) }
-    ensures finds { TellsInside (state S.Store tx.old.conn.now) (state S.Store tx.new.conn.now)
-        result (λ trees key. TellsKey (IsLeast (IsOfTermFrom at term.now first trees)) key) }
+    ensures call { InsideOf S.Store tx.old.conn tx.new.conn result (λ _. OnlyReads) }
+    ensures finds { TellsInsideOf S.Store tx.old.conn tx.new.conn result
+        (λ trees key. TellsKey (IsLeast (IsOfTermFrom at term.now first trees)) key) }
 {
     let db = at.db.column();
     let reg = u32::from(at.register.code());
@@ -118,10 +114,9 @@ pub(crate) fn key_of_terms_from<S: Alter>(
     first: &str,
 ) -> Result<Option<Row>, Error>
     ensures same { tx.new.conn.ghost_name ≡ tx.old.conn.ghost_name }
-    ensures call { Inside (state S.Store tx.old.conn.now) (state S.Store tx.new.conn.now) result
-        (λ _. OnlyReads) }
-    ensures finds { TellsInside (state S.Store tx.old.conn.now) (state S.Store tx.new.conn.now)
-        result (λ trees key. TellsKey (IsLeast (IsRowFrom at first.now trees)) key) }
+    ensures call { InsideOf S.Store tx.old.conn tx.new.conn result (λ _. OnlyReads) }
+    ensures finds { TellsInsideOf S.Store tx.old.conn tx.new.conn result
+        (λ trees key. TellsKey (IsLeast (IsRowFrom at first.now trees)) key) }
 {
     let db = at.db.column();
     let reg = u32::from(at.register.code());

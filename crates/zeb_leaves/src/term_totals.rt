@@ -1,14 +1,14 @@
 //! How much a register holds, by the entries of its leaves.
 
-ghost use Rattle.std.specs.Prelude.{◌≡◌, ◌≢◌, ℕ, List, length};
+ghost use Rattle.std.specs.Prelude.{◌≡◌, ℕ, List, length};
 ghost use Rattle.std.specs.Option.{option_map};
 ghost use Rattle.sqlite.specs.Held.{state};
 ghost use Rattle.sqlite.specs.State.{IsUnchanged};
 ghost use Rattle.zeb_leaf.specs.declared.spans.BlockKey.{BlockKey as KeyOfBlock};
 ghost use Rattle.zeb_leaves.specs.PrivateTermReads.{HideAllOwns, HideOwns, HidesOwn, SayMany};
 ghost use Rattle.zeb_leaves.specs.PrivateTermReads.{SaysNone, ShowAllOwns, ShowOwns, ShowsOwn, SomeBad};
-ghost use Rattle.zeb_register.specs.Answers.{Answers, IfDamaged};
-ghost use Rattle.zeb_register.specs.Calls.{Reading};
+ghost use Rattle.zeb_register.specs.Answers.{Answers, IfRowDamaged};
+ghost use Rattle.zeb_register.specs.Connections.{ReadingOf};
 ghost use Rattle.zeb_register.specs.Formats.{packed_leaves};
 ghost use Rattle.zeb_register.specs.Occurring.{capped};
 ghost use Rattle.zeb_register.specs.Readings.{SaysPart};
@@ -22,11 +22,11 @@ use crate::terms::counts_in;
 use sqlite::{Alter, Connection, Row};
 use std::alloc::Global;
 use zeb_leaf::{BlockKey, Entry, Held};
-use zeb_register::{RegFault, RegisterOf, Totals};
+use zeb_register::{RegFault, RegisterOf, RowFault, Totals};
 
 /// How many postings an entry says. `Damaged` where it says none.
-fn entry_postings(alloc: Global, entry: &Entry) -> Result<u64, RegFault>
-    ensures { Answers (λ fault. (fault ≢ RegFault.Store) × IfDamaged (SaysNone entry.now) fault)
+fn entry_postings(alloc: Global, entry: &Entry) -> Result<u64, RowFault>
+    ensures { Answers (IfRowDamaged (SaysNone entry.now))
         (λ many. (part : List _) × SaysPart entry.now part × (many ≡ length part)) result }
 {
     let mut part = Vec::new(alloc);
@@ -40,9 +40,8 @@ fn entry_postings(alloc: Global, entry: &Entry) -> Result<u64, RegFault>
 }
 
 /// How many postings entries say together.
-fn entries_postings(alloc: Global, own: &[Entry]) -> Result<u64, RegFault>
-    ensures { Answers (λ fault. (fault ≢ RegFault.Store)
-        × IfDamaged (SomeBad SaysNone own.now) fault)
+fn entries_postings(alloc: Global, own: &[Entry]) -> Result<u64, RowFault>
+    ensures { Answers (IfRowDamaged (SomeBad SaysNone own.now))
         (λ many. (sum : ℕ) × SayMany own.now sum × (many ≡ capped sum)) result }
 {
     let mut many: u64 = 0;
@@ -58,10 +57,9 @@ fn row_postings(
     row: &Row,
     from: BlockKey,
     end: Option<BlockKey>,
-) -> Result<u64, RegFault>
-    ensures { Answers (λ fault. (fault ≢ RegFault.Store)
-        × IfDamaged (HidesOwn SaysNone from.entry.term.now from.entry.block
-        (option_map (λ (k : KeyOfBlock). (k.term.now, k.block)) end.entry) row.now) fault)
+) -> Result<u64, RowFault>
+    ensures { Answers (IfRowDamaged (HidesOwn SaysNone from.entry.term.now from.entry.block
+        (option_map (λ (k : KeyOfBlock). (k.term.now, k.block)) end.entry) row.now))
         (λ many. (own : List _) × (sum : ℕ) × ShowsOwn from.entry.term.now from.entry.block
         (option_map (λ (k : KeyOfBlock). (k.term.now, k.block)) end.entry) row.now own
         × SayMany own sum × (many ≡ capped sum)) result }
@@ -76,9 +74,8 @@ fn postings_from<'a>(
     leaf: &'a Row,
     behind: &'a [Row],
     first: &'a [u8],
-) -> Result<u64, RegFault>
-    ensures { Answers (λ fault. (fault ≢ RegFault.Store)
-        × IfDamaged (HideOwns SaysNone first.now 0 leaf.now behind.now) fault)
+) -> Result<u64, RowFault>
+    ensures { Answers (IfRowDamaged (HideOwns SaysNone first.now 0 leaf.now behind.now))
         (λ many. (own : List _) × (sum : ℕ) × ShowOwns first.now 0 leaf.now behind.now own
         × SayMany own sum × (many ≡ capped sum)) result }
 {
@@ -98,9 +95,8 @@ fn postings_from<'a>(
 }
 
 /// How many postings the entries of these leaves say from the first text on.
-fn postings_in(alloc: Global, rows: &[Row], first: &[u8]) -> Result<u64, RegFault>
-    ensures { Answers (λ fault. (fault ≢ RegFault.Store)
-        × IfDamaged (HideAllOwns SaysNone first.now rows.now) fault)
+fn postings_in(alloc: Global, rows: &[Row], first: &[u8]) -> Result<u64, RowFault>
+    ensures { Answers (IfRowDamaged (HideAllOwns SaysNone first.now rows.now))
         (λ many. (own : List _) × (sum : ℕ) × ShowAllOwns first.now rows.now own
         × SayMany own sum × (many ≡ capped sum)) result }
 {
@@ -117,8 +113,7 @@ pub fn totals<S: Alter>(
     conn: &mut Connection<S>,
     at: RegisterOf,
 ) -> Result<Totals, RegFault>
-    ensures call { Reading (state S.Store conn.old) (state S.Store conn.new) result
-        (λ _. IsUnchanged) }
+    ensures call { ReadingOf S.Store conn.old conn.new result (λ _. IsUnchanged) }
     ensures units { TellsTotals packed_leaves at (state S.Store conn.old) (state S.Store conn.new)
         result }
 {

@@ -1,6 +1,6 @@
 //! The terms of a register, each with how many records have it, by the entries of its leaves.
 
-ghost use Rattle.std.specs.Prelude.{◌≡◌, ◌≢◌, ◌↔◌, List, [], IsTrue, IsUtf8};
+ghost use Rattle.std.specs.Prelude.{◌≡◌, ◌↔◌, List, [], IsTrue, IsUtf8};
 ghost use Rattle.std.specs.Option.{option_map};
 ghost use Rattle.sqlite.specs.Held.{state};
 ghost use Rattle.sqlite.specs.State.{IsUnchanged};
@@ -8,29 +8,28 @@ ghost use Rattle.zeb_leaf.specs.declared.spans.BlockKey.{BlockKey as KeyOfBlock}
 ghost use Rattle.zeb_leaves.specs.PrivateTermReads.{CountAll, CountsIn, HideAllOwns, HideOwns, HidesOwn};
 ghost use Rattle.zeb_leaves.specs.PrivateTermReads.{IsNoText, ShowAllOwns, ShowOwns, ShowsOwn, SomeBad};
 ghost use Rattle.zeb_leaves.specs.PrivateTermReads.{entry_with_records};
-ghost use Rattle.zeb_register.specs.Answers.{Answers, IfDamaged};
-ghost use Rattle.zeb_register.specs.Calls.{Reading};
+ghost use Rattle.zeb_register.specs.Answers.{Answers, IfRowDamaged};
+ghost use Rattle.zeb_register.specs.Connections.{ReadingOf};
 ghost use Rattle.zeb_register.specs.Formats.{packed_leaves};
 ghost use Rattle.zeb_register.specs.Terms.{TellsAll};
 
 use crate::own_entries::own_entries;
 use crate::rows_from::leaves_from;
-use crate::said_postings::records_with;
 use crate::spans::own_key;
 use sqlite::{Alter, Connection, Row};
 use std::alloc::Global;
 use zeb_keys::Term;
-use zeb_leaf::{BlockKey, Entry};
-use zeb_register::{RegFault, RegisterOf, TermCount};
+use zeb_leaf::{BlockKey, Entry, records_with};
+use zeb_register::{RegFault, RegisterOf, RowFault, TermCount};
 
 /// The term of these bytes. `Damaged` where they are no UTF-8.
-fn term_of(alloc: Global, bytes: &[u8]) -> Result<Term, RegFault>
-    ensures { Answers (λ fault. (fault ≢ RegFault.Store) × IfDamaged (¬ IsUtf8 bytes.now) fault)
+fn term_of(alloc: Global, bytes: &[u8]) -> Result<Term, RowFault>
+    ensures { Answers (IfRowDamaged (¬ IsUtf8 bytes.now))
         (λ term. (term ≡ bytes.now) × IsUtf8 bytes.now) result }
 {
     match str::from_utf8(bytes) {
         Ok(text) => Ok(Term::new(String::from_str(alloc, text)?)),
-        Err(_) => Err(RegFault::Damaged),
+        Err(_) => Err(RowFault::Damaged),
     }
 }
 
@@ -47,8 +46,8 @@ pub(crate) fn count_records(
     counts: &mut Vec<TermCount>,
     term: &[u8],
     records: u64,
-) -> Result<(), RegFault>
-    ensures { Answers (λ fault. (fault ≢ RegFault.Store) × IfDamaged (¬ IsUtf8 term.now) fault)
+) -> Result<(), RowFault>
+    ensures { Answers (IfRowDamaged (¬ IsUtf8 term.now))
         (λ _. CountsIn (entry_with_records term.now records) counts.old.items counts.new.items)
         result }
 {
@@ -68,17 +67,16 @@ pub(crate) fn count_entry(
     alloc: Global,
     counts: &mut Vec<TermCount>,
     entry: &Entry,
-) -> Result<(), RegFault>
-    ensures { Answers (λ fault. (fault ≢ RegFault.Store) × IfDamaged (IsNoText entry.now) fault)
+) -> Result<(), RowFault>
+    ensures { Answers (IfRowDamaged (IsNoText entry.now))
         (λ _. CountsIn entry.now counts.old.items counts.new.items) result }
 {
     count_records(alloc, counts, entry.term.as_slice(), entry.records)
 }
 
 /// Counts the records of entries, one after the other.
-fn count_entries(alloc: Global, counts: &mut Vec<TermCount>, own: &[Entry]) -> Result<(), RegFault>
-    ensures { Answers (λ fault. (fault ≢ RegFault.Store)
-        × IfDamaged (SomeBad IsNoText own.now) fault)
+fn count_entries(alloc: Global, counts: &mut Vec<TermCount>, own: &[Entry]) -> Result<(), RowFault>
+    ensures { Answers (IfRowDamaged (SomeBad IsNoText own.now))
         (λ _. CountAll own.now counts.old.items counts.new.items) result }
 {
     for entry in own {
@@ -94,10 +92,9 @@ fn count_row(
     row: &Row,
     from: BlockKey,
     end: Option<BlockKey>,
-) -> Result<(), RegFault>
-    ensures { Answers (λ fault. (fault ≢ RegFault.Store)
-        × IfDamaged (HidesOwn IsNoText from.entry.term.now from.entry.block
-        (option_map (λ (k : KeyOfBlock). (k.term.now, k.block)) end.entry) row.now) fault)
+) -> Result<(), RowFault>
+    ensures { Answers (IfRowDamaged (HidesOwn IsNoText from.entry.term.now from.entry.block
+        (option_map (λ (k : KeyOfBlock). (k.term.now, k.block)) end.entry) row.now))
         (λ _. (own : List _) × ShowsOwn from.entry.term.now from.entry.block
         (option_map (λ (k : KeyOfBlock). (k.term.now, k.block)) end.entry) row.now own
         × CountAll own counts.old.items counts.new.items) result }
@@ -112,9 +109,8 @@ fn counts_from<'a>(
     leaf: &'a Row,
     behind: &'a [Row],
     first: &'a [u8],
-) -> Result<Vec<TermCount>, RegFault>
-    ensures { Answers (λ fault. (fault ≢ RegFault.Store)
-        × IfDamaged (HideOwns IsNoText first.now 0 leaf.now behind.now) fault)
+) -> Result<Vec<TermCount>, RowFault>
+    ensures { Answers (IfRowDamaged (HideOwns IsNoText first.now 0 leaf.now behind.now))
         (λ counts. (own : List _) × ShowOwns first.now 0 leaf.now behind.now own
         × CountAll own [] counts.items) result }
 {
@@ -139,9 +135,8 @@ pub(crate) fn counts_in(
     alloc: Global,
     rows: &[Row],
     first: &[u8],
-) -> Result<Vec<TermCount>, RegFault>
-    ensures { Answers (λ fault. (fault ≢ RegFault.Store)
-        × IfDamaged (HideAllOwns IsNoText first.now rows.now) fault)
+) -> Result<Vec<TermCount>, RowFault>
+    ensures { Answers (IfRowDamaged (HideAllOwns IsNoText first.now rows.now))
         (λ counts. (own : List _) × ShowAllOwns first.now rows.now own
         × CountAll own [] counts.items) result }
 {
@@ -158,11 +153,10 @@ pub fn terms_of<S: Alter>(
     conn: &mut Connection<S>,
     at: RegisterOf,
 ) -> Result<Vec<TermCount>, RegFault>
-    ensures call { Reading (state S.Store conn.old) (state S.Store conn.new) result
-        (λ _. IsUnchanged) }
+    ensures call { ReadingOf S.Store conn.old conn.new result (λ _. IsUnchanged) }
     ensures units { TellsAll packed_leaves at (state S.Store conn.old) (state S.Store conn.new)
         result }
 {
     let rows = leaves_from(alloc, conn, at, "")?;
-    counts_in(alloc, &rows, &[])
+    Ok(counts_in(alloc, &rows, &[])?)
 }

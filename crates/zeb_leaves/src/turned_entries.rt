@@ -1,6 +1,6 @@
 //! What becomes of the entries of a leaf where pieces of a run are changed: each piece's entry is read, turned and spelled anew.
 
-ghost use Rattle.std.specs.Prelude.{◌≡◌, ◌≢◌, List, IfOk, MatchOption};
+ghost use Rattle.std.specs.Prelude.{◌≡◌, List, IfOk, MatchOption};
 ghost use Rattle.std.specs.List.{AllByRecursion};
 ghost use Rattle.std.specs.List.Sorted.{IsStrictlySortedBy};
 ghost use Rattle.sqlite_rules.specs.Lists.{Has};
@@ -9,7 +9,7 @@ ghost use Rattle.zeb_leaf.specs.Order.{entry_cmp};
 ghost use Rattle.zeb_leaf.specs.Spans.{key_cmp};
 ghost use Rattle.zeb_leaf.specs.declared.entries.Entry.{Entry};
 ghost use Rattle.zeb_leaves.specs.PrivatePieces.{HasPostings, IsPiece, LackTurn, LacksTurn, TurnAllEntries, TurnsEntries, block_of};
-ghost use Rattle.zeb_register.specs.Answers.{Answers, IfDamaged};
+ghost use Rattle.zeb_register.specs.Answers.{Answers, IfRowDamaged};
 ghost use Rattle.zeb_register.specs.Formats.{packed_leaves};
 ghost use Rattle.zeb_register.specs.PrivatePackedRows.{IsInBlock};
 ghost use Rattle.zeb_register.specs.PrivateUnits.{units_of};
@@ -17,13 +17,13 @@ ghost use Rattle.zeb_register.specs.Readings.{IsAt, SayPart};
 ghost use Rattle.zeb_register.specs.UnitChanges.{IsStorableChange, KeyUnits, TurnsUnits};
 
 use crate::pieces::first_block;
-use crate::said_postings::{push_said, records_in};
+use crate::said_postings::push_said;
 use std::alloc::{AllocError, Global};
 use std::cmp::Ordering;
-use zeb_blocks::{Posting, spell};
+use zeb_blocks::{Posting, records_in, spell};
 use zeb_leaf::{BlockChange, BlockKey, Bytes, Entry, Held, NewBlock};
 use zeb_register::for_layouts::postings_changed;
-use zeb_register::{KeyChanges, RecordChange, RegFault};
+use zeb_register::{KeyChanges, RecordChange, RowFault};
 
 /// How an entry lies to a key.
 fn place(entry: &Entry, key: BlockKey) -> Ordering
@@ -51,11 +51,10 @@ fn entry_at<'a>(entries: &'a [Entry], key: BlockKey) -> Option<&'a Entry>
 }
 
 /// The postings that entries say of a block of a term: none where it has no entry.
-fn postings_at(alloc: Global, entries: &[Entry], key: BlockKey) -> Result<Vec<Posting>, RegFault>
+fn postings_at(alloc: Global, entries: &[Entry], key: BlockKey) -> Result<Vec<Posting>, RowFault>
     requires { IsStrictlySortedBy entry_cmp entries.now }
-    ensures { Answers (λ fault. (fault ≢ RegFault.Store)
-        × IfDamaged ((part : List _)
-        → ¬ SayPart entries.now key.entry.term.now key.entry.block part) fault)
+    ensures { Answers (IfRowDamaged ((part : List _)
+        → ¬ SayPart entries.now key.entry.term.now key.entry.block part))
         (λ list. SayPart entries.now key.entry.term.now key.entry.block list.items) result }
 {
     let mut postings = Vec::new(alloc);
@@ -75,13 +74,12 @@ fn postings_after(
     alloc: Global,
     list: Vec<Posting>,
     changes: &[RecordChange<'_>],
-) -> Result<Vec<Posting>, RegFault>
+) -> Result<Vec<Posting>, RowFault>
     requires lies { LiesIn (block_of changes.now) list.items }
     requires inside { AllByRecursion (IsInBlock (block_of changes.now)) changes.now }
     requires stored { AllByRecursion IsStorableChange changes.now }
-    ensures turned { Answers (λ fault. (fault ≢ RegFault.Store)
-        × IfDamaged ((are : KeyUnits)
-        → ¬ TurnsUnits packed_leaves changes.now (units_of list.items 0) are) fault)
+    ensures turned { Answers (IfRowDamaged ((are : KeyUnits)
+        → ¬ TurnsUnits packed_leaves changes.now (units_of list.items 0) are))
         (λ next. TurnsUnits packed_leaves changes.now (units_of list.items 0)
         (units_of next.items 0)) result }
     ensures lies { IfOk result (λ next. LiesIn (block_of changes.now) next.items) }
@@ -114,11 +112,10 @@ pub(crate) fn piece_change(
     alloc: Global,
     entries: &[Entry],
     piece: &KeyChanges<'_>,
-) -> Result<BlockChange, RegFault>
+) -> Result<BlockChange, RowFault>
     requires piece { IsPiece piece.now }
     requires rising { IsStrictlySortedBy entry_cmp entries.now }
-    ensures { Answers (λ fault. (fault ≢ RegFault.Store)
-        × IfDamaged (LacksTurn entries.now piece.now) fault)
+    ensures { Answers (IfRowDamaged (LacksTurn entries.now piece.now))
         (λ change. TurnsEntries entries.now piece.now change) result }
 {
     let key = BlockKey {
@@ -141,11 +138,10 @@ pub(crate) fn piece_changes(
     alloc: Global,
     entries: &[Entry],
     pieces: &[KeyChanges<'_>],
-) -> Result<Vec<BlockChange>, RegFault>
+) -> Result<Vec<BlockChange>, RowFault>
     requires pieces { AllByRecursion IsPiece pieces.now }
     requires rising { IsStrictlySortedBy entry_cmp entries.now }
-    ensures { Answers (λ fault. (fault ≢ RegFault.Store)
-        × IfDamaged (LackTurn entries.now pieces.now) fault)
+    ensures { Answers (IfRowDamaged (LackTurn entries.now pieces.now))
         (λ changes. TurnAllEntries entries.now pieces.now changes.items) result }
 {
     let mut changes = Vec::new(alloc);

@@ -8,8 +8,8 @@ ghost use Rattle.zeb_leaf.specs.declared.spans.BlockKey.{BlockKey as KeyOfBlock}
 ghost use Rattle.zeb_leaves.specs.PrivatePieces.{ArePieces, AreStorable};
 ghost use Rattle.zeb_leaves.specs.PrivateTurning.{BeginsFront, CountsChanges, CountsLeaves, CountsTurn};
 ghost use Rattle.zeb_leaves.specs.PrivateTurning.{IsBelow, IsOfRegister, IsTextOf, ReplacesFront, TurnsFront};
-ghost use Rattle.zeb_register.specs.Calls.{GoesOn, Inside};
-ghost use Rattle.zeb_register.specs.Clauses.{InStore};
+ghost use Rattle.zeb_register.specs.Calls.{GoesOn};
+ghost use Rattle.zeb_register.specs.Connections.{InStoreOf, InsideOf};
 ghost use Rattle.zeb_register.specs.Formats.{packed_leaves};
 ghost use Rattle.zeb_register.specs.RunChanges.{ChangesKeys, IsRun, changes_in};
 ghost use Rattle.zeb_register.specs.Tallies.{WorksOnLeaves};
@@ -92,8 +92,7 @@ fn register_begun<S: Alter>(
     requires pieces { ArePieces pieces.now }
     requires first { AllByRecursion (IsTextOf at) (take 1 pieces.now) }
     ensures same { tx.new.conn.ghost_name ≡ tx.old.conn.ghost_name }
-    ensures call { Inside (state S.Store tx.old.conn.now) (state S.Store tx.new.conn.now) result
-        (λ _. GoesOn) }
+    ensures call { InsideOf S.Store tx.old.conn tx.new.conn result (λ _. GoesOn) }
     ensures turned { BeginsFront at pieces.now (state S.Store tx.old.conn.now)
         (state S.Store tx.new.conn.now) result }
     ensures work { CountsTurn 0 (state S.Store tx.old.conn.now)
@@ -124,8 +123,7 @@ fn leaf_turned<S: Alter>(
     requires pieces { ArePieces pieces.now }
     requires first { AllByRecursion (IsTextOf at) (take 1 pieces.now) }
     ensures same { tx.new.conn.ghost_name ≡ tx.old.conn.ghost_name }
-    ensures call { Inside (state S.Store tx.old.conn.now) (state S.Store tx.new.conn.now) result
-        (λ _. GoesOn) }
+    ensures call { InsideOf S.Store tx.old.conn tx.new.conn result (λ _. GoesOn) }
     ensures turned { ReplacesFront at leaf.now
         (option_map (λ (k : KeyOfBlock). (k.term.now, k.block)) end.entry) pieces.now
         (state S.Store tx.old.conn.now) (state S.Store tx.new.conn.now) result }
@@ -166,8 +164,7 @@ fn front_turned<S: Alter>(
     requires some { pieces.now ≢ [] }
     requires pieces { ArePieces pieces.now }
     ensures same { tx.new.conn.ghost_name ≡ tx.old.conn.ghost_name }
-    ensures call { Inside (state S.Store tx.old.conn.now) (state S.Store tx.new.conn.now) result
-        (λ _. GoesOn) }
+    ensures call { InsideOf S.Store tx.old.conn tx.new.conn result (λ _. GoesOn) }
     ensures turned { TurnsFront db.0 pieces.now (state S.Store tx.old.conn.now)
         (state S.Store tx.new.conn.now) result }
     ensures work { CountsChanges 1 (state S.Store tx.old.conn.now)
@@ -200,8 +197,8 @@ fn pieces_turned<S: Alter>(
 ) -> Result<(), RegFault>
     requires { ArePieces pieces.now }
     ensures same { tx.new.conn.ghost_name ≡ tx.old.conn.ghost_name }
-    ensures call { Inside (state S.Store tx.old.conn.now) (state S.Store tx.new.conn.now) result
-        (λ _ a b. IsTrue a.is_open → GoesOn a b) }
+    ensures call { InsideOf S.Store tx.old.conn tx.new.conn result (λ _ a b. IsTrue a.is_open
+        → GoesOn a b) }
     ensures units { ChangesKeys packed_leaves db.0 pieces.now (state S.Store tx.old.conn.now)
         (state S.Store tx.new.conn.now) result }
     ensures work { CountsChanges (length pieces.now) (state S.Store tx.old.conn.now)
@@ -239,11 +236,10 @@ pub fn run_changes<S: Alter>(
 ) -> Result<(), RegFault>
     requires rising { IsRun run.now }
     ensures same { tx.new.conn.ghost_name ≡ tx.old.conn.ghost_name }
-    ensures call { Inside (state S.Store tx.old.conn.now) (state S.Store tx.new.conn.now) result
-        (λ _. GoesOn) }
+    ensures call { InsideOf S.Store tx.old.conn tx.new.conn result (λ _. GoesOn) }
     ensures units { ChangesKeys packed_leaves db.0 run.now (state S.Store tx.old.conn.now)
         (state S.Store tx.new.conn.now) result }
-    ensures work { InStore (state S.Store tx.old.conn.now) (state S.Store tx.new.conn.now)
+    ensures work { InStoreOf S.Store tx.old.conn tx.new.conn
         (λ trees. OnOk result (WorksOnLeaves (changes_in run.now) trees
         (state S.Store tx.new.conn.now).now.trees work.old work.new)) }
 {
@@ -267,11 +263,10 @@ pub fn key_changes<S: Alter>(
 ) -> Result<(), RegFault>
     requires rising { NumbersRise changes.now }
     ensures same { tx.new.conn.ghost_name ≡ tx.old.conn.ghost_name }
-    ensures call { Inside (state S.Store tx.old.conn.now) (state S.Store tx.new.conn.now) result
-        (λ _. GoesOn) }
+    ensures call { InsideOf S.Store tx.old.conn tx.new.conn result (λ _. GoesOn) }
     ensures units { ChangesKey packed_leaves db.0 key.now changes.now
         (state S.Store tx.old.conn.now) (state S.Store tx.new.conn.now) result }
-    ensures work { InStore (state S.Store tx.old.conn.now) (state S.Store tx.new.conn.now)
+    ensures work { InStoreOf S.Store tx.old.conn tx.new.conn
         (λ trees. OnOk result (WorksOnLeaves (length changes.now) trees
         (state S.Store tx.new.conn.now).now.trees work.old work.new)) }
 {

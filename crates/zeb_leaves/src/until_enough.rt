@@ -1,13 +1,13 @@
 //! Counts the terms of entries until there are enough, which is known from an entry of a further term on.
 
-ghost use Rattle.std.specs.Prelude.{◌≢◌, ◌↔◌, ◌∷◌, [], List, IsTrue, IsUtf8, filter};
+ghost use Rattle.std.specs.Prelude.{◌↔◌, ◌∷◌, [], List, IsTrue, IsUtf8, filter};
 ghost use Rattle.std.specs.Option.{option_map};
 ghost use Rattle.zeb_leaf.specs.Answers.{entry_of};
 ghost use Rattle.zeb_leaf.specs.declared.entries.Entry.{Entry as LeafEntry};
 ghost use Rattle.zeb_leaf.specs.declared.spans.BlockKey.{BlockKey as KeyOfBlock};
 ghost use Rattle.zeb_leaves.specs.PrivateNearTerms.{AreEnough, CountUntil, CountsRow, HidesRow, MeetNoText};
 ghost use Rattle.zeb_leaves.specs.PrivateTermReads.{AreEntries, is_own};
-ghost use Rattle.zeb_register.specs.Answers.{Answers, IfDamaged};
+ghost use Rattle.zeb_register.specs.Answers.{Answers, IfRowDamaged};
 
 use crate::own_entries::{is_own_entry, next_entry};
 use crate::spans::leaf_bytes;
@@ -15,7 +15,7 @@ use crate::terms::{count_entry, count_records, is_term};
 use sqlite::Row;
 use std::alloc::Global;
 use zeb_leaf::{BlockKey, Entry, Held, LeafReader};
-use zeb_register::{RegFault, TermCount};
+use zeb_register::{RowFault, TermCount};
 
 /// Whether `n` terms are counted, and the last of them hasn't these bytes.
 pub(crate) fn are_enough(counts: &[TermCount], n: u64, term: &[u8]) -> bool
@@ -33,9 +33,8 @@ pub(crate) fn entries_until(
     counts: &mut Vec<TermCount>,
     own: &[Entry],
     n: u64,
-) -> Result<bool, RegFault>
-    ensures { Answers (λ fault. (fault ≢ RegFault.Store)
-        × IfDamaged (MeetNoText n own.now counts.old.items) fault)
+) -> Result<bool, RowFault>
+    ensures { Answers (IfRowDamaged (MeetNoText n own.now counts.old.items))
         (λ enough. CountUntil n own.now counts.old.items counts.new.items enough) result }
 {
     for entry in own {
@@ -55,8 +54,8 @@ fn own_until(
     held: Held,
     chosen: bool,
     n: u64,
-) -> Result<bool, RegFault>
-    ensures { Answers (λ fault. (fault ≢ RegFault.Store) × IfDamaged (¬ IsUtf8 term.now) fault)
+) -> Result<bool, RowFault>
+    ensures { Answers (IfRowDamaged (¬ IsUtf8 term.now))
         (λ enough. CountUntil n (filter (λ _. chosen) (entry_of term.now held.entry ∷ []))
         counts.old.items counts.new.items enough) result }
 {
@@ -79,9 +78,8 @@ fn bytes_until(
     from: BlockKey,
     end: Option<BlockKey>,
     n: u64,
-) -> Result<bool, RegFault>
-    ensures { Answers (λ fault. (fault ≢ RegFault.Store)
-        × IfDamaged ((list : List LeafEntry) → ¬ AreEntries bytes.now list) fault)
+) -> Result<bool, RowFault>
+    ensures { Answers (IfRowDamaged ((list : List LeafEntry) → ¬ AreEntries bytes.now list))
         (λ enough. (list : List LeafEntry) × AreEntries bytes.now list
         × CountUntil n (filter (is_own from.entry.term.now from.entry.block
         (option_map (λ (k : KeyOfBlock). (k.term.now, k.block)) end.entry)) list)
@@ -107,11 +105,10 @@ pub(crate) fn row_until(
     from: BlockKey,
     end: Option<BlockKey>,
     n: u64,
-) -> Result<bool, RegFault>
-    ensures { Answers (λ fault. (fault ≢ RegFault.Store)
-        × IfDamaged (HidesRow n from.entry.term.now from.entry.block
+) -> Result<bool, RowFault>
+    ensures { Answers (IfRowDamaged (HidesRow n from.entry.term.now from.entry.block
         (option_map (λ (k : KeyOfBlock). (k.term.now, k.block)) end.entry) row.now
-        counts.old.items) fault)
+        counts.old.items))
         (λ enough. CountsRow n from.entry.term.now from.entry.block
         (option_map (λ (k : KeyOfBlock). (k.term.now, k.block)) end.entry) row.now
         counts.old.items counts.new.items enough) result }

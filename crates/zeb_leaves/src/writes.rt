@@ -9,8 +9,8 @@ ghost use Rattle.zeb_leaf.specs.declared.parting.NewLeaf.{NewLeaf};
 ghost use Rattle.zeb_leaves.specs.PrivateLeafWrites.{GainsLeaves, IfToldPuts, IfToldPutsEntries};
 ghost use Rattle.zeb_leaves.specs.PrivateLeafWrites.{IsLeafWith, MakesLeaves, TellsWritten};
 ghost use Rattle.zeb_leaves.specs.PrivateLeafWrites.{coming, leaf_columns, new_row};
-ghost use Rattle.zeb_register.specs.Calls.{GoesOn, Inside};
-ghost use Rattle.zeb_register.specs.Clauses.{ChangesTable, Writes};
+ghost use Rattle.zeb_register.specs.Calls.{GoesOn};
+ghost use Rattle.zeb_register.specs.Connections.{ChangesTableOf, InsideOf, WritesOf};
 ghost use Rattle.zeb_register.specs.PrivateRowStatements.{Gains, Renews};
 ghost use Rattle.zeb_register.specs.Store.{blocks_tree};
 
@@ -41,8 +41,8 @@ fn leaf_add<S: Alter>(
     bytes: &[u8],
 ) -> Result<usize, Error>
     ensures same { tx.new.conn.ghost_name ≡ tx.old.conn.ghost_name }
-    ensures call { Writes blocks_tree (Gains (leaf_columns at term.now number bytes.now))
-        (state S.Store tx.old.conn.now) (state S.Store tx.new.conn.now) result }
+    ensures call { WritesOf S.Store tx.old.conn tx.new.conn blocks_tree
+        (Gains (leaf_columns at term.now number bytes.now)) result }
     ensures rows { MakesLeaves 1 (state S.Store tx.old.conn.now) (state S.Store tx.new.conn.now)
         result }
 {
@@ -60,9 +60,9 @@ fn leaf_set<S: Alter>(
     bytes: &[u8],
 ) -> Result<usize, Error>
     ensures same { tx.new.conn.ghost_name ≡ tx.old.conn.ghost_name }
-    ensures call { Writes blocks_tree (Renews (IsLeafWith at term.now number)
-        (leaf_columns at term.now number bytes.now))
-        (state S.Store tx.old.conn.now) (state S.Store tx.new.conn.now) result }
+    ensures call { WritesOf S.Store tx.old.conn tx.new.conn blocks_tree
+        (Renews (IsLeafWith at term.now number) (leaf_columns at term.now number bytes.now))
+        result }
     ensures rows { MakesLeaves 0 (state S.Store tx.old.conn.now) (state S.Store tx.new.conn.now)
         result }
 {
@@ -90,8 +90,8 @@ fn new_leaf_add<S: Alter>(
 ) -> Result<(), Error>
     requires { IsUtf8 leaf.now.term }
     ensures same { tx.new.conn.ghost_name ≡ tx.old.conn.ghost_name }
-    ensures call { Writes blocks_tree (Gains (new_row at leaf.now))
-        (state S.Store tx.old.conn.now) (state S.Store tx.new.conn.now) result }
+    ensures call { WritesOf S.Store tx.old.conn tx.new.conn blocks_tree
+        (Gains (new_row at leaf.now)) result }
     ensures rows { MakesLeaves 1 (state S.Store tx.old.conn.now) (state S.Store tx.new.conn.now)
         result }
 {
@@ -109,10 +109,9 @@ fn new_leaves_add<S: Alter>(
 ) -> Result<(), Error>
     requires { AllByRecursion (λ (leaf : NewLeaf). IsUtf8 leaf.term) leaves.now }
     ensures same { tx.new.conn.ghost_name ≡ tx.old.conn.ghost_name }
-    ensures call { Inside (state S.Store tx.old.conn.now) (state S.Store tx.new.conn.now) result
-        (λ _ a b. IsTrue a.is_open → GoesOn a b) }
-    ensures put { ChangesTable blocks_tree
-        (state S.Store tx.old.conn.now) (state S.Store tx.new.conn.now) result
+    ensures call { InsideOf S.Store tx.old.conn tx.new.conn result (λ _ a b. IsTrue a.is_open
+        → GoesOn a b) }
+    ensures put { ChangesTableOf S.Store tx.old.conn tx.new.conn blocks_tree result
         (λ _. GainsLeaves at leaves.now) }
     ensures rows { MakesLeaves (length leaves.now) (state S.Store tx.old.conn.now)
         (state S.Store tx.new.conn.now) result }
@@ -133,8 +132,8 @@ fn leaf_put<S: Alter>(
     is_there: bool,
 ) -> Result<(), Error>
     ensures same { tx.new.conn.ghost_name ≡ tx.old.conn.ghost_name }
-    ensures call { Writes blocks_tree (IfToldPuts is_there at term.now (pos block) bytes.now [])
-        (state S.Store tx.old.conn.now) (state S.Store tx.new.conn.now) result }
+    ensures call { WritesOf S.Store tx.old.conn tx.new.conn blocks_tree
+        (IfToldPuts is_there at term.now (pos block) bytes.now []) result }
     ensures rows { MakesLeaves (coming is_there) (state S.Store tx.old.conn.now)
         (state S.Store tx.new.conn.now) result }
 {
@@ -160,10 +159,8 @@ fn leaves_put<S: Alter>(
 ) -> Result<usize, Error>
     requires { AllByRecursion (λ (leaf : NewLeaf). IsUtf8 leaf.term) leaves.now }
     ensures same { tx.new.conn.ghost_name ≡ tx.old.conn.ghost_name }
-    ensures call { Inside (state S.Store tx.old.conn.now) (state S.Store tx.new.conn.now) result
-        (λ _. GoesOn) }
-    ensures put { ChangesTable blocks_tree
-        (state S.Store tx.old.conn.now) (state S.Store tx.new.conn.now) result
+    ensures call { InsideOf S.Store tx.old.conn tx.new.conn result (λ _. GoesOn) }
+    ensures put { ChangesTableOf S.Store tx.old.conn tx.new.conn blocks_tree result
         (λ _. IfToldPuts is_there at term.now (pos block) bytes.now leaves.now) }
     ensures rows { TellsWritten is_there (state S.Store tx.old.conn.now)
         (state S.Store tx.new.conn.now) result }
@@ -188,10 +185,8 @@ pub(crate) fn entries_put<S: Alter>(
     requires rising { IsStrictlySortedBy entry_cmp entries.now }
     requires each { AllByRecursion IsEntry entries.now }
     ensures same { tx.new.conn.ghost_name ≡ tx.old.conn.ghost_name }
-    ensures call { Inside (state S.Store tx.old.conn.now) (state S.Store tx.new.conn.now) result
-        (λ _. GoesOn) }
-    ensures put { ChangesTable blocks_tree
-        (state S.Store tx.old.conn.now) (state S.Store tx.new.conn.now) result
+    ensures call { InsideOf S.Store tx.old.conn tx.new.conn result (λ _. GoesOn) }
+    ensures put { ChangesTableOf S.Store tx.old.conn tx.new.conn blocks_tree result
         (λ _. IfToldPutsEntries is_there at key.entry.term.now key.entry.block entries.now) }
     ensures rows { TellsWritten is_there (state S.Store tx.old.conn.now)
         (state S.Store tx.new.conn.now) result }

@@ -52,6 +52,7 @@ pub use Rattle.zeb_register.specs.PrivateUnits.{units_of}
 pub use Rattle.zeb_register.specs.UnitChanges.{IsTold, IsBlockIn, CountsOn, IsBlockCounted, IsStorableChange, KeyUnits, TurnsUnit, TurnsUnits, AllowsChanges, IsTouched, LacksBlock, LacksBlocks, NumbersRise, PutsUnits, PutsAny, IsRefusedAs, IsBlockAmong, IsOwnBlock, KeepsBut, PutsCount, AreSame}
 pub use Rattle.zeb_packed.specs.declared.packed_changes.Known.{Known}
 pub use Rattle.zeb_register.proofs.Answered.{refused_so, told_or}
+pub use Rattle.zeb_register.proofs.RowFaults.{refused_rows, rows_told}
 pub use Rattle.zeb_register.proofs.BlockUnits.{held_block, held_units, malformed_block, none_rises, one_block_read, one_reading, read_rises}
 pub use Rattle.zeb_register.proofs.BetweenLemmas.{up_to, blocks_many, spelled_by, spelled_row, spelled_too}
 pub use Rattle.zeb_register.proofs.BetweenStatements.{between, more}

@@ -1,23 +1,23 @@
 -- How many records have a key, as its row of `dict` says.
-use Rattle.zeb_packed.proofs.Cited.{◌≡◌, ◌∙◌, ◌≤◌, ◌==◌, ◌^◌, ℕ, zero, suc, ℤ, pos, not, true, Result, Ok, Err, IfOk, IfErr, List, ◌∷◌, ◌++◌, None, slice_get, refl, sym, ap, subst, inl, inr, arith, eqb_tells, Int, Row, column, State, Trees, Has, Key, RegFault, Damaged, IsRecordNumber, key_row, IsDictIn, IsListOf, IsRest, IsStore, dict_tree, none_is, key_begins, Known, IsTold, Answers, IfDamaged, IsClearFrom, CountsAs}
+use Rattle.zeb_packed.proofs.Cited.{◌≡◌, ◌∙◌, ◌≤◌, ◌==◌, ◌^◌, ℕ, zero, suc, ℤ, pos, not, true, List, ◌∷◌, ◌++◌, None, slice_get, refl, sym, ap, subst, inl, inr, arith, eqb_tells, Int, Row, column, State, Trees, Has, Key, IsRecordNumber, key_row, IsDictIn, IsListOf, IsRest, IsStore, dict_tree, none_is, key_begins, Known, IsTold, IsClearFrom, CountsAs}
 use Rattle.zeb_packed.proofs.PackedSound.{one_dict}
 
 abbrev Shows : Row → Known → Type 0
 Shows row known = (column row 0 ≡ Int (pos known.records)) × (1 ≤ known.records) × (known.records ≤ 999999999) × (2 ^ 56 ≤ known.clear_from)
 
-pub known_clear : (row : Row) (result : Result Known RegFault) → IfOk result (Shows row) → IfOk result (λ known. (known.records ≤ 999999999) × IsClearFrom known)
-known_clear row (Ok known) shows = (shows.2, record { none = λ none. absurd (omega (arith, none, shows.1)); some = λ some. shows.3 })
-known_clear row (Err fault) shows = tt
+pub known_clear : (row : Row) (known : Known) → Shows row known → (known.records ≤ 999999999) × IsClearFrom known
+known_clear row known shows = (shows.2, record { none = λ none. absurd (omega (arith, none, shows.1)); some = λ some. shows.3 })
 
 module _ (s : State) (store : IsStore s) (db : ℤ) (key : Key) (row : Row) (there : IsRest dict_tree (key_row db key) s.now.trees row) where
   -- the row that was read is the only one
-  pub shown_counts : (result : Result Known RegFault) → IfOk result (Shows row) → IfErr result (λ fault. (fault ≡ Damaged) × ¬ IsRecordNumber (column row 0))
-      → Answers (IfDamaged ((records : ℕ) → ¬ CountsAs s.now.trees db key records)) (λ known. CountsAs s.now.trees db key known.records) result
-  shown_counts (Ok known) shows refused = record {
+  pub shown_counts : (known : Known) → Shows row known → CountsAs s.now.trees db key known.records
+  shown_counts known shows = record {
     said = λ other here. (shows.1, shows.2, ap (λ (r : Row). column r 0) (one_dict s store db key other row here there) ∙ shows.0);
     there = λ some. (row, there);
   }
-  shown_counts (Err fault) shows refused = λ told records counts. let said = counts.said row there in refused.1 (records, said.2, said.0, said.1)
+
+  pub none_shown : ¬ IsRecordNumber (column row 0) → (records : ℕ) → ¬ CountsAs s.now.trees db key records
+  none_shown bad records counts = let said = counts.said row there in bad (records, said.2, said.0, said.1)
 
 pub none_counts : (trees : Trees) (db : ℤ) (key : Key) (rows : List Row) → IsListOf (IsRest dict_tree (key_row db key) trees) rows → slice_get rows 0 ≡ None → CountsAs trees db key 0
 none_counts trees db key rows listed none = record {

@@ -1,5 +1,5 @@
 -- The rows of a key, which spell a list, as its units.
-use Rattle.zeb_packed.proofs.Cited.{◌≡◌, ◌∙◌, ◌<◌, ◌+◌, ◌/◌, ℕ, ℤ, pos, false, Result, Ok, Err, IfOk, List, [], ◌∷◌, ◌++◌, map, length, drop, refl, sym, ap, ap₂, subst, inl, inr, Ordering, Less, Equal, Greater, nat_cmp, nat_eq, arith, ordering_then, Int, Row, column, row_cmp, State, Has, all_has, has_left, has_right, has_either, row_cmp_total, value_cmp-Int, Posting, Key, numbers_apart, Work, posting_cmp, SpellsPart, blocks_of, part_in, key_row, AreSpelled, IsListOf, IsRest, IsStore, blocks_tree, Works, posting_total, ints_order, some_posting, is_less, in_part, part_in_block, part_in_list, each_spelled, one_part, joined_rises, kept_rises, never_itself, same_list, BlockSpells, RegFault, Damaged, IsBlockMalformed, IsBlockIn, IsTold, SpellsIn, Answers, IfDamaged, BlockReads, IsOfBlock, IsOfKey, ListsUnits, own_part, packed_blocks}
+use Rattle.zeb_packed.proofs.Cited.{◌≡◌, ◌∙◌, ◌<◌, ◌/◌, ℕ, ℤ, pos, false, List, [], ◌∷◌, ◌++◌, map, length, drop, refl, sym, ap, ap₂, subst, inl, inr, Ordering, Less, Equal, Greater, nat_cmp, nat_eq, arith, ordering_then, Int, Row, column, row_cmp, State, Has, all_has, has_left, has_right, has_either, row_cmp_total, value_cmp-Int, Posting, Key, numbers_apart, Work, posting_cmp, SpellsPart, blocks_of, part_in, key_row, AreSpelled, IsListOf, IsRest, IsStore, blocks_tree, Works, posting_total, ints_order, some_posting, is_less, in_part, part_in_block, part_in_list, each_spelled, one_part, joined_rises, kept_rises, never_itself, same_list, BlockSpells, IsBlockMalformed, IsBlockIn, IsTold, SpellsIn, BlockReads, IsOfBlock, IsOfKey, ListsUnits, own_part, packed_blocks}
 use Rattle.std.specs.List.Sorted.{IsStrictlySortedBy}
 use Rattle.zeb_register.proofs.BetweenRows.{begins}
 use Rattle.zeb_register.proofs.PackedLists.{one_more_block, posting_lower}
@@ -148,11 +148,6 @@ module _ (s : State) (store : IsStore s) (db : ℤ) (key : Key) where
           let same : spells.0 ≡ block = cc in
           bad part (spells.1, spells.3, subst (λ b. BlockSpells b part spells.1) same spells.4),
     )
-
-    pub answers_shown : {A : Type 0} (items : A → List Posting) (result : Result A RegFault) → IfOk result (λ list. SpellsIn block rest (items list)) → (result ≡ Err Damaged → (list : List Posting) → ¬ SpellsIn block rest list)
-        → Answers (IfDamaged (IsBlockMalformed s.now.trees db key block)) (λ list. BlockReads s.now.trees db key block (items list)) result
-    answers_shown items (Ok list) ok honest = shown_reads (items list) ok
-    answers_shown items (Err fault) ok honest = λ told. shown_malformed (honest (ap Err told))
 
   pub none_reads : (block : ℕ) → IsTold false (IsBlockIn db key block) blocks_tree s.now.trees → BlockReads s.now.trees db key block []
   none_reads block told = record {

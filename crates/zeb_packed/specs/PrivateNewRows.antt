@@ -1,11 +1,14 @@
 -- What only the contracts of private functions speak of; no public clause reaches it.
 -- Rows of keys that have none yet, which are held and put together with those of other keys.
 use Rattle.std.specs.Prelude.{◌≡◌, ◌≢◌, ◌↔◌, ◌⊎◌, ◌++◌, ◌≤◌, ℕ, ℤ, Bool, List, [], ◌∷◌, length, map, take, IsTrue, Result}
+use Rattle.std.specs.Borrow.{MutBor}
 use Rattle.std.specs.List.{AllByRecursion}
+use Rattle.sqlite.specs.Held.{Held, state}
 use Rattle.sqlite.specs.Order.{Row}
 use Rattle.sqlite.specs.State.{State}
 use Rattle.sqlite.specs.Tree.{Trees}
 use Rattle.sqlite_rules.specs.Lists.{Has}
+use Rattle.sqlite_trees.specs.declared.store.Store.{Ghosts}
 use Rattle.zeb_blocks.specs.Blocks.{BlockSpells}
 use Rattle.zeb_blocks.specs.declared.postings.Posting.{Posting}
 use Rattle.zeb_keys.specs.Registers.{register_code}
@@ -135,6 +138,10 @@ pub record HoldsRun (db : ℤ) (run : List KeyChanges) (old mid : Trees) (held :
 -- on an open connection the call is one inside a transaction, which goes on
 abbrev pub GoesOnOpen : {A E : Type 0} → State → State → Result A E → Type 0
 GoesOnOpen old new result = IsTrue old.is_open → Inside old new result (λ _. GoesOn)
+
+-- the same, of a connection that a transaction borrows
+abbrev pub GoesOnOpenOf : {S A E : Type 0} → Ghosts S → (old new : MutBor (Held S)) → Result A E → Type 0
+GoesOnOpenOf store old new result = GoesOnOpen (state store old.now) (state store new.now) result
 
 -- the values are those of so many rows as one statement puts, a row for each of the list
 abbrev pub AreValuesOf : {X : Type 0} → (X → Row) → List X → Row → Type 0

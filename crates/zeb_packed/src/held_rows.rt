@@ -3,9 +3,9 @@
 ghost use Rattle.std.specs.Prelude.{◌≡◌, ◌≢◌, ◌≤◌, [], ◌∷◌, length, map, take, IfOk, IsTrue};
 ghost use Rattle.sqlite.specs.Held.{state};
 ghost use Rattle.sqlite.specs.State.{HasCleanDisk, KeepsCommit, Survives};
-ghost use Rattle.zeb_packed.specs.PrivateNewRows.{AreApart, GainsAll, GoesOnOpen, PutsBlocks, PutsFront, PutsHeld, SomeStands, new_count_row};
-ghost use Rattle.zeb_register.specs.Calls.{GoesOn, Inside, OnlyReads};
-ghost use Rattle.zeb_register.specs.Clauses.{ChangesTable, InStore};
+ghost use Rattle.zeb_packed.specs.PrivateNewRows.{AreApart, GainsAll, GoesOnOpenOf, PutsBlocks, PutsFront, PutsHeld, SomeStands, new_count_row};
+ghost use Rattle.zeb_register.specs.Calls.{GoesOn, OnlyReads};
+ghost use Rattle.zeb_register.specs.Connections.{ChangesTableOf, InStoreOf, InsideOf};
 ghost use Rattle.zeb_register.specs.Store.{dict_tree};
 ghost use Rattle.zeb_register.specs.UnitChanges.{LacksBlock};
 
@@ -25,11 +25,10 @@ fn one_absent<S: Alter>(
     one: &NewBlock<'_>,
 ) -> Result<(), RegFault>
     ensures same { tx.new.conn.ghost_name ≡ tx.old.conn.ghost_name }
-    ensures call { Inside (state S.Store tx.old.conn.now) (state S.Store tx.new.conn.now) result
-        (λ _. OnlyReads) }
-    ensures honest { InStore (state S.Store tx.old.conn.now) (state S.Store tx.new.conn.now)
-        (λ trees. result ≡ Err RegFault.Damaged
-        → ¬ LacksBlock db.0 one.now.key.now one.now.block trees) }
+    ensures call { InsideOf S.Store tx.old.conn tx.new.conn result (λ _. OnlyReads) }
+    ensures honest { InStoreOf S.Store tx.old.conn tx.new.conn
+        (λ trees. result ≡ Err RegFault.Damaged → ¬ LacksBlock db.0 one.now.key.now one.now.block
+        trees) }
 {
     let number = stored(one.block)?;
     block_absent(tx, KeyOf { db, key: one.key }, number)
@@ -47,7 +46,7 @@ fn all_absent<S: Alter>(
         → KeepsCommit (state S.Store tx.old.conn.now) (state S.Store tx.new.conn.now) }
     ensures crash { Survives (state S.Store tx.old.conn.now) (state S.Store tx.new.conn.now)
         (λ _. ⊥) }
-    ensures honest { InStore (state S.Store tx.old.conn.now) (state S.Store tx.new.conn.now)
+    ensures honest { InStoreOf S.Store tx.old.conn tx.new.conn
         (λ trees. result ≡ Err RegFault.Damaged → SomeStands db.0 blocks.now trees) }
 {
     for one in blocks {
@@ -65,8 +64,7 @@ fn many_put<S: Alter>(
 ) -> Result<(), RegFault>
     requires { length blocks.now ≡ MANY }
     ensures same { tx.new.conn.ghost_name ≡ tx.old.conn.ghost_name }
-    ensures call { Inside (state S.Store tx.old.conn.now) (state S.Store tx.new.conn.now) result
-        (λ _. GoesOn) }
+    ensures call { InsideOf S.Store tx.old.conn tx.new.conn result (λ _. GoesOn) }
     ensures put { PutsBlocks db.0 blocks.now (state S.Store tx.old.conn.now)
         (state S.Store tx.new.conn.now) result }
 {
@@ -90,8 +88,7 @@ fn one_put<S: Alter>(
     one: &NewBlock<'_>,
 ) -> Result<(), RegFault>
     ensures same { tx.new.conn.ghost_name ≡ tx.old.conn.ghost_name }
-    ensures call { Inside (state S.Store tx.old.conn.now) (state S.Store tx.new.conn.now) result
-        (λ _. GoesOn) }
+    ensures call { InsideOf S.Store tx.old.conn tx.new.conn result (λ _. GoesOn) }
     ensures put { PutsBlocks db.0 (one.now ∷ []) (state S.Store tx.old.conn.now)
         (state S.Store tx.new.conn.now) result }
 {
@@ -118,8 +115,7 @@ fn front_put<S: Alter>(
 ) -> Result<usize, RegFault>
     requires { blocks.now ≢ [] }
     ensures same { tx.new.conn.ghost_name ≡ tx.old.conn.ghost_name }
-    ensures call { Inside (state S.Store tx.old.conn.now) (state S.Store tx.new.conn.now) result
-        (λ _. GoesOn) }
+    ensures call { InsideOf S.Store tx.old.conn tx.new.conn result (λ _. GoesOn) }
     ensures put { PutsFront db.0 blocks.now (state S.Store tx.old.conn.now)
         (state S.Store tx.new.conn.now) result }
     ensures further { IfOk result (λ count. (1 ≤ count) × (count ≤ length blocks.now)) }
@@ -140,8 +136,7 @@ fn blocks_put<S: Alter>(
     blocks: &[NewBlock<'_>],
 ) -> Result<(), RegFault>
     ensures same { tx.new.conn.ghost_name ≡ tx.old.conn.ghost_name }
-    ensures call { GoesOnOpen (state S.Store tx.old.conn.now) (state S.Store tx.new.conn.now)
-        result }
+    ensures call { GoesOnOpenOf S.Store tx.old.conn tx.new.conn result }
     ensures crash { Survives (state S.Store tx.old.conn.now) (state S.Store tx.new.conn.now)
         (λ _. ⊥) }
     ensures put { IsTrue (state S.Store tx.old.conn.now).is_open → AreApart blocks.now
@@ -162,10 +157,8 @@ fn count_put<S: Alter>(
     one: &NewCount<'_>,
 ) -> Result<(), Error>
     ensures same { tx.new.conn.ghost_name ≡ tx.old.conn.ghost_name }
-    ensures call { Inside (state S.Store tx.old.conn.now) (state S.Store tx.new.conn.now) result
-        (λ _. GoesOn) }
-    ensures put { ChangesTable dict_tree
-        (state S.Store tx.old.conn.now) (state S.Store tx.new.conn.now) result
+    ensures call { InsideOf S.Store tx.old.conn tx.new.conn result (λ _. GoesOn) }
+    ensures put { ChangesTableOf S.Store tx.old.conn tx.new.conn dict_tree result
         (λ _. GainsAll (new_count_row db.0 one.now ∷ [])) }
 {
     let number = stored(one.records)?;
@@ -182,10 +175,8 @@ fn many_counts_put<S: Alter>(
 ) -> Result<(), Error>
     requires { length counts.now ≡ MANY }
     ensures same { tx.new.conn.ghost_name ≡ tx.old.conn.ghost_name }
-    ensures call { Inside (state S.Store tx.old.conn.now) (state S.Store tx.new.conn.now) result
-        (λ _. GoesOn) }
-    ensures put { ChangesTable dict_tree
-        (state S.Store tx.old.conn.now) (state S.Store tx.new.conn.now) result
+    ensures call { InsideOf S.Store tx.old.conn tx.new.conn result (λ _. GoesOn) }
+    ensures put { ChangesTableOf S.Store tx.old.conn tx.new.conn dict_tree result
         (λ _. GainsAll (map (new_count_row db.0) counts.now)) }
 {
     let values = count_values(alloc, db, counts)?;
@@ -202,10 +193,8 @@ fn front_counts_put<S: Alter>(
 ) -> Result<usize, Error>
     requires { counts.now ≢ [] }
     ensures same { tx.new.conn.ghost_name ≡ tx.old.conn.ghost_name }
-    ensures call { Inside (state S.Store tx.old.conn.now) (state S.Store tx.new.conn.now) result
-        (λ _. GoesOn) }
-    ensures put { ChangesTable dict_tree
-        (state S.Store tx.old.conn.now) (state S.Store tx.new.conn.now) result
+    ensures call { InsideOf S.Store tx.old.conn tx.new.conn result (λ _. GoesOn) }
+    ensures put { ChangesTableOf S.Store tx.old.conn tx.new.conn dict_tree result
         (λ count. GainsAll (map (new_count_row db.0) (take count counts.now))) }
     ensures further { IfOk result (λ count. (1 ≤ count) × (count ≤ length counts.now)) }
 {
@@ -225,12 +214,11 @@ fn counts_put<S: Alter>(
     counts: &[NewCount<'_>],
 ) -> Result<(), Error>
     ensures same { tx.new.conn.ghost_name ≡ tx.old.conn.ghost_name }
-    ensures call { GoesOnOpen (state S.Store tx.old.conn.now) (state S.Store tx.new.conn.now)
-        result }
+    ensures call { GoesOnOpenOf S.Store tx.old.conn tx.new.conn result }
     ensures crash { Survives (state S.Store tx.old.conn.now) (state S.Store tx.new.conn.now)
         (λ _. ⊥) }
-    ensures put { IsTrue (state S.Store tx.old.conn.now).is_open → ChangesTable dict_tree
-        (state S.Store tx.old.conn.now) (state S.Store tx.new.conn.now) result
+    ensures put { IsTrue (state S.Store tx.old.conn.now).is_open
+        → ChangesTableOf S.Store tx.old.conn tx.new.conn dict_tree result
         (λ _. GainsAll (map (new_count_row db.0) counts.now)) }
 {
     let mut done = 0;
@@ -248,8 +236,7 @@ pub(crate) fn held_put<S: Alter>(
     held: &NewRows<'_>,
 ) -> Result<(), RegFault>
     ensures same { tx.new.conn.ghost_name ≡ tx.old.conn.ghost_name }
-    ensures call { GoesOnOpen (state S.Store tx.old.conn.now) (state S.Store tx.new.conn.now)
-        result }
+    ensures call { GoesOnOpenOf S.Store tx.old.conn tx.new.conn result }
     ensures crash { Survives (state S.Store tx.old.conn.now) (state S.Store tx.new.conn.now)
         (λ _. ⊥) }
     ensures put { PutsHeld db.0 held.now (state S.Store tx.old.conn.now)

@@ -4,9 +4,10 @@ ghost use Rattle.std.specs.Prelude.{IsUtf8, ◌≡◌, ◌≢◌, ◌≤◌, ◌
 ghost use Rattle.std.specs.List.{AllByRecursion};
 ghost use Rattle.sqlite.specs.Held.{state};
 ghost use Rattle.sqlite.specs.State.{Survives};
-ghost use Rattle.zeb_packed.specs.PrivateNewRows.{GoesOnOpen, HoldsKeys, TurnsKnown, TurnsOne};
+ghost use Rattle.zeb_packed.specs.PrivateNewRows.{GoesOnOpenOf, HoldsKeys, TurnsKnown, TurnsOne};
 ghost use Rattle.zeb_packed.specs.PrivatePackedChanges.{IsClearFrom};
-ghost use Rattle.zeb_register.specs.Calls.{GoesOn, Inside};
+ghost use Rattle.zeb_register.specs.Calls.{GoesOn};
+ghost use Rattle.zeb_register.specs.Connections.{InsideOf};
 ghost use Rattle.zeb_register.specs.Formats.{packed_blocks};
 ghost use Rattle.zeb_register.specs.RunChanges.{ChangesKeys, IsRun, changes_in};
 ghost use Rattle.zeb_register.specs.Tallies.{Works};
@@ -39,8 +40,7 @@ fn known_turned<'a, S: Alter>(
     requires some { changes.now ≢ [] }
     requires known { (known.records ≤ 999999999) × IsClearFrom known }
     ensures same { tx.new.conn.ghost_name ≡ tx.old.conn.ghost_name }
-    ensures call { GoesOnOpen (state S.Store tx.old.conn.now) (state S.Store tx.new.conn.now)
-        result }
+    ensures call { GoesOnOpenOf S.Store tx.old.conn tx.new.conn result }
     ensures crash { Survives (state S.Store tx.old.conn.now) (state S.Store tx.new.conn.now)
         (λ _. ⊥) }
     ensures turned { TurnsKnown db.0 key.now changes.now known.records
@@ -67,8 +67,7 @@ fn new_turned<'a, S: Alter>(
     requires rising { NumbersRise changes.now }
     requires some { changes.now ≢ [] }
     ensures same { tx.new.conn.ghost_name ≡ tx.old.conn.ghost_name }
-    ensures call { GoesOnOpen (state S.Store tx.old.conn.now) (state S.Store tx.new.conn.now)
-        result }
+    ensures call { GoesOnOpenOf S.Store tx.old.conn tx.new.conn result }
     ensures crash { Survives (state S.Store tx.old.conn.now) (state S.Store tx.new.conn.now)
         (λ _. ⊥) }
     ensures turned { TurnsKnown db.0 key.now changes.now 0
@@ -94,8 +93,7 @@ fn key_turned<'a, S: Alter>(
 ) -> Result<(), RegFault>
     requires rising { NumbersRise changes.now }
     ensures same { tx.new.conn.ghost_name ≡ tx.old.conn.ghost_name }
-    ensures call { GoesOnOpen (state S.Store tx.old.conn.now) (state S.Store tx.new.conn.now)
-        result }
+    ensures call { GoesOnOpenOf S.Store tx.old.conn tx.new.conn result }
     ensures crash { Survives (state S.Store tx.old.conn.now) (state S.Store tx.new.conn.now)
         (λ _. ⊥) }
     ensures turned { TurnsOne db.0 key.now changes.now of_run.are_new
@@ -123,8 +121,7 @@ fn keys_turned<'a, S: Alter>(
 ) -> Result<NewRows<'a>, RegFault>
     requires rising { IsRun run.now }
     ensures same { tx.new.conn.ghost_name ≡ tx.old.conn.ghost_name }
-    ensures call { GoesOnOpen (state S.Store tx.old.conn.now) (state S.Store tx.new.conn.now)
-        result }
+    ensures call { GoesOnOpenOf S.Store tx.old.conn tx.new.conn result }
     ensures crash { Survives (state S.Store tx.old.conn.now) (state S.Store tx.new.conn.now)
         (λ _. ⊥) }
     ensures holds { HoldsKeys db.0 run.now of_run.are_new (state S.Store tx.old.conn.now)
@@ -150,8 +147,7 @@ pub(crate) fn run_made<S: Alter>(
 ) -> Result<(), RegFault>
     requires rising { IsRun run.now }
     ensures same { tx.new.conn.ghost_name ≡ tx.old.conn.ghost_name }
-    ensures call { Inside (state S.Store tx.old.conn.now) (state S.Store tx.new.conn.now) result
-        (λ _. GoesOn) }
+    ensures call { InsideOf S.Store tx.old.conn tx.new.conn result (λ _. GoesOn) }
     ensures units { ChangesKeys packed_blocks db.0 run.now
         (state S.Store tx.old.conn.now) (state S.Store tx.new.conn.now) result }
     ensures work { OnOk result (Works (1 * changes_in run.now) (1 * changes_in run.now)

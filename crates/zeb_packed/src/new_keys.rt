@@ -2,10 +2,9 @@
 
 ghost use Rattle.std.specs.Prelude.{IsUtf8, ◌≡◌, IsTrue};
 ghost use Rattle.std.specs.List.{AllByRecursion};
-ghost use Rattle.sqlite.specs.Held.{state};
 ghost use Rattle.zeb_packed.specs.PrivateNewRows.{AreToldNew, IsOfRegister};
-ghost use Rattle.zeb_register.specs.Calls.{Inside, OnlyReads};
-ghost use Rattle.zeb_register.specs.Clauses.{TellsInside};
+ghost use Rattle.zeb_register.specs.Calls.{OnlyReads};
+ghost use Rattle.zeb_register.specs.Connections.{InsideOf, TellsInsideOf};
 ghost use Rattle.zeb_register.specs.RunChanges.{KeysRise};
 
 use crate::statements::packed_changes::dict_from;
@@ -55,10 +54,9 @@ pub(crate) fn run_known<S: Alter>(
 ) -> Result<RunKnown, Error>
     requires { KeysRise run.now }
     ensures same { tx.new.conn.ghost_name ≡ tx.old.conn.ghost_name }
-    ensures call { Inside (state S.Store tx.old.conn.now) (state S.Store tx.new.conn.now) result
-        (λ _. OnlyReads) }
-    ensures told { TellsInside (state S.Store tx.old.conn.now) (state S.Store tx.new.conn.now)
-        result (λ trees known. AreToldNew known.are_new db.0 run.now trees) }
+    ensures call { InsideOf S.Store tx.old.conn tx.new.conn result (λ _. OnlyReads) }
+    ensures told { TellsInsideOf S.Store tx.old.conn tx.new.conn result
+        (λ trees known. AreToldNew known.are_new db.0 run.now trees) }
 {
     if run.is_empty() {
         // A closed connection is refused also where there is no key.

@@ -1,6 +1,6 @@
 //! Registers packed in blocks: a row of `blocks` for each block of a key's postings, and a row of `dict` for each key.
 
-ghost use Rattle.std.specs.Prelude.{◌≡◌, ◌≢◌, ◌^◌, ◌<◌, ◌≤◌, ◌++◌, List, length, pos, take, IfOk, IfErr, OnOk, FitsSigned};
+ghost use Rattle.std.specs.Prelude.{◌≡◌, ◌^◌, ◌<◌, ◌≤◌, ◌++◌, List, length, pos, take, IfOk, IfErr, OnOk, FitsSigned};
 ghost use Rattle.std.specs.Int.{w64};
 ghost use Rattle.sqlite.specs.Order.{Row as Columns, column};
 ghost use Rattle.sqlite.specs.declared.types.Value.TheVariants.{Int};
@@ -10,14 +10,12 @@ ghost use Rattle.zeb_register.specs.PrivateRowPlaces.{first_two};
 ghost use Rattle.zeb_register.specs.PrivatePackedRows.{AreSpelled};
 ghost use Rattle.zeb_blocks.specs.Blocks.{BlockSpells};
 ghost use Rattle.zeb_packed.specs.PrivatePackedRows.{EndsCounting, SomeMalformed, TellTerms, count_row};
-ghost use Rattle.zeb_register.specs.Answers.{Answers, IfDamaged};
+ghost use Rattle.zeb_register.specs.Answers.{Answers, IfDamaged, IfRowDamaged};
 ghost use Rattle.zeb_register.specs.Formats.{packed_blocks};
 ghost use Rattle.zeb_register.specs.PackedUnits.{HasMalformed};
 ghost use Rattle.zeb_register.specs.Units.{ListsUnits};
-ghost use Rattle.sqlite.specs.Held.{state};
 ghost use Rattle.sqlite.specs.State.{IsUnchanged};
-ghost use Rattle.zeb_register.specs.Calls.{Reading};
-ghost use Rattle.zeb_register.specs.Clauses.{IsReasoned, OnStore, Tells};
+ghost use Rattle.zeb_register.specs.Connections.{IsReasonedOf, OnStoreOf, ReadingOf, TellsOf};
 ghost use Rattle.zeb_register.specs.Tallies.{Works};
 
 use crate::statements::packed::block_rows;
@@ -26,7 +24,7 @@ use std::alloc::Global;
 use zeb_blocks::{Damaged, Posting, push_block};
 use zeb_keys::{Key, Term};
 use zeb_register::for_layouts::{counted, read, read_bytes, read_number};
-use zeb_register::{DatabaseId, RegFault, RegisterOf, TermCount, Work};
+use zeb_register::{DatabaseId, RegFault, RegisterOf, RowFault, TermCount, Work};
 
 /// How many records a database has at most, since each has a number of 1 to this.
 pub(crate) const MOST_RECORDS: u64 = 999_999_999;
@@ -39,14 +37,13 @@ pub(crate) fn key_postings<S: Alter>(
     db: DatabaseId,
     key: &Key,
 ) -> Result<Vec<Posting>, RegFault>
-    ensures call { Reading (state S.Store conn.old) (state S.Store conn.new) result
-        (λ _. IsUnchanged) }
-    ensures lists { OnStore (state S.Store conn.old) (state S.Store conn.new) (λ trees. Answers
-        (IfDamaged (HasMalformed trees db.0 key.now))
+    ensures call { ReadingOf S.Store conn.old conn.new result (λ _. IsUnchanged) }
+    ensures lists { OnStoreOf S.Store conn.old conn.new
+        (λ trees. Answers (IfDamaged (HasMalformed trees db.0 key.now))
         (λ list. ListsUnits packed_blocks trees db.0 key.now list.items) result) }
-    ensures refused { IsReasoned (state S.Store conn.old) (state S.Store conn.new) result }
-    ensures work { Tells (state S.Store conn.old) (state S.Store conn.new) result
-        (λ _ list. Works 0 0 (blocks_of list.items) 0 work.old work.new) }
+    ensures refused { IsReasonedOf S.Store conn.old conn.new result }
+    ensures work { TellsOf S.Store conn.old conn.new result (λ _ list. Works 0 0
+        (blocks_of list.items) 0 work.old work.new) }
 {
     let at = RegisterOf {
         db,
@@ -60,8 +57,8 @@ pub(crate) fn key_postings<S: Alter>(
 }
 
 /// The postings that blocks spell, one block behind the other.
-fn postings_in(alloc: Global, rows: &[Row]) -> Result<Vec<Posting>, RegFault>
-    ensures { Answers (λ fault. (fault ≢ RegFault.Store) × IfDamaged (SomeMalformed rows.now) fault)
+fn postings_in(alloc: Global, rows: &[Row]) -> Result<Vec<Posting>, RowFault>
+    ensures { Answers (IfRowDamaged (SomeMalformed rows.now))
         (λ list. AreSpelled rows.now list.items) result }
 {
     let mut postings = Vec::new(alloc);
@@ -72,11 +69,10 @@ fn postings_in(alloc: Global, rows: &[Row]) -> Result<Vec<Posting>, RegFault>
 }
 
 /// Puts the postings that a row's block spells behind those before it.
-fn add_part(postings: &mut Vec<Posting>, row: &Row) -> Result<(), RegFault>
+fn add_part(postings: &mut Vec<Posting>, row: &Row) -> Result<(), RowFault>
     ensures ok { OnOk result ((part : List _) × SpellsPart row.now part
         × (postings.new.items ≡ postings.old.items ++ part)) }
-    ensures honest { result ≡ Err RegFault.Damaged → (part : List _) → ¬ SpellsPart row.now part }
-    ensures unstored { result ≢ Err RegFault.Store }
+    ensures honest { result ≡ Err RowFault.Damaged → (part : List _) → ¬ SpellsPart row.now part }
 {
     let block = read_number(row, 0)?;
     let bytes = read_bytes(row, 1)?;
@@ -88,16 +84,15 @@ pub(crate) fn add_spelled(
     postings: &mut Vec<Posting>,
     block: u64,
     bytes: &[u8],
-) -> Result<(), RegFault>
+) -> Result<(), RowFault>
     ensures ok { OnOk result ((part : List _) × BlockSpells block part bytes.now
         × (postings.new.items ≡ postings.old.items ++ part)) }
-    ensures honest { result ≡ Err RegFault.Damaged → (part : List _)
+    ensures honest { result ≡ Err RowFault.Damaged → (part : List _)
         → ¬ BlockSpells block part bytes.now }
-    ensures unstored { result ≢ Err RegFault.Store }
 {
     match push_block(postings, block, bytes)? {
-        Ok(()) => Ok(()),
-        Err(Damaged) => Err(RegFault::Damaged),
+        Ok(_) => Ok(()),
+        Err(Damaged) => Err(RowFault::Damaged),
     }
 }
 
@@ -111,9 +106,8 @@ pub(crate) fn limit_of(n: u64) -> i64
 }
 
 /// The terms that rows show, each with the number of its records.
-pub(crate) fn counts_in(alloc: Global, rows: &[Row]) -> Result<Vec<TermCount>, RegFault>
-    ensures tells { Answers (λ fault. (fault ≢ RegFault.Store)
-        × IfDamaged (EndsCounting rows.now) fault)
+pub(crate) fn counts_in(alloc: Global, rows: &[Row]) -> Result<Vec<TermCount>, RowFault>
+    ensures tells { Answers (IfRowDamaged (EndsCounting rows.now))
         (λ list. TellTerms rows.now list.items) result }
     ensures few { length rows.now < 2 ^ 63 }
 {
@@ -125,11 +119,10 @@ pub(crate) fn counts_in(alloc: Global, rows: &[Row]) -> Result<Vec<TermCount>, R
 }
 
 /// The term that a row shows, with the number of its records.
-fn count_of(row: &Row) -> Result<TermCount, RegFault>
+fn count_of(row: &Row) -> Result<TermCount, RowFault>
     ensures ok { IfOk result (λ t. count_row t ≡ first_two row.now) }
     ensures sound { OnOk result (CountsTerm row.now) }
-    ensures honest { result ≡ Err RegFault.Damaged → ¬ CountsTerm row.now }
-    ensures unstored { result ≢ Err RegFault.Store }
+    ensures honest { result ≡ Err RowFault.Damaged → ¬ CountsTerm row.now }
 {
     let term: String = read(row, 0)?;
     let records = records_at(row, 1)?;
@@ -141,15 +134,15 @@ fn count_of(row: &Row) -> Result<TermCount, RegFault>
 
 /// The number of records at this place of a row. It takes no memory: it is refused as `Damaged` alone, where it isn't 1 to 999,999,999, as
 /// every number of records is.
-pub(crate) fn records_at(row: &Row, at: usize) -> Result<u64, RegFault>
+pub(crate) fn records_at(row: &Row, at: usize) -> Result<u64, RowFault>
     ensures ok { IfOk result (λ records. (column row.now at ≡ Int (pos records)) × (1 ≤ records)
         × (records ≤ 999999999)) }
-    ensures refused { IfErr result (λ fault. (fault ≡ RegFault.Damaged)
+    ensures refused { IfErr result (λ fault. (fault ≡ RowFault.Damaged)
         × ¬ IsRecordNumber (column row.now at)) }
 {
     let records = read_number(row, at)?;
     if records == 0 || records > MOST_RECORDS {
-        return Err(RegFault::Damaged);
+        return Err(RowFault::Damaged);
     }
     Ok(records)
 }

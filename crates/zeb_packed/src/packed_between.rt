@@ -1,14 +1,14 @@
 //! The postings of neighbouring terms, by the blocks of all of them.
 
-ghost use Rattle.std.specs.Prelude.{◌≡◌, ◌≢◌, ◌++◌, List, map, sum_by, OnOk};
+ghost use Rattle.std.specs.Prelude.{◌≡◌, ◌++◌, List, map, sum_by, OnOk};
 ghost use Rattle.sqlite.specs.Held.{state};
 ghost use Rattle.sqlite.specs.State.{IsUnchanged};
 ghost use Rattle.zeb_packed.specs.PrivatePackedRows.{SomeMalformed};
-ghost use Rattle.zeb_register.specs.Answers.{Answers, IfDamaged};
+ghost use Rattle.zeb_register.specs.Answers.{Answers, IfDamaged, IfRowDamaged};
 ghost use Rattle.zeb_register.specs.Between.{AreKeysBetween};
 ghost use Rattle.zeb_register.specs.PrivateBetweenRows.{two_behind};
-ghost use Rattle.zeb_register.specs.Calls.{Reading};
-ghost use Rattle.zeb_register.specs.Clauses.{IsReasoned, OnStore, TellsHeld};
+ghost use Rattle.zeb_register.specs.Clauses.{TellsHeld};
+ghost use Rattle.zeb_register.specs.Connections.{IsReasonedOf, OnStoreOf, ReadingOf};
 ghost use Rattle.zeb_register.specs.PackedBlocks.{HoldsBlocks, SpellsPart, blocks_of};
 ghost use Rattle.zeb_register.specs.PrivatePackedRows.{AreSpelled};
 ghost use Rattle.zeb_register.specs.Formats.{packed_blocks};
@@ -21,7 +21,7 @@ use sqlite::{Alter, Connection, Row};
 use std::alloc::Global;
 use zeb_blocks::Posting;
 use zeb_register::for_layouts::{counted, read_bytes, read_number, text_above};
-use zeb_register::{RegFault, RegisterOf, Work};
+use zeb_register::{RegFault, RegisterOf, RowFault, Work};
 
 /// The postings of the terms from `first` to `last`, by their units. `work` counts the rows of `blocks` that are read.
 pub(crate) fn blocks_between<S: Alter>(
@@ -32,12 +32,12 @@ pub(crate) fn blocks_between<S: Alter>(
     first: &str,
     last: &str,
 ) -> Result<Vec<Posting>, RegFault>
-    ensures call { Reading (state S.Store conn.old) (state S.Store conn.new) result
-        (λ _. IsUnchanged) }
-    ensures lists { OnStore (state S.Store conn.old) (state S.Store conn.new) (λ trees. Answers
-        (IfDamaged (HasMalformedBetween packed_blocks trees at first.now last.now))
-        (λ list. ListsBetween packed_blocks trees at first.now last.now list.items) result) }
-    ensures refused { IsReasoned (state S.Store conn.old) (state S.Store conn.new) result }
+    ensures call { ReadingOf S.Store conn.old conn.new result (λ _. IsUnchanged) }
+    ensures lists { OnStoreOf S.Store conn.old conn.new
+        (λ trees. Answers (IfDamaged (HasMalformedBetween packed_blocks trees at first.now
+        last.now)) (λ list. ListsBetween packed_blocks trees at first.now last.now list.items)
+        result) }
+    ensures refused { IsReasonedOf S.Store conn.old conn.new result }
     ensures work { TellsHeld HoldsBlocks (state S.Store conn.old) (state S.Store conn.new) result
         (λ content _. (keys : List _) → AreKeysBetween content at first.now last.now keys
         → Works 0 0 (sum_by (λ key. blocks_of (content at.db.0 key)) keys) 0 work.old work.new) }
@@ -50,9 +50,8 @@ pub(crate) fn blocks_between<S: Alter>(
 }
 
 /// The postings that blocks spell, one block behind the other, where each row has its term before them.
-fn postings_behind(alloc: Global, rows: &[Row]) -> Result<Vec<Posting>, RegFault>
-    ensures { Answers (λ fault. (fault ≢ RegFault.Store)
-        × IfDamaged (SomeMalformed (map two_behind rows.now)) fault)
+fn postings_behind(alloc: Global, rows: &[Row]) -> Result<Vec<Posting>, RowFault>
+    ensures { Answers (IfRowDamaged (SomeMalformed (map two_behind rows.now)))
         (λ list. AreSpelled (map two_behind rows.now) list.items) result }
 {
     let mut postings = Vec::new(alloc);
@@ -63,12 +62,11 @@ fn postings_behind(alloc: Global, rows: &[Row]) -> Result<Vec<Posting>, RegFault
 }
 
 /// Puts the postings that a row's block spells behind those before it.
-fn add_behind(postings: &mut Vec<Posting>, row: &Row) -> Result<(), RegFault>
+fn add_behind(postings: &mut Vec<Posting>, row: &Row) -> Result<(), RowFault>
     ensures ok { OnOk result ((part : List _) × SpellsPart (two_behind row.now) part
         × (postings.new.items ≡ postings.old.items ++ part)) }
-    ensures honest { result ≡ Err RegFault.Damaged → (part : List _)
+    ensures honest { result ≡ Err RowFault.Damaged → (part : List _)
         → ¬ SpellsPart (two_behind row.now) part }
-    ensures unstored { result ≢ Err RegFault.Store }
 {
     let block = read_number(row, 1)?;
     let bytes = read_bytes(row, 2)?;

@@ -4,18 +4,17 @@ ghost use Rattle.std.specs.Prelude.{IsUtf8, ◌≡◌, ◌≢◌, ◌<◌, ◌�
 ghost use Rattle.sqlite.specs.declared.error.Error.TheVariants.{SqliteFailure};
 ghost use Rattle.sqlite.specs.declared.error.ErrorCode.TheVariants.{ConstraintViolation};
 ghost use Rattle.sqlite.specs.declared.types.Value.TheVariants.{Int};
-ghost use Rattle.sqlite.specs.Held.{state};
 ghost use Rattle.sqlite.specs.Order.{column};
 ghost use Rattle.sqlite_schema.specs.declared.schema.Constraint.{Constraint};
 ghost use Rattle.zeb_blocks.specs.Blocks.{LiesIn};
-ghost use Rattle.zeb_register.specs.Calls.{Inside, OnlyReads};
-ghost use Rattle.zeb_register.specs.Clauses.{InStore, Writes};
+ghost use Rattle.zeb_register.specs.Calls.{OnlyReads};
 ghost use Rattle.zeb_register.specs.PrivateKeyColumns.{IsOfNumbered, IsDictIn};
 ghost use Rattle.zeb_register.specs.PackedBlocks.{IsRecordNumber};
 ghost use Rattle.zeb_register.specs.Store.{blocks_tree, dict_tree};
 ghost use Rattle.zeb_register.specs.UnitChanges.{IsBlockIn, IsTold, PutsCount};
 ghost use Rattle.zeb_register.specs.Answers.{Answers, IfDamaged};
 ghost use Rattle.zeb_packed.specs.PrivatePackedChanges.{IfTold, IsClearFrom, PutsBlock, SpellsIn};
+ghost use Rattle.zeb_register.specs.Connections.{InStoreOf, InsideOf, WritesOf};
 ghost use Rattle.zeb_register.specs.PackedUnits.{BlockReads, CountsAs, IsBlockMalformed};
 
 use crate::packed::{add_spelled, records_at};
@@ -27,7 +26,7 @@ use std::alloc::Global;
 use zeb_blocks::{Posting, spell};
 use zeb_keys::Key;
 use zeb_register::for_layouts::{KeyOf, read, stored};
-use zeb_register::{DatabaseId, RegFault};
+use zeb_register::{DatabaseId, RegFault, RowFault};
 
 /// The postings that a key has in the block: none where it has no row there. `Damaged` where the row spells none.
 pub(crate) fn block_list<S: Alter>(
@@ -38,9 +37,8 @@ pub(crate) fn block_list<S: Alter>(
 ) -> Result<Vec<Posting>, RegFault>
     requires { block < 2 ^ 63 }
     ensures same { tx.new.conn.ghost_name ≡ tx.old.conn.ghost_name }
-    ensures call { Inside (state S.Store tx.old.conn.now) (state S.Store tx.new.conn.now) result
-        (λ _. OnlyReads) }
-    ensures reads { InStore (state S.Store tx.old.conn.now) (state S.Store tx.new.conn.now)
+    ensures call { InsideOf S.Store tx.old.conn tx.new.conn result (λ _. OnlyReads) }
+    ensures reads { InStoreOf S.Store tx.old.conn tx.new.conn
         (λ trees. Answers (IfDamaged (IsBlockMalformed trees db.0 key.now block))
         (λ list. BlockReads trees db.0 key.now block list.items) result) }
     ensures lies { IfOk result (λ list. LiesIn block list.items) }
@@ -49,15 +47,15 @@ pub(crate) fn block_list<S: Alter>(
     let rows = block_bytes(tx, KeyOf { db, key }, number)?;
     let alloc = *rows.allocator();
     match rows.first() {
-        Some(row) => spelled_list(alloc, row, block),
+        Some(row) => Ok(spelled_list(alloc, row, block)?),
         None => Ok(Vec::new(alloc)),
     }
 }
 
 /// The postings that the bytes of a row spell in the block.
-fn spelled_list(alloc: Global, row: &Row, block: u64) -> Result<Vec<Posting>, RegFault>
+fn spelled_list(alloc: Global, row: &Row, block: u64) -> Result<Vec<Posting>, RowFault>
     ensures ok { IfOk result (λ list. SpellsIn block row.now list.items) }
-    ensures honest { result ≡ Err RegFault.Damaged → (list : List _)
+    ensures honest { result ≡ Err RowFault.Damaged → (list : List _)
         → ¬ SpellsIn block row.now list }
 {
     let bytes: Vec<u8> = read(row, 0)?;
@@ -102,10 +100,9 @@ pub(crate) fn key_known<S: Alter>(
     key: &Key,
 ) -> Result<Known, RegFault>
     ensures same { tx.new.conn.ghost_name ≡ tx.old.conn.ghost_name }
-    ensures call { Inside (state S.Store tx.old.conn.now) (state S.Store tx.new.conn.now) result
-        (λ _. OnlyReads) }
+    ensures call { InsideOf S.Store tx.old.conn tx.new.conn result (λ _. OnlyReads) }
     ensures text { OnOk result (IsUtf8 key.now.term) }
-    ensures knows { InStore (state S.Store tx.old.conn.now) (state S.Store tx.new.conn.now)
+    ensures knows { InStoreOf S.Store tx.old.conn tx.new.conn
         (λ trees. Answers (IfDamaged ((records : ℕ) → ¬ CountsAs trees db.0 key.now records))
         (λ known. CountsAs trees db.0 key.now known.records) result) }
     ensures clear { IfOk result (λ known. (known.records ≤ 999999999) × IsClearFrom known) }
@@ -113,7 +110,7 @@ pub(crate) fn key_known<S: Alter>(
     let rows = dict_records(tx, KeyOf { db, key })?;
     let alloc = *rows.allocator();
     match rows.first() {
-        Some(row) => known_at(alloc, row),
+        Some(row) => Ok(known_at(alloc, row)?),
         None => Ok(Known {
             alloc,
             records: 0,
@@ -124,10 +121,10 @@ pub(crate) fn key_known<S: Alter>(
 
 /// What a row of `dict` tells of its key: how many records have it, and nothing of its blocks. It takes no memory: it is refused as `Damaged`
 /// alone.
-fn known_at(alloc: Global, row: &Row) -> Result<Known, RegFault>
+fn known_at(alloc: Global, row: &Row) -> Result<Known, RowFault>
     ensures ok { IfOk result (λ known. (column row.now 0 ≡ Int (pos known.records))
         × (1 ≤ known.records) × (known.records ≤ 999999999) × (2 ^ 56 ≤ known.clear_from)) }
-    ensures refused { IfErr result (λ fault. (fault ≡ RegFault.Damaged)
+    ensures refused { IfErr result (λ fault. (fault ≡ RowFault.Damaged)
         × ¬ IsRecordNumber (column row.now 0)) }
 {
     let records = records_at(row, 0)?;
@@ -151,9 +148,9 @@ pub(crate) fn block_write<S: Alter>(
     requires lies { LiesIn block list.now }
     requires small { block < 2 ^ 63 }
     ensures same { tx.new.conn.ghost_name ≡ tx.old.conn.ghost_name }
-    ensures call { Writes blocks_tree (IfTold is_there (IsBlockIn db.0 key.now block)
-        (PutsBlock db.0 key.now block list.now))
-        (state S.Store tx.old.conn.now) (state S.Store tx.new.conn.now) result }
+    ensures call { WritesOf S.Store tx.old.conn tx.new.conn blocks_tree
+        (IfTold is_there (IsBlockIn db.0 key.now block) (PutsBlock db.0 key.now block list.now))
+        result }
 {
     let number = stored(block)?;
     let at = KeyOf { db, key };
@@ -182,14 +179,13 @@ pub(crate) fn block_begin<S: Alter>(
     requires lies { LiesIn block list.now }
     requires small { block < 2 ^ 63 }
     ensures same { tx.new.conn.ghost_name ≡ tx.old.conn.ghost_name }
-    ensures call { Writes blocks_tree (IfTold false (IsBlockIn db.0 key.now block)
-        (PutsBlock db.0 key.now block list.now))
-        (state S.Store tx.old.conn.now) (state S.Store tx.new.conn.now) result }
-    ensures honest { InStore (state S.Store tx.old.conn.now) (state S.Store tx.new.conn.now)
-        (λ trees. result ≡ Err RegFault.Damaged
-        → ¬ IsTold false (IsBlockIn db.0 key.now block) blocks_tree trees) }
-    ensures absent { InStore (state S.Store tx.old.conn.now) (state S.Store tx.new.conn.now)
-        (λ trees. OnOk result
+    ensures call { WritesOf S.Store tx.old.conn tx.new.conn blocks_tree
+        (IfTold false (IsBlockIn db.0 key.now block) (PutsBlock db.0 key.now block list.now))
+        result }
+    ensures honest { InStoreOf S.Store tx.old.conn tx.new.conn
+        (λ trees. result ≡ Err RegFault.Damaged → ¬ IsTold false (IsBlockIn db.0 key.now block)
+        blocks_tree trees) }
+    ensures absent { InStoreOf S.Store tx.old.conn tx.new.conn (λ trees. OnOk result
         (IsTold false (IsBlockIn db.0 key.now block) blocks_tree trees)) }
 {
     let number = stored(block)?;
@@ -230,13 +226,11 @@ pub(crate) fn block_absent<S: Alter>(
     number: i64,
 ) -> Result<(), RegFault>
     ensures same { tx.new.conn.ghost_name ≡ tx.old.conn.ghost_name }
-    ensures call { Inside (state S.Store tx.old.conn.now) (state S.Store tx.new.conn.now) result
-        (λ _. OnlyReads) }
-    ensures honest { InStore (state S.Store tx.old.conn.now) (state S.Store tx.new.conn.now)
-        (λ trees. result ≡ Err RegFault.Damaged
-        → ¬ IsTold false (IsOfNumbered at.entry number) blocks_tree trees) }
-    ensures absent { InStore (state S.Store tx.old.conn.now) (state S.Store tx.new.conn.now)
-        (λ trees. OnOk result
+    ensures call { InsideOf S.Store tx.old.conn tx.new.conn result (λ _. OnlyReads) }
+    ensures honest { InStoreOf S.Store tx.old.conn tx.new.conn
+        (λ trees. result ≡ Err RegFault.Damaged → ¬ IsTold false (IsOfNumbered at.entry number)
+        blocks_tree trees) }
+    ensures absent { InStoreOf S.Store tx.old.conn tx.new.conn (λ trees. OnOk result
         (IsTold false (IsOfNumbered at.entry number) blocks_tree trees)) }
 {
     let rows = block_bytes(tx, at, number)?;
@@ -255,9 +249,8 @@ pub(crate) fn dict_write<S: Alter>(
     is_there: bool,
 ) -> Result<(), Error>
     ensures same { tx.new.conn.ghost_name ≡ tx.old.conn.ghost_name }
-    ensures call { Writes dict_tree (IfTold is_there (IsDictIn db.0 key.now)
-        (PutsCount db.0 key.now records))
-        (state S.Store tx.old.conn.now) (state S.Store tx.new.conn.now) result }
+    ensures call { WritesOf S.Store tx.old.conn tx.new.conn dict_tree
+        (IfTold is_there (IsDictIn db.0 key.now) (PutsCount db.0 key.now records)) result }
 {
     let number = stored(records)?;
     let at = KeyOf { db, key };

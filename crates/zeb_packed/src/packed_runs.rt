@@ -5,15 +5,15 @@ ghost use Rattle.std.specs.Prelude.{IsTrue, IsUtf8, ◌≡◌, ◌<◌, ◌≤�
 ghost use Rattle.std.specs.List.{AllByRecursion};
 ghost use Rattle.sqlite.specs.Held.{state};
 ghost use Rattle.sqlite.specs.State.{Survives};
-ghost use Rattle.zeb_register.specs.Calls.{GoesOn, Inside};
-ghost use Rattle.zeb_register.specs.Clauses.{ChangesTable, InStore};
+ghost use Rattle.zeb_register.specs.Calls.{GoesOn};
 ghost use Rattle.zeb_register.specs.Formats.{packed_blocks};
 ghost use Rattle.zeb_register.specs.PrivatePackedRows.{IsInBlock};
 ghost use Rattle.zeb_register.specs.Store.{blocks_tree};
 ghost use Rattle.zeb_register.specs.Tallies.{Works};
-ghost use Rattle.zeb_packed.specs.PrivateNewRows.{GoesOnOpen};
+ghost use Rattle.zeb_packed.specs.PrivateNewRows.{GoesOnOpenOf};
 ghost use Rattle.zeb_packed.specs.PrivatePackedChanges.{IsClearFrom};
 ghost use Rattle.zeb_packed.specs.PrivateUnitCalls.{AllowsBlocks, ChangesKnown, ChangesUnits, IsHonestRun, PutsRun, TurnsBlocks};
+ghost use Rattle.zeb_register.specs.Connections.{ChangesTableOf, InStoreOf, InsideOf};
 ghost use Rattle.zeb_register.specs.UnitChanges.{ChangesKey, IsStorableChange, NumbersRise};
 
 use crate::packed_changes::{Known, block_begin, block_list, block_write, dict_write, key_known};
@@ -35,8 +35,7 @@ pub(crate) fn changes_made<S: Alter>(
 ) -> Result<(), RegFault>
     requires rising { NumbersRise changes.now }
     ensures same { tx.new.conn.ghost_name ≡ tx.old.conn.ghost_name }
-    ensures call { Inside (state S.Store tx.old.conn.now) (state S.Store tx.new.conn.now) result
-        (λ _. GoesOn) }
+    ensures call { InsideOf S.Store tx.old.conn tx.new.conn result (λ _. GoesOn) }
     ensures units { ChangesKey packed_blocks db.0 key.now changes.now
         (state S.Store tx.old.conn.now) (state S.Store tx.new.conn.now) result }
     ensures work { OnOk result (Works (length changes.now) (length changes.now)
@@ -73,8 +72,7 @@ fn changes_put<S: Alter>(
     requires stored { AllByRecursion IsStorableChange changes.now }
     requires rising { NumbersRise changes.now }
     ensures same { tx.new.conn.ghost_name ≡ tx.old.conn.ghost_name }
-    ensures call { Inside (state S.Store tx.old.conn.now) (state S.Store tx.new.conn.now) result
-        (λ _. GoesOn) }
+    ensures call { InsideOf S.Store tx.old.conn tx.new.conn result (λ _. GoesOn) }
     ensures units { ChangesUnits db.0 key.now changes.now
         (state S.Store tx.old.conn.now) (state S.Store tx.new.conn.now) result }
 {
@@ -95,8 +93,7 @@ pub(crate) fn known_put<S: Alter>(
     requires rising { NumbersRise changes.now }
     requires known { (known.records ≤ 999999999) × IsClearFrom known }
     ensures same { tx.new.conn.ghost_name ≡ tx.old.conn.ghost_name }
-    ensures call { GoesOnOpen (state S.Store tx.old.conn.now) (state S.Store tx.new.conn.now)
-        result }
+    ensures call { GoesOnOpenOf S.Store tx.old.conn tx.new.conn result }
     ensures crash { Survives (state S.Store tx.old.conn.now) (state S.Store tx.new.conn.now)
         (λ _. ⊥) }
     ensures units { ChangesKnown db.0 key.now changes.now known.records
@@ -118,13 +115,12 @@ fn runs_put<S: Alter>(
     requires stored { AllByRecursion IsStorableChange changes.now }
     requires few { known.records ≤ 999999999 }
     ensures same { tx.new.conn.ghost_name ≡ tx.old.conn.ghost_name }
-    ensures call { Inside (state S.Store tx.old.conn.now) (state S.Store tx.new.conn.now) result
-        (λ _ a b. IsTrue a.is_open → GoesOn a b) }
-    ensures turned { ChangesTable blocks_tree
-        (state S.Store tx.old.conn.now) (state S.Store tx.new.conn.now) result
+    ensures call { InsideOf S.Store tx.old.conn tx.new.conn result (λ _ a b. IsTrue a.is_open
+        → GoesOn a b) }
+    ensures turned { ChangesTableOf S.Store tx.old.conn tx.new.conn blocks_tree result
         (λ after _. TurnsBlocks db.0 key.now changes.now (λ block. known.clear_from ≤ block)
         known.records after) }
-    ensures damaged { InStore (state S.Store tx.old.conn.now) (state S.Store tx.new.conn.now)
+    ensures damaged { InStoreOf S.Store tx.old.conn tx.new.conn
         (λ trees. result ≡ Err RegFault.Damaged → ¬ AllowsBlocks db.0 key.now changes.now
         (λ block. known.clear_from ≤ block) known.records trees) }
 {

@@ -1,12 +1,10 @@
 //! How much a packed register holds: its terms by their rows of `dict`, its postings by the blocks of each term.
 
 ghost use Rattle.std.specs.Prelude.{◌≡◌, ◌<◌, ◌^◌, List, length, IfOk, IfErr, OnOk};
-ghost use Rattle.sqlite.specs.Held.{state};
 ghost use Rattle.sqlite.specs.State.{IsUnchanged};
 ghost use Rattle.zeb_packed.specs.PrivatePackedRows.{SomeMalformed};
 ghost use Rattle.zeb_register.specs.Answers.{Answers, IfDamaged};
-ghost use Rattle.zeb_register.specs.Calls.{Reading};
-ghost use Rattle.zeb_register.specs.Clauses.{IsReasoned, OnStore};
+ghost use Rattle.zeb_register.specs.Connections.{IsReasonedOf, OnStoreOf, ReadingOf};
 ghost use Rattle.zeb_register.specs.Formats.{packed_blocks};
 ghost use Rattle.zeb_register.specs.Occurring.{capped, key_in};
 ghost use Rattle.zeb_register.specs.PackedBlocks.{SpellsPart, blocks_of};
@@ -19,7 +17,7 @@ use crate::statements::packed::block_rows;
 use sqlite::{Alter, Connection, Row};
 use zeb_blocks::Postings;
 use zeb_register::for_layouts::{counted, read_bytes, read_number};
-use zeb_register::{RegFault, RegisterOf, Work};
+use zeb_register::{RegFault, RegisterOf, RowFault, Work};
 
 /// How many postings a term has. `Damaged` where a row of its blocks spells none. `work` counts these rows.
 pub(crate) fn term_postings<S: Alter>(
@@ -28,15 +26,14 @@ pub(crate) fn term_postings<S: Alter>(
     at: RegisterOf,
     term: &str,
 ) -> Result<u64, RegFault>
-    ensures call { Reading (state S.Store conn.old) (state S.Store conn.new) result
-        (λ _. IsUnchanged) }
-    ensures lists { OnStore (state S.Store conn.old) (state S.Store conn.new) (λ trees. Answers
-        (IfDamaged (HasMalformed trees at.db.0 (key_in at.index at.register term.now)))
-        (λ count. (list : List _) × ListsUnits packed_blocks trees at.db.0
-        (key_in at.index at.register term.now) list
+    ensures call { ReadingOf S.Store conn.old conn.new result (λ _. IsUnchanged) }
+    ensures lists { OnStoreOf S.Store conn.old conn.new
+        (λ trees. Answers (IfDamaged (HasMalformed trees at.db.0
+        (key_in at.index at.register term.now))) (λ count. (list : List _)
+        × ListsUnits packed_blocks trees at.db.0 (key_in at.index at.register term.now) list
         × (count ≡ capped (length list)) × Rises (blocks_of list) work.old.block_read
         work.new.block_read) result) }
-    ensures refused { IsReasoned (state S.Store conn.old) (state S.Store conn.new) result }
+    ensures refused { IsReasonedOf S.Store conn.old conn.new result }
     ensures others { work.new ≡ record work.old { block_read = work.new.block_read } }
     ensures fits { OnOk result (work.new.block_read < 2 ^ 64) }
 {
@@ -47,10 +44,10 @@ pub(crate) fn term_postings<S: Alter>(
 }
 
 /// How many postings blocks spell, one block behind the other. It takes no memory: it is refused as `Damaged` alone, where one spells none.
-fn rows_postings(rows: &[Row]) -> Result<u64, RegFault>
+fn rows_postings(rows: &[Row]) -> Result<u64, RowFault>
     ensures ok { IfOk result (λ count. (list : List _) × AreSpelled rows.now list
         × (count ≡ capped (length list))) }
-    ensures refused { IfErr result (λ fault. (fault ≡ RegFault.Damaged) × SomeMalformed rows.now) }
+    ensures refused { IfErr result (λ fault. (fault ≡ RowFault.Damaged) × SomeMalformed rows.now) }
 {
     let mut count: u64 = 0;
     for row in rows {
@@ -60,16 +57,16 @@ fn rows_postings(rows: &[Row]) -> Result<u64, RegFault>
 }
 
 /// How many postings a row's block spells. It takes no memory: it is refused as `Damaged` alone, where it spells none.
-fn row_postings(row: &Row) -> Result<u64, RegFault>
+fn row_postings(row: &Row) -> Result<u64, RowFault>
     ensures ok { IfOk result (λ count. (part : List _) × SpellsPart row.now part
         × (count ≡ length part)) }
-    ensures refused { IfErr result (λ fault. (fault ≡ RegFault.Damaged)
+    ensures refused { IfErr result (λ fault. (fault ≡ RowFault.Damaged)
         × ((part : List _) → ¬ SpellsPart row.now part)) }
 {
     let block = read_number(row, 0)?;
     let bytes = read_bytes(row, 1)?;
     let Ok(part) = Postings::read(block, bytes) else {
-        return Err(RegFault::Damaged);
+        return Err(RowFault::Damaged);
     };
     Ok(part.len() as u64)
 }

@@ -7,6 +7,7 @@ use Rattle.zeb_paths.specs.Told.{AreNames}
 use Rattle.zeb_paths.specs.declared.causes.PathCause.{PathCause}
 use Rattle.zeb_paths.specs.declared.causes.PathCause.TheVariants as cause
 use Rattle.zeb_paths.specs.declared.paths.PathKind.{PathKind}
+use Rattle.zeb_paths.specs.declared.paths.Paths as paths
 use Rattle.zeb_paths.specs.declared.paths.PathKind.TheVariants.{File, Folder}
 use Rattle.zeb_paths.specs.declared.walk.Step.{Step}
 use Rattle.zeb_paths.specs.declared.walk.WalkFault.{WalkFault}
@@ -85,8 +86,8 @@ pub record Tells : Type 0 where
   pub names : List ℕ → Option (List (List ℕ))
 
 -- what paths tell, as a walk is given it
-abbrev pub telling : (List ℕ → Option (List ℕ)) → (List ℕ → Option (Result PathKind PathCause)) → (List ℕ → Option (List (List ℕ))) → Tells
-telling bytes stands names = record { bytes = bytes; stands = stands; names = names }
+abbrev pub telling_of : {P R S : Type 0} → paths.Ghosts P R S → P → Tells
+telling_of g p = record { bytes = g.tells p; stands = g.stands p; names = g.lists p }
 
 -- this may be found at a path, as far as is told
 abbrev pub MayStand : Tells → List ℕ → Result PathKind PathCause → Type 0

@@ -2,7 +2,7 @@
 
 ghost use Rattle.std.specs.Prelude.{◌≡◌, ◌⊎◌, ◌≤◌, ◌<◌, ◌+◌, ◌++◌, [], ℕ, Contains, List, map, string_bytes};
 ghost use Rattle.std.specs.Prelude.{IfErr, IfOk, IfSome};
-ghost use Rattle.zeb_paths.specs.Walks.{AreInOrder, WalksOn, due, due_of, dues_in, dues_left, fault_at, paths_left, slashed, telling};
+ghost use Rattle.zeb_paths.specs.Walks.{AreInOrder, WalksOn, due, due_of, dues_in, dues_left, fault_at, paths_left, slashed, telling_of};
 ghost use Rattle.zeb_paths.specs.Walks.{step_weight, walk_weight};
 ghost use Rattle.zeb_paths.specs.declared.causes.PathCause.{PathCause as Cause};
 ghost use Rattle.zeb_paths.specs.declared.causes.PathCause.TheVariants.{Memory as NoMemory};
@@ -105,9 +105,8 @@ impl<'a, P: Paths> Walk<'a, P> {
     /// order of the names. After a fault the walk is of no use. What follows of a walk is in `laws`.
     pub fn next_file(&mut self) -> Result<Option<String>, WalkFault>
         ensures paths { self.new.paths ≡ self.old.paths }
-        ensures walks { WalksOn (telling (P.tells self.old.paths.now) (P.stands self.old.paths.now)
-            (P.lists self.old.paths.now)) (dues_left self.old.steps.items) result
-            (dues_left self.new.steps.items) }
+        ensures walks { WalksOn (telling_of P.Paths self.old.paths.now)
+            (dues_left self.old.steps.items) result (dues_left self.new.steps.items) }
         // So a loop over a walk ends.
         ensures lighter { IfOk result (λ found. IfSome found (λ _.
             walk_weight self.new.steps.items < walk_weight self.old.steps.items)) }
@@ -124,9 +123,8 @@ impl<'a, P: Paths> Walk<'a, P> {
     /// Looks at the next path.
     fn look(&mut self) -> Result<Seen, WalkFault>
         ensures paths { self.new.paths ≡ self.old.paths }
-        ensures sees { Sees (telling (P.tells self.old.paths.now) (P.stands self.old.paths.now)
-            (P.lists self.old.paths.now)) (dues_left self.old.steps.items) result
-            (dues_left self.new.steps.items) }
+        ensures sees { Sees (telling_of P.Paths self.old.paths.now) (dues_left self.old.steps.items)
+            result (dues_left self.new.steps.items) }
         ensures lighter { IfOk result (IsLighter self.old.steps.items self.new.steps.items) }
     {
         let Some(step) = self.steps.pop() else {
@@ -151,10 +149,9 @@ impl<'a, P: Paths> Walk<'a, P> {
             × IfSome (P.lists self.old.paths.now (string_bytes folder.path))
             (λ told. (why ≡ NoMemory) ⊎ Contains told [])) }
         ensures entered { IfOk result (λ _. (names : List (List ℕ))
-            × AreInOrder (telling (P.tells self.old.paths.now) (P.stands self.old.paths.now)
-            (P.lists self.old.paths.now)) (string_bytes folder.path) names
-            × (dues_left self.new.steps.items
-            ≡ dues_in (due_of folder) names ++ dues_left self.old.steps.items)) }
+            × AreInOrder (telling_of P.Paths self.old.paths.now) (string_bytes folder.path) names
+            × (dues_left self.new.steps.items ≡ dues_in (due_of folder) names ++ dues_left
+            self.old.steps.items)) }
         ensures lighter { IfOk result
             (λ _. walk_weight self.new.steps.items < walk_weight self.old.steps.items + step_weight
             folder) }

@@ -13,13 +13,14 @@ use Rattle.zeb_engine.specs.Transactions.{IsDurable}
 use Rattle.zeb_image.specs.Holdings.{Holdings}
 use Rattle.zeb_image.specs.Image.{Keeps}
 use Rattle.zeb_paths.specs.Closing.{HasReason}
-use Rattle.zeb_paths.specs.Walks.{Tells, telling}
+use Rattle.zeb_paths.specs.Walks.{Tells, telling_of}
 use Rattle.zeb_paths.specs.declared.causes.Closed.{Closed}
 use Rattle.zeb_paths.specs.declared.causes.PathCause.{PathCause}
 use Rattle.zeb_paths.specs.declared.causes.StoreCause.{StoreCause}
 use Rattle.zeb_paths.specs.declared.causes.StoreCause.TheVariants as store_cause
 use Rattle.zeb_paths.specs.declared.paths.Asked.{Asked}
 use Rattle.zeb_paths.specs.declared.paths.PathKind.{PathKind}
+use Rattle.zeb_paths.specs.declared.paths.Paths as paths
 use Rattle.zeb_paths.specs.Opened.{IsWellOpened}
 use Rattle.zeb_profile.specs.declared.directives.Directive.{Directive}
 use Rattle.zeb_profile.specs.Indexes.{store_path}
@@ -49,20 +50,18 @@ pub record Places (S : Type 0) : Type 1 where
   pub untouched : Type 0
 
 -- the same of paths that were these and are those, by what paths tell
-abbrev pub places : {S P : Type 0} → Ghosts S → (P → List ℕ → Option (List ℕ)) → (P → List ℕ → Option (Result PathKind PathCause)) → (P → List ℕ → Option (List (List ℕ)))
-    → (P → List ℕ → Asked → Option PathCause → Type 0) → (P → P → List ℕ → Held S → Type 0) → (P → P → List ℕ → Option StoreCause → Type 0) → (P → List ℕ → Type 0) → (P → List ℕ → Type 0) → (P → Option StoreCause → S → Type 0) → (P → Closed → S → Type 0)
-    → P → P → Places S
-places store tells stands lists explains opens refuses lacks has lets_go leaves old new = record {
+abbrev pub places_of : {P R S : Type 0} → Ghosts S → paths.Ghosts P R S → (old new : P) → Places S
+places_of store g old new = record {
   store = store;
-  tells = tells old;
-  sees = telling (tells new) (stands new) (lists new);
-  explains = explains new;
-  opens = opens old new;
-  refuses = refuses old new;
-  lacks = lacks old;
-  has = has old;
-  lets_go = lets_go new;
-  leaves = leaves new;
+  tells = g.tells old;
+  sees = telling_of g new;
+  explains = g.explains new;
+  opens = g.opens old new;
+  refuses = g.refuses old new;
+  lacks = g.lacks old;
+  has = g.has old;
+  lets_go = g.lets_go new;
+  leaves = g.leaves new;
   untouched = new ≡ old;
 }
 

@@ -2,7 +2,7 @@
 
 ghost use Rattle.std.specs.Prelude.{◌≡◌, ◌⊎◌, ⊤, ◌+◌, ◌∷◌, ◌++◌, [], ℕ, List, length, map, string_bytes, IfErr, IfOk};
 ghost use Rattle.zeb_engine.specs.Analysed.{HasLines};
-ghost use Rattle.zeb_paths.specs.Walks.{telling};
+ghost use Rattle.zeb_paths.specs.Walks.{telling_of};
 ghost use Rattle.zeb_program.specs.FaultAnswers.{NamesMet};
 ghost use Rattle.zeb_program.specs.Inputs.{AreShort};
 ghost use Rattle.zeb_program.specs.PrivateAnalyses.{ReadsFiles};
@@ -38,16 +38,15 @@ pub fn analyse_files<S: Alter, L: Layout, P: Paths>(
     named: &[String],
 ) -> Result<AnalysedFiles, Fault>
     // All of them, and no other.
-    ensures reads { IfOk result (ReadsFiles
-        (telling (P.tells paths.now) (P.stands paths.now) (P.lists paths.now))
-        session.now.profile session.now.limits.records (map string_bytes named.now)) }
+    ensures reads { IfOk result (ReadsFiles (telling_of P.Paths paths.now) session.now.profile
+        session.now.limits.records (map string_bytes named.now)) }
     // Files whose bytes are told are refused where one has more bytes than a file may have, and else only for want of memory.
     ensures reason { (files : List (List ℕ)) → AreTold (P.tells paths.now)
         (map string_bytes named.now) files
         → IfErr result (λ fault. (fault ≡ Memory) ⊎ (¬ AreShort files)) }
     ensures unread { IfErr result (IsUnreadAt (P.tells paths.now)) }
-    ensures met { IfErr result (NamesMet (telling (P.tells paths.now) (P.stands paths.now)
-        (P.lists paths.now)) ⊤ (map string_bytes named.now)) }
+    ensures met { IfErr result (NamesMet (telling_of P.Paths paths.now) ⊤
+        (map string_bytes named.now)) }
 {
     let mut buffer = RecordBuf::new(alloc)?;
     let mut unmarked = Vec::new(alloc);

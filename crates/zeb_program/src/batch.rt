@@ -1,11 +1,9 @@
 //! A batch: commands in one session, one on a line.
 
 ghost use Rattle.std.specs.Prelude.{◌≡◌, ◌++◌, ◌∷◌, [], false, IfOk, MatchResult, OnErr};
-ghost use Rattle.zeb_paths.specs.Walks.{telling};
-ghost use Rattle.zeb_register.specs.Formats.{version_of};
+ghost use Rattle.zeb_paths.specs.Walks.{telling_of};
 ghost use Rattle.sqlite.specs.Held.{state};
 ghost use Rattle.sqlite.specs.State.{HasCleanDisk};
-ghost use Rattle.zeb_change.specs.Conditions.{conditions};
 ghost use Rattle.zeb_engine.specs.Refusals.{refusal_text};
 ghost use Rattle.zeb_program.specs.ScriptAnswers.{AnswersOpened, AnswersStopped};
 ghost use Rattle.std.specs.Io.KnownBytes.{Appends};
@@ -15,6 +13,7 @@ ghost use Rattle.zeb_program.specs.OverTables.{CommandOver, LineOver, LinesOver,
 ghost use Rattle.zeb_program.specs.PrivateServing.{Leads};
 ghost use Rattle.zeb_program.specs.PrivateWordRuns.{RunsOnNothing};
 ghost use Rattle.zeb_program.specs.Serving.{LeadsOn};
+ghost use Rattle.zeb_engine.specs.Sessions.{KeepsConditions, conditions_in};
 ghost use Rattle.zeb_program.specs.Statuses.{IsFaultStatus, refusal_status};
 
 use crate::failures::{Failure, tell_failure};
@@ -43,13 +42,11 @@ pub fn run_in_memory<P: Paths, W: Write>(
 ) -> Result<Status, AllocError>
     ensures sound { output.new.failed ≡ false → output.old.failed ≡ false }
     ensures answer { IfOk result (λ status. output.new.failed ≡ false
-        → AnswersOpened (telling (P.tells paths.now) (P.stands paths.now) (P.lists paths.now))
-        profile batch.entry.lines_before batch.entry.text.now (W.contents output.old.writer)
-        (W.contents output.new.writer) status) }
+        → AnswersOpened (telling_of P.Paths paths.now) profile batch.entry.lines_before
+        batch.entry.text.now (W.contents output.old.writer) (W.contents output.new.writer) status) }
     ensures stopped { OnErr result (output.new.failed ≡ false
-        → AnswersStopped (telling (P.tells paths.now) (P.stands paths.now) (P.lists paths.now))
-        profile batch.entry.lines_before batch.entry.text.now (W.contents output.old.writer)
-        (W.contents output.new.writer)) }
+        → AnswersStopped (telling_of P.Paths paths.now) profile batch.entry.lines_before
+        batch.entry.text.now (W.contents output.old.writer) (W.contents output.new.writer)) }
 {
     match session_in_memory(alloc, profile) {
         Ok(mut session) => run_lines(alloc, &mut session, paths, batch, output),
@@ -67,15 +64,13 @@ pub fn run_on_nothing<P: Paths, W: Write, V: Write>(
     fault_output: &mut Sink<V>,
 ) -> Result<Status, AllocError>
     ensures answer { IfOk result (λ status. output.new.failed ≡ false
-        → fault_output.new.failed ≡ false → RunsOnNothing
-        (telling (P.tells paths.now) (P.stands paths.now) (P.lists paths.now))
-        profile batch.entry.lines_before batch.entry.text.now (W.contents output.old.writer)
+        → fault_output.new.failed ≡ false → RunsOnNothing (telling_of P.Paths paths.now) profile
+        batch.entry.lines_before batch.entry.text.now (W.contents output.old.writer)
         (W.contents output.new.writer) (V.contents fault_output.old.writer)
         (V.contents fault_output.new.writer) status) }
     ensures stopped { OnErr result (output.new.failed ≡ false
-        → AnswersStopped (telling (P.tells paths.now) (P.stands paths.now) (P.lists paths.now))
-        profile batch.entry.lines_before batch.entry.text.now (W.contents output.old.writer)
-        (W.contents output.new.writer)) }
+        → AnswersStopped (telling_of P.Paths paths.now) profile batch.entry.lines_before
+        batch.entry.text.now (W.contents output.old.writer) (W.contents output.new.writer)) }
     ensures silent { OnErr result (fault_output.new ≡ fault_output.old) }
 {
     match session_in_memory(alloc, profile) {
@@ -96,32 +91,29 @@ pub fn run_lines<S: Alter, L: Layout, P: Paths, W: Write>(
     ensures sound { output.new.failed ≡ false → output.old.failed ≡ false }
     ensures answer { IfOk result (λ status. output.new.failed ≡ false
         → HasCleanDisk (state S.Store session.new.connection)
-        → LeadsOn (state S.Store session.old.connection)
-        (state S.Store session.new.connection) (W.contents output.old.writer)
-        (W.contents output.new.writer) (λ before bytes last. AnswersBatch (P.tells paths.now)
-        (conditions (version_of L.format) session.old.profile session.old.limits)
+        → LeadsOn (state S.Store session.old.connection) (state S.Store session.new.connection)
+        (W.contents output.old.writer) (W.contents output.new.writer) (λ before bytes last.
+        AnswersBatch (P.tells paths.now) (conditions_in L.format session.old)
         batch.entry.lines_before batch.entry.text.now before bytes status last)) }
     // Each line is answered as the engine says of it on any tables, on those that the line before it left.
     ensures over { IfOk result (λ status. output.new.failed ≡ false
         → HasCleanDisk (state S.Store session.new.connection)
         → Writes (W.contents output.old.writer) (W.contents output.new.writer)
-        (λ bytes. LinesOver S.Store (telling (P.tells paths.now) (P.stands paths.now)
-        (P.lists paths.now)) L.format (conditions (version_of L.format) session.old.profile
-        session.old.limits) batch.entry.lines_before batch.entry.text.now session.old.connection
-        bytes status session.new.connection)) }
+        (λ bytes. LinesOver S.Store (telling_of P.Paths paths.now) L.format
+        (conditions_in L.format session.old) batch.entry.lines_before batch.entry.text.now
+        session.old.connection bytes status session.new.connection)) }
     ensures stopped { OnErr result (output.new.failed ≡ false
-        → HasCleanDisk (state S.Store session.new.connection) → StopsPart S.Store
-        (telling (P.tells paths.now) (P.stands paths.now) (P.lists paths.now)) L.format
-        (conditions (version_of L.format) session.old.profile session.old.limits)
-        batch.entry.lines_before batch.entry.text.now (W.contents output.old.writer)
-        (W.contents output.new.writer) session.old.connection session.new.connection) }
+        → HasCleanDisk (state S.Store session.new.connection)
+        → StopsPart S.Store (telling_of P.Paths paths.now) L.format
+        (conditions_in L.format session.old) batch.entry.lines_before batch.entry.text.now
+        (W.contents output.old.writer) (W.contents output.new.writer) session.old.connection
+        session.new.connection) }
     // Whatever is written, also where a write fails.
     ensures does { HasCleanDisk (state S.Store session.new.connection)
-        → HasCleanDisk (state S.Store session.old.connection) × DoesBatch S.Store
-        (telling (P.tells paths.now) (P.stands paths.now) (P.lists paths.now)) L.format
-        (conditions (version_of L.format) session.old.profile session.old.limits)
-        batch.entry.lines_before batch.entry.text.now result session.old.connection
-        session.new.connection }
+        → HasCleanDisk (state S.Store session.old.connection)
+        × DoesBatch S.Store (telling_of P.Paths paths.now) L.format
+        (conditions_in L.format session.old) batch.entry.lines_before batch.entry.text.now result
+        session.old.connection session.new.connection }
 {
     let mut rest = batch.text;
     let mut number = batch.lines_before;
@@ -147,32 +139,28 @@ pub fn run_line<S: Alter, L: Layout, P: Paths, W: Write>(
     ensures sound { output.new.failed ≡ false → output.old.failed ≡ false }
     ensures answer { IfOk result (λ status. output.new.failed ≡ false
         → HasCleanDisk (state S.Store session.new.connection)
-        → LeadsOn (state S.Store session.old.connection)
-        (state S.Store session.new.connection) (W.contents output.old.writer)
-        (W.contents output.new.writer) (λ before bytes later. AnswersAsTold (P.tells paths.now)
-        (conditions (version_of L.format) session.old.profile session.old.limits) number line.now
+        → LeadsOn (state S.Store session.old.connection) (state S.Store session.new.connection)
+        (W.contents output.old.writer) (W.contents output.new.writer) (λ before bytes later.
+        AnswersAsTold (P.tells paths.now) (conditions_in L.format session.old) number line.now
         before bytes status later)) }
     // It is answered as the engine says of it on any tables.
     ensures over { IfOk result (λ status. output.new.failed ≡ false
         → HasCleanDisk (state S.Store session.new.connection)
         → Writes (W.contents output.old.writer) (W.contents output.new.writer)
-        (λ bytes. LineOver S.Store (telling (P.tells paths.now) (P.stands paths.now)
-        (P.lists paths.now)) L.format (conditions (version_of L.format) session.old.profile
-        session.old.limits) number line.now
-        session.old.connection bytes status session.new.connection)) }
+        (λ bytes. LineOver S.Store (telling_of P.Paths paths.now) L.format
+        (conditions_in L.format session.old) number line.now session.old.connection bytes status
+        session.new.connection)) }
     // It is done, whatever is written; and where memory runs out at it, it may be done all the same.
-    ensures does { MatchResult result
-        (λ _. HasCleanDisk (state S.Store session.new.connection) → DoesLine S.Store
-        (telling (P.tells paths.now) (P.stands paths.now) (P.lists paths.now)) L.format
-        (conditions (version_of L.format) session.old.profile session.old.limits) number line.now
-        session.old.connection session.new.connection) (λ _. (output.new ≡ output.old)
-        × (HasCleanDisk (state S.Store session.new.connection) → StopsLine S.Store
-        (telling (P.tells paths.now) (P.stands paths.now) (P.lists paths.now)) L.format
-        (conditions (version_of L.format) session.old.profile session.old.limits) line.now
-        session.old.connection session.new.connection)) }
+    ensures does { MatchResult result (λ _. HasCleanDisk (state S.Store session.new.connection)
+        → DoesLine S.Store (telling_of P.Paths paths.now) L.format
+        (conditions_in L.format session.old) number line.now session.old.connection
+        session.new.connection) (λ _. (output.new ≡ output.old)
+        × (HasCleanDisk (state S.Store session.new.connection)
+        → StopsLine S.Store (telling_of P.Paths paths.now) L.format
+        (conditions_in L.format session.old) line.now session.old.connection
+        session.new.connection)) }
     // The session stays under its profile and its limits, and its disk was clean where it is.
-    ensures stays { (session.new.profile ≡ session.old.profile)
-        × (session.new.limits ≡ session.old.limits)
+    ensures stays { KeepsConditions session.old session.new
         × (HasCleanDisk (state S.Store session.new.connection)
         → HasCleanDisk (state S.Store session.old.connection)) }
 {
@@ -195,24 +183,21 @@ fn run_command<S: Alter, L: Layout, W: Write>(
     ensures answer { IfOk result (λ status. output.new.failed ≡ false
         → HasCleanDisk (state S.Store session.new.connection)
         → Leads (state S.Store session.old.connection) (state S.Store session.new.connection)
-        (W.contents output.old.writer) (W.contents output.new.writer)
-        (λ before bytes later. IsAnswer (conditions (version_of L.format) session.old.profile
-        session.old.limits) command.now before bytes status later)) }
+        (W.contents output.old.writer) (W.contents output.new.writer) (λ before bytes later.
+        IsAnswer (conditions_in L.format session.old) command.now before bytes status later)) }
     ensures over { IfOk result (λ status. output.new.failed ≡ false
         → HasCleanDisk (state S.Store session.new.connection)
         → Writes (W.contents output.old.writer) (W.contents output.new.writer)
-        (λ bytes. CommandOver L.format (conditions (version_of L.format) session.old.profile
-        session.old.limits) command.now (state S.Store session.old.connection) bytes status
+        (λ bytes. CommandOver L.format (conditions_in L.format session.old) command.now
+        (state S.Store session.old.connection) bytes status
         (state S.Store session.new.connection))) }
     // It is done, whatever is written, also where memory runs out for that.
     ensures does { OnErr result (output.new ≡ output.old)
         × (HasCleanDisk (state S.Store session.new.connection) → (answer : _)
-        × ServesOver L.format (conditions (version_of L.format) session.old.profile
-        session.old.limits) command.now (state S.Store session.old.connection)
-        (state S.Store session.new.connection) answer) }
+        × ServesOver L.format (conditions_in L.format session.old) command.now
+        (state S.Store session.old.connection) (state S.Store session.new.connection) answer) }
     // The session stays under its profile and its limits, and its disk was clean where it is.
-    ensures stays { (session.new.profile ≡ session.old.profile)
-        × (session.new.limits ≡ session.old.limits)
+    ensures stays { KeepsConditions session.old session.new
         × (HasCleanDisk (state S.Store session.new.connection)
         → HasCleanDisk (state S.Store session.old.connection)) }
 {

@@ -2,14 +2,14 @@
 
 ghost use Rattle.std.specs.Prelude.{◌≡◌, ◌≢◌, ◌⊎◌, ◌+◌, ◌++◌, false, true, map, string_bytes, Ok, IfErr, IfOk};
 ghost use Rattle.std.specs.Prelude.{OnErr, IsErrAnd};
-ghost use Rattle.zeb_paths.specs.Walks.{telling};
+ghost use Rattle.zeb_paths.specs.Walks.{telling_of};
 ghost use Rattle.zeb_words.specs.declared.words.LayoutChoice.TheVariants.{Unsaid};
 ghost use Rattle.zeb_program.specs.Doing.{DoesBatch};
 ghost use Rattle.zeb_program.specs.LeftStores.{LeavesAt, LeavesByBatch, LeavesByShell, LeavesByTask, LeavesStore};
 ghost use Rattle.zeb_program.specs.PrivateWordRuns.{EndsStarved, Grows, TakesByWords};
 ghost use Rattle.zeb_program.specs.Scripts.{BeginsRegister};
 ghost use Rattle.zeb_program.specs.ProfileFiles.{ReadsProfile};
-ghost use Rattle.zeb_program.specs.Registers.{places};
+ghost use Rattle.zeb_program.specs.Registers.{places_of};
 ghost use Rattle.zeb_program.specs.Statuses.{closing_status};
 ghost use Rattle.zeb_program.specs.WordRuns.{IsText, RunsBatch, RunsLines, RunsShell};
 ghost use Rattle.zeb_program.specs.WordRuns.{StopsBatch, StopsLines, StopsReading, StopsShell, StopsTask};
@@ -53,26 +53,24 @@ pub fn run_words<R: Source, W: Output, V: Write, P: Paths>(
     requires { R.has_failed input.old ≡ false }
     ensures input { TakesByWords (GREATEST_INPUT + 1) R.remaining (map string_bytes words.now)
         input.old input.new }
-    ensures store { LeavesStore (places P.Store.Store P.tells P.stands P.lists P.explains P.opens
-        P.refuses P.lacks P.has P.lets_go P.leaves paths.old paths.new)
+    ensures store { LeavesStore (places_of P.Store.Store P.Paths paths.old paths.new)
         (map string_bytes words.now) (R.remaining input.old) result
         (IsToldSince fault_output.new.failed (V.contents fault_output.old.writer)
         (V.contents fault_output.new.writer)) }
     ensures failed_read { R.has_failed input.new ≡ true
         → IfOk result (λ status. status ≡ Status.Failed) }
     ensures answer { IfOk result (λ status. output.new.failed ≡ false
-        → fault_output.new.failed ≡ false → AnswersWords (places P.Store.Store P.tells P.stands
-        P.lists P.explains P.opens P.refuses P.lacks P.has P.lets_go P.leaves paths.old paths.new)
-        (map string_bytes words.now) (R.remaining input.old) (R.remaining input.new)
-        (R.has_failed input.new) (W.contents output.old.writer) (W.contents output.new.writer)
+        → fault_output.new.failed ≡ false → AnswersWords
+        (places_of P.Store.Store P.Paths paths.old paths.new) (map string_bytes words.now)
+        (R.remaining input.old) (R.remaining input.new) (R.has_failed input.new)
+        (W.contents output.old.writer) (W.contents output.new.writer)
         (V.contents fault_output.old.writer) (V.contents fault_output.new.writer) status) }
     ensures stopped { EndsStarved result output.new.failed fault_output.new.failed
         (V.contents fault_output.old.writer) (V.contents fault_output.new.writer)
-        (StopsWords (places P.Store.Store P.tells P.stands P.lists P.explains P.opens P.refuses
-        P.lacks P.has P.lets_go P.leaves paths.old paths.new) (map string_bytes words.now)
-        (R.remaining input.old) (R.remaining input.new) (W.contents output.old.writer)
-        (W.contents output.new.writer) (V.contents fault_output.old.writer)
-        (V.contents fault_output.new.writer)) }
+        (StopsWords (places_of P.Store.Store P.Paths paths.old paths.new)
+        (map string_bytes words.now) (R.remaining input.old) (R.remaining input.new)
+        (W.contents output.old.writer) (W.contents output.new.writer)
+        (V.contents fault_output.old.writer) (V.contents fault_output.new.writer)) }
 {
     let Words {
         config,
@@ -150,21 +148,20 @@ fn run_task<W: Write, V: Write, P: Paths>(
     fault_output: &mut Sink<V>,
 ) -> Result<Status, AllocError>
     ensures apart { IfOk result (λ status. output.new.failed ≡ false
-        → fault_output.new.failed ≡ false → TellsApart (places P.Store.Store P.tells P.stands
-        P.lists P.explains P.opens P.refuses P.lacks P.has P.lets_go P.leaves paths.old paths.new)
-        choice config task.now (W.contents output.old.writer) (W.contents output.new.writer)
+        → fault_output.new.failed ≡ false → TellsApart
+        (places_of P.Store.Store P.Paths paths.old paths.new) choice config task.now
+        (W.contents output.old.writer) (W.contents output.new.writer)
         (V.contents fault_output.old.writer) (V.contents fault_output.new.writer) status) }
     // Memory that runs out in the program itself is found before anything is written, but that the register's file needs its log;
     // what was done stays.
-    ensures stopped { OnErr result ((output.new ≡ output.old) × (fault_output.new.failed ≡ false
-        → StopsTask (places P.Store.Store P.tells P.stands P.lists P.explains P.opens P.refuses
-        P.lacks P.has P.lets_go P.leaves paths.old paths.new) choice config task.now
+    ensures stopped { OnErr result ((output.new ≡ output.old)
+        × (fault_output.new.failed ≡ false → StopsTask
+        (places_of P.Store.Store P.Paths paths.old paths.new) choice config task.now
         (V.contents fault_output.old.writer) (V.contents fault_output.new.writer))) }
     // What becomes of the store, whatever is written.
-    ensures store { LeavesByTask (places P.Store.Store P.tells P.stands P.lists P.explains
-        P.opens P.refuses P.lacks P.has P.lets_go P.leaves paths.old paths.new) choice config
-        task.now result (IsToldSince fault_output.new.failed
-        (V.contents fault_output.old.writer) (V.contents fault_output.new.writer)) }
+    ensures store { LeavesByTask (places_of P.Store.Store P.Paths paths.old paths.new) choice config
+        task.now result (IsToldSince fault_output.new.failed (V.contents fault_output.old.writer)
+        (V.contents fault_output.new.writer)) }
 {
     let named = config.clone()?;
     let Performed { told, closed } = perform(alloc, config, choice, task, paths);
@@ -222,21 +219,19 @@ fn run_batch<R: Source, W: Write, V: Write, P: Paths>(
     ensures failed_read { R.has_failed input.new ≡ true
         → IfOk result (λ status. status ≡ Status.Failed) }
     ensures answer { IfOk result (λ status. output.new.failed ≡ false
-        → fault_output.new.failed ≡ false → RunsBatch (places P.Store.Store P.tells P.stands P.lists
-        P.explains P.opens P.refuses P.lacks P.has P.lets_go P.leaves paths.old paths.new) config
-        (R.remaining input.old) (R.has_failed input.new) (W.contents output.old.writer)
-        (W.contents output.new.writer) (V.contents fault_output.old.writer)
-        (V.contents fault_output.new.writer) status) }
+        → fault_output.new.failed ≡ false → RunsBatch
+        (places_of P.Store.Store P.Paths paths.old paths.new) config (R.remaining input.old)
+        (R.has_failed input.new) (W.contents output.old.writer) (W.contents output.new.writer)
+        (V.contents fault_output.old.writer) (V.contents fault_output.new.writer) status) }
     ensures stopped { EndsStarved result output.new.failed fault_output.new.failed
         (V.contents fault_output.old.writer) (V.contents fault_output.new.writer)
-        (StopsBatch (places P.Store.Store P.tells P.stands P.lists P.explains P.opens P.refuses
-        P.lacks P.has P.lets_go P.leaves paths.old paths.new) config (R.remaining input.old)
-        (W.contents output.old.writer) (W.contents output.new.writer)
+        (StopsBatch (places_of P.Store.Store P.Paths paths.old paths.new) config
+        (R.remaining input.old) (W.contents output.old.writer) (W.contents output.new.writer)
         (V.contents fault_output.old.writer) (V.contents fault_output.new.writer)) }
-    ensures store { LeavesByBatch (places P.Store.Store P.tells P.stands P.lists P.explains
-        P.opens P.refuses P.lacks P.has P.lets_go P.leaves paths.old paths.new) config
-        (R.remaining input.old) result (IsToldSince fault_output.new.failed
-        (V.contents fault_output.old.writer) (V.contents fault_output.new.writer)) }
+    ensures store { LeavesByBatch (places_of P.Store.Store P.Paths paths.old paths.new) config
+        (R.remaining input.old) result
+        (IsToldSince fault_output.new.failed (V.contents fault_output.old.writer)
+        (V.contents fault_output.new.writer)) }
 {
     let named = config.clone()?;
     match begin_batch(alloc, config, paths, input) {
@@ -265,9 +260,9 @@ fn begin_batch<R: Source, P: Paths>(
         (λ failure. IsUnread failure.fault) }
     ensures begun { IfOk result (λ begun. ReadsProfile (P.tells paths.now (string_bytes config))
         config (Ok begun.0) × IsText (R.remaining input.old) (string_bytes begun.1)) }
-    ensures refused { IfErr result (λ failure. StopsReading (places P.Store.Store P.tells P.stands
-        P.lists P.explains P.opens P.refuses P.lacks P.has P.lets_go P.leaves paths.now paths.now)
-        config (R.remaining input.old) (R.has_failed input.new) failure.fault failure.cause) }
+    ensures refused { IfErr result (λ failure. StopsReading
+        (places_of P.Store.Store P.Paths paths.now paths.now) config (R.remaining input.old)
+        (R.has_failed input.new) failure.fault failure.cause) }
 {
     let profile = profile_at(alloc, paths, config)?;
     match read_input(alloc, input) {
@@ -294,24 +289,23 @@ fn serve_batch<W: Write, V: Write, P: Paths>(
     output: &mut Sink<W>,
     fault_output: &mut Sink<V>,
 ) -> Result<Status, AllocError>
-    ensures answer { batch.entry.lines_before ≡ 0 → IfOk result (λ status. output.new.failed ≡ false
-        → fault_output.new.failed ≡ false → RunsLines (places P.Store.Store P.tells P.stands P.lists
-        P.explains P.opens P.refuses P.lacks P.has P.lets_go P.leaves paths.old paths.new) config
-        profile batch.entry.text.now (W.contents output.old.writer) (W.contents output.new.writer)
+    ensures answer { batch.entry.lines_before ≡ 0 → IfOk result
+        (λ status. output.new.failed ≡ false → fault_output.new.failed ≡ false
+        → RunsLines (places_of P.Store.Store P.Paths paths.old paths.new) config profile
+        batch.entry.text.now (W.contents output.old.writer) (W.contents output.new.writer)
         (V.contents fault_output.old.writer) (V.contents fault_output.new.writer) status) }
-    ensures stopped { batch.entry.lines_before ≡ 0 → OnErr result (output.new.failed ≡ false
-        → fault_output.new.failed ≡ false → StopsLines (places P.Store.Store P.tells P.stands
-        P.lists P.explains P.opens P.refuses P.lacks P.has P.lets_go P.leaves paths.old paths.new)
-        profile batch.entry.text.now (W.contents output.old.writer) (W.contents output.new.writer)
+    ensures stopped { batch.entry.lines_before ≡ 0 → OnErr result
+        (output.new.failed ≡ false → fault_output.new.failed ≡ false
+        → StopsLines (places_of P.Store.Store P.Paths paths.old paths.new) profile
+        batch.entry.text.now (W.contents output.old.writer) (W.contents output.new.writer)
         (V.contents fault_output.old.writer) (V.contents fault_output.new.writer)) }
     ensures grows { OnErr result (fault_output.new.failed ≡ false
         → Grows (V.contents fault_output.old.writer) (V.contents fault_output.new.writer)) }
-    ensures store { batch.entry.lines_before ≡ 0 → LeavesAt (places P.Store.Store P.tells P.stands
-        P.lists P.explains P.opens P.refuses P.lacks P.has P.lets_go P.leaves paths.old paths.new)
-        Unsaid profile result (IsToldSince fault_output.new.failed
-        (V.contents fault_output.old.writer) (V.contents fault_output.new.writer))
-        (BeginsRegister batch.entry.text.now) (λ format c. DoesBatch P.Store.Store
-        (telling (P.tells paths.new) (P.stands paths.new) (P.lists paths.new)) format c 0
+    ensures store { batch.entry.lines_before ≡ 0 → LeavesAt
+        (places_of P.Store.Store P.Paths paths.old paths.new) Unsaid profile result
+        (IsToldSince fault_output.new.failed (V.contents fault_output.old.writer)
+        (V.contents fault_output.new.writer)) (BeginsRegister batch.entry.text.now)
+        (λ format c. DoesBatch P.Store.Store (telling_of P.Paths paths.new) format c 0
         batch.entry.text.now result) }
 {
     if !uses_store(paths, &profile, batch.begins()) {
@@ -345,21 +339,21 @@ fn run_shell<R: Source, W: Output, V: Write, P: Paths>(
     ensures whole { IfOk result (λ status. status ≢ Status.Failed → IsAtEnd (R.remaining input.new)
         ⊎ (output.new ≡ output.old)) }
     ensures answer { IfOk result (λ status. output.new.failed ≡ false
-        → fault_output.new.failed ≡ false → RunsShell (places P.Store.Store P.tells P.stands P.lists
-        P.explains P.opens P.refuses P.lacks P.has P.lets_go P.leaves paths.old paths.new) config
-        (R.remaining input.old) (R.remaining input.new) (R.has_failed input.new)
-        (W.contents output.old.writer) (W.contents output.new.writer)
-        (V.contents fault_output.old.writer) (V.contents fault_output.new.writer) status) }
+        → fault_output.new.failed ≡ false → RunsShell
+        (places_of P.Store.Store P.Paths paths.old paths.new) config (R.remaining input.old)
+        (R.remaining input.new) (R.has_failed input.new) (W.contents output.old.writer)
+        (W.contents output.new.writer) (V.contents fault_output.old.writer)
+        (V.contents fault_output.new.writer) status) }
     ensures stopped { EndsStarved result output.new.failed fault_output.new.failed
         (V.contents fault_output.old.writer) (V.contents fault_output.new.writer)
-        (StopsShell (places P.Store.Store P.tells P.stands P.lists P.explains P.opens P.refuses
-        P.lacks P.has P.lets_go P.leaves paths.old paths.new) config (R.remaining input.old)
-        (R.remaining input.new) (W.contents output.old.writer) (W.contents output.new.writer)
-        (V.contents fault_output.old.writer) (V.contents fault_output.new.writer)) }
-    ensures store { LeavesByShell (places P.Store.Store P.tells P.stands P.lists P.explains
-        P.opens P.refuses P.lacks P.has P.lets_go P.leaves paths.old paths.new) config
-        (R.remaining input.old) result (IsToldSince fault_output.new.failed
-        (V.contents fault_output.old.writer) (V.contents fault_output.new.writer)) }
+        (StopsShell (places_of P.Store.Store P.Paths paths.old paths.new) config
+        (R.remaining input.old) (R.remaining input.new) (W.contents output.old.writer)
+        (W.contents output.new.writer) (V.contents fault_output.old.writer)
+        (V.contents fault_output.new.writer)) }
+    ensures store { LeavesByShell (places_of P.Store.Store P.Paths paths.old paths.new) config
+        (R.remaining input.old) result
+        (IsToldSince fault_output.new.failed (V.contents fault_output.old.writer)
+        (V.contents fault_output.new.writer)) }
 {
     let named = config.clone()?;
     match open(alloc, config, paths) {

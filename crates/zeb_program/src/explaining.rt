@@ -1,7 +1,7 @@
 //! Why a command that names paths isn't answered, with its cause, where that is known.
 
 ghost use Rattle.std.specs.Prelude.{◌≡◌, map, string_bytes, IfOk};
-ghost use Rattle.zeb_paths.specs.Walks.{telling};
+ghost use Rattle.zeb_paths.specs.Walks.{telling_of};
 ghost use Rattle.zeb_program.specs.Explanations.{ExplainsRefusal, TellsFile};
 ghost use Rattle.zeb_program.specs.FaultLines.{file_in};
 ghost use Rattle.zeb_program.specs.PrivateWordRuns.{ExplainsFailure};
@@ -24,8 +24,7 @@ pub fn explained<P: Paths>(
     met: Option<StoreCause>,
 ) -> Result<Failure, AllocError>
     ensures fault { IfOk result (λ failure. failure.fault ≡ fault) }
-    ensures explains { IfOk result (ExplainsFailure
-        (telling (P.tells paths.now) (P.stands paths.now) (P.lists paths.now))
+    ensures explains { IfOk result (ExplainsFailure (telling_of P.Paths paths.now)
         (P.explains paths.now) (map string_bytes named.now) met) }
 {
     match fault {
@@ -43,8 +42,7 @@ fn refused<P: Paths>(
     met: Option<StoreCause>,
 ) -> Result<Failure, AllocError>
     ensures fault { IfOk result (λ failure. failure.fault ≡ Refused refusal) }
-    ensures explains { IfOk result (λ failure. ExplainsRefusal
-        (telling (P.tells paths.now) (P.stands paths.now) (P.lists paths.now))
+    ensures explains { IfOk result (λ failure. ExplainsRefusal (telling_of P.Paths paths.now)
         (P.explains paths.now) (map string_bytes named.now) met refusal failure.cause) }
 {
     match file_of(&refusal) {
@@ -76,9 +74,8 @@ fn file_cause<P: Paths>(
     refusal: &Refusal,
     number: u64,
 ) -> Result<Option<Cause>, AllocError>
-    ensures { IfOk result (TellsFile
-        (telling (P.tells paths.now) (P.stands paths.now) (P.lists paths.now))
-        (P.explains paths.now) (map string_bytes named.now) refusal.now number) }
+    ensures { IfOk result (TellsFile (telling_of P.Paths paths.now) (P.explains paths.now)
+        (map string_bytes named.now) refusal.now number) }
 {
     let found = path_of_file(alloc, paths, named, number)?;
     of_file(alloc, paths, refusal, number, found)

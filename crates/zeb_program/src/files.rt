@@ -1,7 +1,7 @@
 //! The files at the paths that words or a line name.
 
 ghost use Rattle.std.specs.Prelude.{◌≡◌, ◌+◌, ℕ, List, Some, map, string_bytes, Err, IfErr, IfOk, false, true};
-ghost use Rattle.zeb_paths.specs.Walks.{telling};
+ghost use Rattle.zeb_paths.specs.Walks.{telling_of};
 ghost use Rattle.zeb_program.specs.Inputs.{TakesAtMost};
 ghost use Rattle.zeb_program.specs.PrivateFaults.{IsUnfound, IsUnread};
 ghost use Rattle.zeb_program.specs.PrivateFiles.{IsGiven, ReadsBelow, ReadsContent, sure_bytes};
@@ -80,11 +80,9 @@ pub fn readers_of<P: Paths>(
     // Of folders too, as far as the paths tell what stands in them.
     ensures given { IfOk result (λ readers. ReadsBelow
         (sure_bytes P.Reader.remaining P.Reader.may_fail P.Reader.has_failed)
-        (telling (P.tells paths.now) (P.stands paths.now) (P.lists paths.now))
-        (map string_bytes named.now) readers.items) }
+        (telling_of P.Paths paths.now) (map string_bytes named.now) readers.items) }
     // The path that is told is the one that the walk comes to and can't go on at.
-    ensures unfound { IfErr result (IsUnfound
-        (telling (P.tells paths.now) (P.stands paths.now) (P.lists paths.now))
+    ensures unfound { IfErr result (IsUnfound (telling_of P.Paths paths.now)
         (map string_bytes named.now)) }
 {
     let mut readers = Vec::new(alloc);
@@ -103,9 +101,8 @@ pub fn path_of_file<P: Paths>(
     named: &[String],
     number: u64,
 ) -> Result<Option<String>, AllocError>
-    ensures { IfOk result (FindsNthFile
-        (telling (P.tells paths.now) (P.stands paths.now) (P.lists paths.now))
-        (map string_bytes named.now) number) }
+    ensures { IfOk result (FindsNthFile (telling_of P.Paths paths.now) (map string_bytes named.now)
+        number) }
 {
     let mut walk = Walk::new(alloc, paths, named)?;
     for _nth in 1..number {

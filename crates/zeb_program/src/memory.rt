@@ -3,10 +3,10 @@
 ghost use Rattle.std.specs.Prelude.{◌≡◌, false, IfErr, IfOk};
 ghost use Rattle.sqlite.specs.Files.{file_state};
 ghost use Rattle.sqlite.specs.Steps.{IsEmpty};
-ghost use Rattle.zeb_change.specs.Conditions.{conditions};
-ghost use Rattle.zeb_register.specs.Formats.{packed_blocks, version_of};
+ghost use Rattle.zeb_register.specs.Formats.{packed_blocks};
 ghost use Rattle.zeb_program.specs.FaultAnswers.{IsOpeningFailure};
 ghost use Rattle.zeb_program.specs.ScriptAnswers.{AreScriptConditions, HoldsNothing};
+ghost use Rattle.zeb_engine.specs.Sessions.{conditions_in};
 
 use crate::opening::session_over;
 use sqlite::{Connection, FileStore, Files, Options};
@@ -31,7 +31,7 @@ pub fn session_in_memory(
 ) -> Result<Session<FileStore<Memory>, Blocks>, Refusal>
     ensures empty { IfOk result (λ session. HoldsNothing (file_state session.connection)) }
     ensures under { IfOk result (λ session. AreScriptConditions profile
-        (conditions (version_of packed_blocks) session.profile session.limits)) }
+        (conditions_in packed_blocks session)) }
     ensures failed { IfErr result IsOpeningFailure }
 {
     match session_over(alloc, open_in_memory(alloc), profile) {

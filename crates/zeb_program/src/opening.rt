@@ -3,14 +3,14 @@
 ghost use Rattle.std.specs.Prelude.{◌≡◌, false, None, Ok, Err, Some, IfErr, IfOk, MatchResult};
 ghost use Rattle.sqlite.specs.Held.{state};
 ghost use Rattle.sqlite.specs.State.{HasCleanDisk};
-ghost use Rattle.zeb_change.specs.Conditions.{conditions};
 ghost use Rattle.zeb_engine.specs.Adopting.{HasOtherTables};
-ghost use Rattle.zeb_register.specs.Formats.{packed_blocks, version_of};
+ghost use Rattle.zeb_register.specs.Formats.{packed_blocks};
 ghost use Rattle.zeb_words.specs.declared.words.LayoutChoice.TheVariants.{Unsaid};
 ghost use Rattle.zeb_program.specs.FaultAnswers.{IsOpeningFailure, unopened_refusal};
 ghost use Rattle.zeb_program.specs.PrivateWordRuns.{OnlyLooked, TakesOpen, TellsLayout};
 ghost use Rattle.zeb_program.specs.Registers.{IsGivenBack};
 ghost use Rattle.zeb_program.specs.ScriptAnswers.{AreScriptConditions};
+ghost use Rattle.zeb_engine.specs.Sessions.{KeepsConditions, conditions_in};
 
 use sqlite::{Alter, Connection};
 use std::alloc::Global;
@@ -55,7 +55,7 @@ pub fn session_over<S: Alter + Drop>(
         (λ connection. IfOk result (λ session. HasCleanDisk (state S.Store session.connection)
         → TakesOpen S.Store connection session.connection)) }
     ensures under { IfOk result (λ session. AreScriptConditions profile
-        (conditions (version_of packed_blocks) session.profile session.limits)) }
+        (conditions_in packed_blocks session)) }
 {
     match opened {
         Ok(connection) => {
@@ -88,8 +88,7 @@ pub fn layout_of<S: Alter>(
     ensures asked { choice ≡ LayoutChoice.Leaves → result ≡ Ok UsedLayout.Leaves }
     ensures looked { OnlyLooked (state S.Store session.old.connection)
         (state S.Store session.new.connection) result }
-    ensures under { (session.new.profile ≡ session.old.profile)
-        × (session.new.limits ≡ session.old.limits) }
+    ensures under { KeepsConditions session.old session.new }
 {
     match choice {
         LayoutChoice::Leaves => Ok(UsedLayout::Leaves),
@@ -104,8 +103,7 @@ fn kept_layout<S: Alter>(session: &mut Session<S, Blocks>) -> Result<UsedLayout,
     ensures failed { IfErr result IsOpeningFailure }
     ensures looked { OnlyLooked (state S.Store session.old.connection)
         (state S.Store session.new.connection) result }
-    ensures under { (session.new.profile ≡ session.old.profile)
-        × (session.new.limits ≡ session.old.limits) }
+    ensures under { KeepsConditions session.old session.new }
 {
     match session.keeps_layout::<Leaves>() {
         Ok(true) => Ok(UsedLayout::Leaves),

@@ -3,14 +3,13 @@
 ghost use Rattle.std.specs.Prelude.{◌≡◌, ◌≢◌, ◌⊎◌, ℕ, List, Some, false, string_bytes, IfOk, IfNone, IfSome, MatchResult};
 ghost use Rattle.sqlite.specs.Held.{state};
 ghost use Rattle.sqlite.specs.State.{HasCleanDisk};
-ghost use Rattle.zeb_change.specs.Conditions.{conditions};
 ghost use Rattle.zeb_change.specs.declared.settings.Kind.{Kind};
-ghost use Rattle.zeb_paths.specs.Walks.{telling};
-ghost use Rattle.zeb_register.specs.Formats.{version_of};
+ghost use Rattle.zeb_paths.specs.Walks.{telling_of};
 ghost use Rattle.zeb_program.specs.Answers.{IsFileAnswer, Writes};
 ghost use Rattle.zeb_program.specs.Batches.{kind_word};
 ghost use Rattle.zeb_program.specs.PrivateServing.{DoesPath, Leads};
 ghost use Rattle.zeb_program.specs.OverTables.{PathOver};
+ghost use Rattle.zeb_engine.specs.Sessions.{KeepsConditions, conditions_in};
 
 use crate::faults::tell;
 use crate::sinks::Sink;
@@ -56,34 +55,29 @@ pub fn run_path_change<S: Alter, L: Layout, P: Paths, W: Write>(
     ensures sound { output.new.failed ≡ false → output.old.failed ≡ false }
     // Where the paths tell the file's bytes.
     ensures answer { IfOk result (λ status. output.new.failed ≡ false
-        → HasCleanDisk (state S.Store session.new.connection) → (file : List ℕ) → P.tells paths.now
-        (string_bytes change.now.path) ≡ Some file → Leads (state S.Store session.old.connection)
-        (state S.Store session.new.connection) (W.contents output.old.writer)
-        (W.contents output.new.writer)
-        (λ before bytes later. IsFileAnswer (conditions (version_of L.format) session.old.profile
-        session.old.limits) change.now file before bytes status later)) }
+        → HasCleanDisk (state S.Store session.new.connection) → (file : List ℕ)
+        → P.tells paths.now (string_bytes change.now.path) ≡ Some file
+        → Leads (state S.Store session.old.connection) (state S.Store session.new.connection)
+        (W.contents output.old.writer) (W.contents output.new.writer) (λ before bytes later.
+        IsFileAnswer (conditions_in L.format session.old) change.now file before bytes status
+        later)) }
     // It is answered as the engine says of it on any tables, whatever the paths tell.
     ensures over { IfOk result (λ status. output.new.failed ≡ false
         → HasCleanDisk (state S.Store session.new.connection)
         → Writes (W.contents output.old.writer) (W.contents output.new.writer)
-        (λ bytes. PathOver (telling (P.tells paths.now) (P.stands paths.now)
-        (P.lists paths.now)) L.format (conditions (version_of L.format) session.old.profile
-        session.old.limits) change.now
-        (state S.Store session.old.connection) bytes status
-        (state S.Store session.new.connection))) }
+        (λ bytes. PathOver (telling_of P.Paths paths.now) L.format
+        (conditions_in L.format session.old) change.now (state S.Store session.old.connection) bytes
+        status (state S.Store session.new.connection))) }
     // It is done, whatever is written; and where memory runs out, it is done all the same, or nothing is.
     ensures does { MatchResult result (λ _. HasCleanDisk (state S.Store session.new.connection)
-        → DoesPath (telling (P.tells paths.now) (P.stands paths.now) (P.lists paths.now)) L.format
-        (conditions (version_of L.format) session.old.profile session.old.limits) change.now
-        (state S.Store session.old.connection) (state S.Store session.new.connection))
+        → DoesPath (telling_of P.Paths paths.now) L.format (conditions_in L.format session.old)
+        change.now (state S.Store session.old.connection) (state S.Store session.new.connection))
         (λ _. (output.new ≡ output.old) × (HasCleanDisk (state S.Store session.new.connection)
-        → (session.new.connection ≡ session.old.connection)
-        ⊎ DoesPath (telling (P.tells paths.now) (P.stands paths.now) (P.lists paths.now)) L.format
-        (conditions (version_of L.format) session.old.profile session.old.limits) change.now
+        → (session.new.connection ≡ session.old.connection) ⊎ DoesPath
+        (telling_of P.Paths paths.now) L.format (conditions_in L.format session.old) change.now
         (state S.Store session.old.connection) (state S.Store session.new.connection))) }
     // The session stays under its profile and its limits, and its disk was clean where it is.
-    ensures stays { (session.new.profile ≡ session.old.profile)
-        × (session.new.limits ≡ session.old.limits)
+    ensures stays { KeepsConditions session.old session.new
         × (HasCleanDisk (state S.Store session.new.connection)
         → HasCleanDisk (state S.Store session.old.connection)) }
 {

@@ -2,24 +2,24 @@
 
 ghost use Rattle.std.specs.Prelude.{◌≡◌, ◌⊎◌, ◌↔◌, false, true, IfErr, IfNone, IfOk, IfSome, IsTrue, None, Result, string_bytes};
 ghost use Rattle.sqlite.specs.Held.{state};
-ghost use Rattle.zeb_paths.specs.Walks.{telling};
+ghost use Rattle.zeb_paths.specs.Walks.{telling_of};
 ghost use Rattle.zeb_engine.specs.Adopting.{HasOtherTables};
 ghost use Rattle.zeb_engine.specs.declared.replies.Reply.{Reply};
 ghost use Rattle.zeb_program.specs.PrivateServing.{StandsFor};
 ghost use Rattle.zeb_program.specs.PrivateWordRuns.{ExplainsFailure, ExplainsRun, GivesClosed, GivesFor, OpensUnder, ServesHeld, ServesOnNothing, TakesIn, TakesStore, fault_given, format_of};
 ghost use Rattle.zeb_program.specs.ProfileFiles.{ReadsProfile};
-ghost use Rattle.zeb_program.specs.Registers.{AtStore, ClosesStore, IsForeignOr, IsLetGo, nothing_met, places};
+ghost use Rattle.zeb_program.specs.Registers.{AtStore, ClosesStore, IsForeignOr, IsLetGo, nothing_met, places_of};
 ghost use Rattle.zeb_program.specs.TaskAnswers.{paths_of};
 ghost use Rattle.zeb_program.specs.WordRuns.{IsOwnOr, Performs, ServesUnder, StopsOpening};
 ghost use Rattle.std.specs.Option.{option_map};
-ghost use Rattle.zeb_change.specs.Conditions.{conditions};
-ghost use Rattle.zeb_register.specs.Formats.{packed_blocks, version_of};
+ghost use Rattle.zeb_register.specs.Formats.{packed_blocks};
 ghost use Rattle.zeb_program.specs.Explanations.{ExplainsUnread, refusal_cause};
 ghost use Rattle.zeb_program.specs.PrivateFaults.{IsOpeningFault};
 ghost use Rattle.zeb_program.specs.ScriptAnswers.{AreConditionsIn, AreScriptConditions};
 ghost use Rattle.zeb_program.specs.PrivateWarnings as spec;
 ghost use Rattle.zeb_program.specs.Warnings.{MayWarn, WarnsOf};
 ghost use Rattle.std.specs.Result.{IsOkAnd};
+ghost use Rattle.zeb_engine.specs.Sessions.{conditions_in};
 ghost use Rattle.zeb_program.specs.declared.faults.Fault.{Fault};
 ghost use Rattle.zeb_program.specs.declared.faults.Fault.TheVariants.{Refused};
 
@@ -77,13 +77,10 @@ pub fn perform<P: Paths>(
     paths: &mut P,
 ) -> Performed
     ensures warns { IfOk result.told (λ told. WarnsOf (P.tells paths.old)
-        (telling (P.tells paths.new) (P.stands paths.new) (P.lists paths.new)) task.now
-        (option_map string_bytes told.warning)) }
-    ensures performs { GivesClosed result (Performs (places P.Store.Store P.tells P.stands P.lists
-        P.explains P.opens P.refuses P.lacks P.has P.lets_go P.leaves paths.old paths.new) choice
-        config task.now)
-        (ExplainsRun (places P.Store.Store P.tells P.stands P.lists P.explains P.opens
-        P.refuses P.lacks P.has P.lets_go P.leaves paths.old paths.new) config task.now) }
+        (telling_of P.Paths paths.new) task.now (option_map string_bytes told.warning)) }
+    ensures performs { GivesClosed result (Performs
+        (places_of P.Store.Store P.Paths paths.old paths.new) choice config task.now)
+        (ExplainsRun (places_of P.Store.Store P.Paths paths.old paths.new) config task.now) }
 {
     let profile = match profile_at(alloc, paths, config) {
         Ok(profile) => profile,
@@ -125,13 +122,11 @@ fn perform_in_register<P: Paths>(
 ) -> Performed
     requires { AtStore profile (P.has paths.old) ⊎ (task.now ≡ Task.Ask Command.Init) }
     ensures warns { IfOk result.told (λ told. WarnsOf (P.tells paths.old)
-        (telling (P.tells paths.new) (P.stands paths.new) (P.lists paths.new)) task.now
-        (option_map string_bytes told.warning)) }
-    ensures serves { GivesClosed result (ServesUnder (places P.Store.Store P.tells P.stands P.lists
-        P.explains P.opens P.refuses P.lacks P.has P.lets_go P.leaves paths.old paths.new) choice
-        profile task.now) (ExplainsFailure
-        (telling (P.tells paths.new) (P.stands paths.new) (P.lists paths.new))
-        (P.explains paths.new) (paths_of task.now)) }
+        (telling_of P.Paths paths.new) task.now (option_map string_bytes told.warning)) }
+    ensures serves { GivesClosed result (ServesUnder
+        (places_of P.Store.Store P.Paths paths.old paths.new) choice profile task.now)
+        (ExplainsFailure (telling_of P.Paths paths.new) (P.explains paths.new)
+        (paths_of task.now)) }
 {
     match open_register(alloc, paths, choice, profile) {
         Ok(register) => serve_task(alloc, register, task, paths),
@@ -150,14 +145,12 @@ fn serve_task<P: Paths>(
     paths: &P,
 ) -> Performed
     ensures warns { IfOk result.told (λ told. WarnsOf (P.tells paths.now)
-        (telling (P.tells paths.now) (P.stands paths.now) (P.lists paths.now)) task.now
-        (option_map string_bytes told.warning)) }
+        (telling_of P.Paths paths.now) task.now (option_map string_bytes told.warning)) }
     ensures serves { GivesClosed result (ServesHeld P.Store.Store (P.leaves paths.now)
-        (P.tells paths.now) (telling (P.tells paths.now) (P.stands paths.now) (P.lists paths.now))
-        (format_of register.1) (conditions (version_of (format_of register.1)) register.0.profile
-        register.0.limits) task.now register.0.connection) (ExplainsFailure
-        (telling (P.tells paths.now) (P.stands paths.now) (P.lists paths.now))
-        (P.explains paths.now) (paths_of task.now)) }
+        (P.tells paths.now) (telling_of P.Paths paths.now) (format_of register.1)
+        (conditions_in (format_of register.1) register.0) task.now register.0.connection)
+        (ExplainsFailure (telling_of P.Paths paths.now) (P.explains paths.now)
+        (paths_of task.now)) }
 {
     let (session, layout) = register;
     match layout {
@@ -174,13 +167,10 @@ fn serve_task_in<L: Layout, P: Paths>(
     paths: &P,
 ) -> Performed
     ensures warns { IfOk result.told (λ told. WarnsOf (P.tells paths.now)
-        (telling (P.tells paths.now) (P.stands paths.now) (P.lists paths.now)) task.now
-        (option_map string_bytes told.warning)) }
+        (telling_of P.Paths paths.now) task.now (option_map string_bytes told.warning)) }
     ensures serves { GivesClosed result (ServesHeld P.Store.Store (P.leaves paths.now)
-        (P.tells paths.now) (telling (P.tells paths.now) (P.stands paths.now) (P.lists paths.now))
-        L.format (conditions (version_of L.format) session.profile session.limits) task.now
-        session.connection) (ExplainsFailure
-        (telling (P.tells paths.now) (P.stands paths.now) (P.lists paths.now))
+        (P.tells paths.now) (telling_of P.Paths paths.now) L.format (conditions_in L.format session)
+        task.now session.connection) (ExplainsFailure (telling_of P.Paths paths.now)
         (P.explains paths.now) (paths_of task.now)) }
 {
     let mut session = session;
@@ -199,13 +189,11 @@ fn perform_on_nothing<P: Paths>(
     task: &Task,
     paths: &P,
 ) -> Result<Told, Failure>
-    ensures warns { IfOk result (λ told. WarnsOf (P.tells paths.now)
-        (telling (P.tells paths.now) (P.stands paths.now) (P.lists paths.now)) task.now
-        (option_map string_bytes told.warning)) }
+    ensures warns { IfOk result (λ told. WarnsOf (P.tells paths.now) (telling_of P.Paths paths.now)
+        task.now (option_map string_bytes told.warning)) }
     ensures serves { GivesFor result (ServesOnNothing (P.tells paths.now)
-        (telling (P.tells paths.now) (P.stands paths.now) (P.lists paths.now)) profile task.now) }
-    ensures explains { IfErr result (ExplainsFailure
-        (telling (P.tells paths.now) (P.stands paths.now) (P.lists paths.now))
+        (telling_of P.Paths paths.now) profile task.now) }
+    ensures explains { IfErr result (ExplainsFailure (telling_of P.Paths paths.now)
         (P.explains paths.now) (paths_of task.now) None) }
 {
     let mut session = session_in_memory(alloc, profile)?;
@@ -228,8 +216,7 @@ fn told_of<P: Paths>(
         (λ told. MayWarn task.now (option_map string_bytes told.warning)) }
     ensures gives { (own : Result Reply Fault) → StandsFor served own
         → GivesFor result (λ answer. IsOwnOr answer own) }
-    ensures explains { IfErr result (ExplainsFailure
-        (telling (P.tells paths.now) (P.stands paths.now) (P.lists paths.now))
+    ensures explains { IfErr result (ExplainsFailure (telling_of P.Paths paths.now)
         (P.explains paths.now) (paths_of task.now) met) }
 {
     match served {
@@ -263,13 +250,12 @@ pub fn open<P: Paths>(
     config: String,
     paths: &mut P,
 ) -> Result<OpenRegister<P::Store>, Unopened>
-    ensures opened { IfOk result (λ register. OpensUnder (places P.Store.Store P.tells P.stands
-        P.lists P.explains P.opens P.refuses P.lacks P.has P.lets_go P.leaves paths.old paths.new)
-        config (format_of register.1) (conditions (version_of (format_of register.1))
-        register.0.profile register.0.limits) register.0.connection) }
-    ensures failed { IfErr result (λ it. StopsOpening (places P.Store.Store P.tells P.stands
-        P.lists P.explains P.opens P.refuses P.lacks P.has P.lets_go P.leaves paths.old paths.new)
-        config it.failure.fault it.failure.cause it.closed) }
+    ensures opened { IfOk result (λ register. OpensUnder
+        (places_of P.Store.Store P.Paths paths.old paths.new) config (format_of register.1)
+        (conditions_in (format_of register.1) register.0) register.0.connection) }
+    ensures failed { IfErr result (λ it. StopsOpening
+        (places_of P.Store.Store P.Paths paths.old paths.new) config it.failure.fault
+        it.failure.cause it.closed) }
     ensures told { P.tells paths.new ≡ P.tells paths.old }
 {
     match profile_at(alloc, paths, config) {
@@ -289,14 +275,14 @@ pub fn open_register<P: Paths>(
     choice: LayoutChoice,
     profile: Profile,
 ) -> Result<OpenRegister<P::Store>, Unopened>
-    ensures failed { IfErr result (λ it. IsOpeningFault (places P.Store.Store P.tells P.stands
-        P.lists P.explains P.opens P.refuses P.lacks P.has P.lets_go P.leaves paths.old paths.new)
-        profile it.failure.fault it.failure.cause it.closed) }
+    ensures failed { IfErr result (λ it. IsOpeningFault
+        (places_of P.Store.Store P.Paths paths.old paths.new) profile it.failure.fault
+        it.failure.cause it.closed) }
     ensures under { IfOk result (λ register. AreConditionsIn (format_of register.1) profile
-        (conditions (version_of (format_of register.1)) register.0.profile register.0.limits)) }
-    ensures opened { IfOk result (λ register. TakesIn (places P.Store.Store P.tells P.stands
-        P.lists P.explains P.opens P.refuses P.lacks P.has P.lets_go P.leaves paths.old paths.new)
-        choice (format_of register.1) profile register.0.connection) }
+        (conditions_in (format_of register.1) register.0)) }
+    ensures opened { IfOk result (λ register. TakesIn
+        (places_of P.Store.Store P.Paths paths.old paths.new) choice (format_of register.1) profile
+        register.0.connection) }
     ensures told { P.tells paths.new ≡ P.tells paths.old }
 {
     let mut session = take_register(alloc, paths, profile)?;
@@ -324,14 +310,13 @@ fn take_register<P: Paths>(
     paths: &mut P,
     profile: Profile,
 ) -> Result<Session<P::Store, Blocks>, Unopened>
-    ensures failed { IfErr result (λ it. IsOpeningFault (places P.Store.Store P.tells P.stands
-        P.lists P.explains P.opens P.refuses P.lacks P.has P.lets_go P.leaves paths.old paths.new)
-        profile it.failure.fault it.failure.cause it.closed) }
+    ensures failed { IfErr result (λ it. IsOpeningFault
+        (places_of P.Store.Store P.Paths paths.old paths.new) profile it.failure.fault
+        it.failure.cause it.closed) }
     ensures under { IfOk result (λ session. AreScriptConditions profile
-        (conditions (version_of packed_blocks) session.profile session.limits)) }
-    ensures opened { IfOk result (λ session. TakesStore (places P.Store.Store P.tells P.stands
-        P.lists P.explains P.opens P.refuses P.lacks P.has P.lets_go P.leaves paths.old paths.new)
-        profile session.connection) }
+        (conditions_in packed_blocks session)) }
+    ensures opened { IfOk result (λ session. TakesStore
+        (places_of P.Store.Store P.Paths paths.old paths.new) profile session.connection) }
     ensures told { P.tells paths.new ≡ P.tells paths.old }
 {
     let opened = paths.store(profile.store_path());

@@ -2,10 +2,10 @@
 
 ghost use Rattle.std.specs.Prelude.{◌≡◌, ◌≢◌, ◌+◌, [], true, false, map, string_bytes, IfOk, IfSome, OnErr};
 ghost use Rattle.std.specs.Io.KnownBytes.{Appends, Keeps};
-ghost use Rattle.zeb_paths.specs.Walks.{telling};
+ghost use Rattle.zeb_paths.specs.Walks.{telling_of};
 ghost use Rattle.zeb_program.specs.Inputs.{IsInput, TakesAtMost};
 ghost use Rattle.zeb_program.specs.LeftStores.{EndsLeaving};
-ghost use Rattle.zeb_program.specs.Registers.{places};
+ghost use Rattle.zeb_program.specs.Registers.{places_of};
 ghost use Rattle.zeb_program.specs.FixedLines.{starved_line};
 ghost use Rattle.zeb_program.specs.ScriptAnswers.{AnswersScript, EndsEarly, EndsScript, TellsAtMost, fault_line, hint_of};
 ghost use Rattle.zeb_program.specs.PrivateEnding.{AnswersAs, IsLastStatus, PassesOn};
@@ -66,11 +66,11 @@ pub fn run<R: Source, W: Output, V: Output, P: Paths>(
     // No store is opened without a word. With words, whatever is written, and whatever fails: what becomes of the register's store. Where
     // they name no command none is opened; and lines of a batch are left only where memory ran out for the program itself, with status 3.
     // Why a task isn't done, or none is opened for words that name a command, is told on the fault output, unless a write to that failed.
-    ensures store { (words.now ≡ [] → files.new ≡ files.old) × (words.now ≢ [] → EndsLeaving
-        (places P.Store.Store P.tells P.stands P.lists P.explains P.opens P.refuses P.lacks P.has
-        P.lets_go P.leaves files.old files.new) (map string_bytes words.now)
-        (R.remaining input.old) result (IsToldSince fault_output.new.failed
-        (V.contents fault_output.old.writer) (V.contents fault_output.new.writer))) }
+    ensures store { (words.now ≡ [] → files.new ≡ files.old)
+        × (words.now ≢ [] → EndsLeaving (places_of P.Store.Store P.Paths files.old files.new)
+        (map string_bytes words.now) (R.remaining input.old) result
+        (IsToldSince fault_output.new.failed (V.contents fault_output.old.writer)
+        (V.contents fault_output.new.writer))) }
 
     // Where no write has failed, nothing of what was written is held back.
     ensures passed { (output.new.failed ≡ false → W.held_back output.new.writer ≡ [])
@@ -83,15 +83,13 @@ pub fn run<R: Source, W: Output, V: Output, P: Paths>(
         → TellsAtMost (V.contents fault_output.old.writer) (V.contents fault_output.new.writer)
         × (R.has_failed input.new ≡ false → output.new.failed ≡ false
         → IfSome (R.remaining input.old) (λ text. EndsWith result
-        (EndsScript (telling (P.tells files.old) (P.stands files.old) (P.lists files.old)) text
-        (W.contents output.old.writer)
+        (EndsScript (telling_of P.Paths files.old) text (W.contents output.old.writer)
         (W.contents output.new.writer) (V.contents fault_output.old.writer)
         (V.contents fault_output.new.writer)))) }
 
     // With words: what is told of the register that they have a command carried out on is told where the paths tell what opens it.
     ensures words { words.now ≢ [] → output.new.failed ≡ false → fault_output.new.failed ≡ false
-        → EndsWith result (EndsWords (places P.Store.Store P.tells P.stands P.lists P.explains
-        P.opens P.refuses P.lacks P.has P.lets_go P.leaves files.old files.new)
+        → EndsWith result (EndsWords (places_of P.Store.Store P.Paths files.old files.new)
         (map string_bytes words.now) (R.remaining input.old) (R.remaining input.new)
         (R.has_failed input.new) (W.contents output.old.writer) (W.contents output.new.writer)
         (V.contents fault_output.old.writer) (V.contents fault_output.new.writer)) }
@@ -213,13 +211,11 @@ fn run_script<R: Source, W: Write, P: Paths>(
     ensures failed_read { R.has_failed input.new ≡ true
         → IfOk result (λ end. end.status ≡ Status.Failed) }
     ensures sound { output.new.failed ≡ false → output.old.failed ≡ false }
-    ensures answer { IfOk result (λ end. R.has_failed input.new ≡ false
-        → output.new.failed ≡ false → IfSome (R.remaining input.old)
-        (λ text. AnswersAs (telling (P.tells paths.now) (P.stands paths.now) (P.lists paths.now))
-        text (W.contents output.old.writer) (W.contents output.new.writer) end)) }
+    ensures answer { IfOk result (λ end. R.has_failed input.new ≡ false → output.new.failed ≡ false
+        → IfSome (R.remaining input.old) (λ text. AnswersAs (telling_of P.Paths paths.now) text
+        (W.contents output.old.writer) (W.contents output.new.writer) end)) }
     ensures stopped { OnErr result (R.has_failed input.new ≡ false → output.new.failed ≡ false
-        → IfSome (R.remaining input.old) (λ text. EndsEarly
-        (telling (P.tells paths.now) (P.stands paths.now) (P.lists paths.now)) text
+        → IfSome (R.remaining input.old) (λ text. EndsEarly (telling_of P.Paths paths.now) text
         (W.contents output.old.writer) (W.contents output.new.writer))) }
 {
     let text = match read_text(alloc, input, GREATEST_INPUT) {
@@ -250,12 +246,12 @@ fn run_text<W: Write, P: Paths>(
 ) -> Result<Status, AllocError>
     requires { IsInput text.now }
     ensures sound { output.new.failed ≡ false → output.old.failed ≡ false }
-    ensures answer { IfOk result (λ status. output.new.failed ≡ false → AnswersScript
-        (telling (P.tells paths.now) (P.stands paths.now) (P.lists paths.now)) text.now
-        (W.contents output.old.writer) (W.contents output.new.writer) status) }
-    ensures stopped { OnErr result (output.new.failed ≡ false → EndsEarly
-        (telling (P.tells paths.now) (P.stands paths.now) (P.lists paths.now)) text.now
-        (W.contents output.old.writer) (W.contents output.new.writer)) }
+    ensures answer { IfOk result (λ status. output.new.failed ≡ false
+        → AnswersScript (telling_of P.Paths paths.now) text.now (W.contents output.old.writer)
+        (W.contents output.new.writer) status) }
+    ensures stopped { OnErr result (output.new.failed ≡ false
+        → EndsEarly (telling_of P.Paths paths.now) text.now (W.contents output.old.writer)
+        (W.contents output.new.writer)) }
 {
     let script = Script::cut(text);
     match Profile::read(alloc, script.profile) {

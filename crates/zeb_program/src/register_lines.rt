@@ -1,11 +1,10 @@
 //! The lines of the input on a register that is open: they are run, and it is closed behind the last.
 
 ghost use Rattle.std.specs.Prelude.{◌≡◌, false, IfOk};
-ghost use Rattle.zeb_change.specs.Conditions.{conditions};
-ghost use Rattle.zeb_paths.specs.Walks.{telling};
-ghost use Rattle.zeb_register.specs.Formats.{version_of};
+ghost use Rattle.zeb_paths.specs.Walks.{telling_of};
 ghost use Rattle.zeb_program.specs.Doing.{DoesBatch, DoesShell};
 ghost use Rattle.zeb_program.specs.PrivateWordRuns.{ClosesAloud, EndsSession, EndsStarved, LeavesHeld, RunsIn, ServesIn, ShowsReading, StopsIn, StopsServing, format_of};
+ghost use Rattle.zeb_engine.specs.Sessions.{conditions_in};
 
 use crate::batch::run_lines;
 use crate::failures::tell_closed;
@@ -35,26 +34,23 @@ pub fn run_on<W: Write, V: Write, P: Paths>(
 ) -> Result<Status, AllocError>
     ensures answer { IfOk result (λ status. output.new.failed ≡ false
         → fault_output.new.failed ≡ false → RunsIn P.Store.Store (P.leaves paths.now)
-        (telling (P.tells paths.now) (P.stands paths.now) (P.lists paths.now))
-        (format_of register.1)
-        (conditions (version_of (format_of register.1)) register.0.profile register.0.limits)
-        batch.entry.lines_before batch.entry.text.now register.0.connection
-        (W.contents output.old.writer) (W.contents output.new.writer)
-        (V.contents fault_output.old.writer) (V.contents fault_output.new.writer) status) }
+        (telling_of P.Paths paths.now) (format_of register.1)
+        (conditions_in (format_of register.1) register.0) batch.entry.lines_before
+        batch.entry.text.now register.0.connection (W.contents output.old.writer)
+        (W.contents output.new.writer) (V.contents fault_output.old.writer)
+        (V.contents fault_output.new.writer) status) }
     ensures stopped { EndsStarved result output.new.failed fault_output.new.failed
         (V.contents fault_output.old.writer) (V.contents fault_output.new.writer)
-        (StopsIn P.Store.Store (P.leaves paths.now) (telling (P.tells paths.now)
-        (P.stands paths.now) (P.lists paths.now)) (format_of register.1)
-        (conditions (version_of (format_of register.1)) register.0.profile register.0.limits)
-        batch.entry.lines_before batch.entry.text.now
-        register.0.connection (W.contents output.old.writer) (W.contents output.new.writer)
+        (StopsIn P.Store.Store (P.leaves paths.now) (telling_of P.Paths paths.now)
+        (format_of register.1) (conditions_in (format_of register.1) register.0)
+        batch.entry.lines_before batch.entry.text.now register.0.connection
+        (W.contents output.old.writer) (W.contents output.new.writer)
         (V.contents fault_output.old.writer) (V.contents fault_output.new.writer)) }
     // What becomes of the store, whatever is written.
     ensures store { LeavesHeld P.Store.Store (P.leaves paths.now) register.0.connection
-        (DoesBatch P.Store.Store (telling (P.tells paths.now) (P.stands paths.now)
-        (P.lists paths.now)) (format_of register.1) (conditions (version_of (format_of register.1))
-        register.0.profile register.0.limits) batch.entry.lines_before batch.entry.text.now
-        result) }
+        (DoesBatch P.Store.Store (telling_of P.Paths paths.now) (format_of register.1)
+        (conditions_in (format_of register.1) register.0) batch.entry.lines_before
+        batch.entry.text.now result) }
 {
     let (session, layout) = register;
     match layout {
@@ -77,22 +73,19 @@ fn run_in<L: Layout, W: Write, V: Write, P: Paths>(
 ) -> Result<Status, AllocError>
     ensures answer { IfOk result (λ status. output.new.failed ≡ false
         → fault_output.new.failed ≡ false → RunsIn P.Store.Store (P.leaves paths.now)
-        (telling (P.tells paths.now) (P.stands paths.now) (P.lists paths.now)) L.format
-        (conditions (version_of L.format) session.profile session.limits)
+        (telling_of P.Paths paths.now) L.format (conditions_in L.format session)
         batch.entry.lines_before batch.entry.text.now session.connection
         (W.contents output.old.writer) (W.contents output.new.writer)
         (V.contents fault_output.old.writer) (V.contents fault_output.new.writer) status) }
     ensures stopped { EndsStarved result output.new.failed fault_output.new.failed
         (V.contents fault_output.old.writer) (V.contents fault_output.new.writer)
-        (StopsIn P.Store.Store (P.leaves paths.now) (telling (P.tells paths.now)
-        (P.stands paths.now) (P.lists paths.now)) L.format (conditions (version_of L.format)
-        session.profile session.limits) batch.entry.lines_before batch.entry.text.now
+        (StopsIn P.Store.Store (P.leaves paths.now) (telling_of P.Paths paths.now) L.format
+        (conditions_in L.format session) batch.entry.lines_before batch.entry.text.now
         session.connection (W.contents output.old.writer) (W.contents output.new.writer)
         (V.contents fault_output.old.writer) (V.contents fault_output.new.writer)) }
     ensures store { LeavesHeld P.Store.Store (P.leaves paths.now) session.connection
-        (DoesBatch P.Store.Store (telling (P.tells paths.now) (P.stands paths.now)
-        (P.lists paths.now)) L.format (conditions (version_of L.format) session.profile
-        session.limits) batch.entry.lines_before batch.entry.text.now result) }
+        (DoesBatch P.Store.Store (telling_of P.Paths paths.now) L.format
+        (conditions_in L.format session) batch.entry.lines_before batch.entry.text.now result) }
 {
     let mut session = session;
     let answered = run_lines(alloc, &mut session, paths, batch, output);
@@ -112,25 +105,22 @@ pub fn serve_on<R: Source, W: Output, V: Write, P: Paths>(
     ensures read { ShowsReading (R.has_failed input.new) (R.remaining input.new) result }
     ensures answer { IfOk result (λ status. output.new.failed ≡ false
         → fault_output.new.failed ≡ false → ServesIn P.Store.Store (P.leaves paths.now)
-        (telling (P.tells paths.now) (P.stands paths.now) (P.lists paths.now))
-        (format_of register.1)
-        (conditions (version_of (format_of register.1)) register.0.profile register.0.limits)
-        (R.remaining input.old) (R.remaining input.new) (R.has_failed input.new)
-        register.0.connection (W.contents output.old.writer) (W.contents output.new.writer)
+        (telling_of P.Paths paths.now) (format_of register.1)
+        (conditions_in (format_of register.1) register.0) (R.remaining input.old)
+        (R.remaining input.new) (R.has_failed input.new) register.0.connection
+        (W.contents output.old.writer) (W.contents output.new.writer)
         (V.contents fault_output.old.writer) (V.contents fault_output.new.writer) status) }
     ensures stopped { EndsStarved result output.new.failed fault_output.new.failed
         (V.contents fault_output.old.writer) (V.contents fault_output.new.writer)
-        (StopsServing P.Store.Store (P.leaves paths.now) (telling (P.tells paths.now)
-        (P.stands paths.now) (P.lists paths.now)) (format_of register.1)
-        (conditions (version_of (format_of register.1)) register.0.profile register.0.limits)
-        (R.remaining input.old) (R.remaining input.new)
-        register.0.connection (W.contents output.old.writer) (W.contents output.new.writer)
+        (StopsServing P.Store.Store (P.leaves paths.now) (telling_of P.Paths paths.now)
+        (format_of register.1) (conditions_in (format_of register.1) register.0)
+        (R.remaining input.old) (R.remaining input.new) register.0.connection
+        (W.contents output.old.writer) (W.contents output.new.writer)
         (V.contents fault_output.old.writer) (V.contents fault_output.new.writer)) }
     // What becomes of the store, whatever is written.
     ensures store { LeavesHeld P.Store.Store (P.leaves paths.now) register.0.connection
-        (DoesShell P.Store.Store (telling (P.tells paths.now) (P.stands paths.now)
-        (P.lists paths.now)) (format_of register.1) (conditions (version_of (format_of register.1))
-        register.0.profile register.0.limits) (R.remaining input.old)) }
+        (DoesShell P.Store.Store (telling_of P.Paths paths.now) (format_of register.1)
+        (conditions_in (format_of register.1) register.0) (R.remaining input.old)) }
 {
     let (session, layout) = register;
     match layout {
@@ -155,23 +145,19 @@ fn serve_in<L: Layout, R: Source, W: Output, V: Write, P: Paths>(
     ensures read { ShowsReading (R.has_failed input.new) (R.remaining input.new) result }
     ensures answer { IfOk result (λ status. output.new.failed ≡ false
         → fault_output.new.failed ≡ false → ServesIn P.Store.Store (P.leaves paths.now)
-        (telling (P.tells paths.now) (P.stands paths.now) (P.lists paths.now)) L.format
-        (conditions (version_of L.format) session.profile session.limits)
-        (R.remaining input.old) (R.remaining input.new) (R.has_failed input.new)
-        session.connection (W.contents output.old.writer) (W.contents output.new.writer)
+        (telling_of P.Paths paths.now) L.format (conditions_in L.format session)
+        (R.remaining input.old) (R.remaining input.new) (R.has_failed input.new) session.connection
+        (W.contents output.old.writer) (W.contents output.new.writer)
         (V.contents fault_output.old.writer) (V.contents fault_output.new.writer) status) }
     ensures stopped { EndsStarved result output.new.failed fault_output.new.failed
         (V.contents fault_output.old.writer) (V.contents fault_output.new.writer)
-        (StopsServing P.Store.Store (P.leaves paths.now) (telling (P.tells paths.now)
-        (P.stands paths.now) (P.lists paths.now)) L.format
-        (conditions (version_of L.format)
-        session.profile session.limits) (R.remaining input.old) (R.remaining input.new)
+        (StopsServing P.Store.Store (P.leaves paths.now) (telling_of P.Paths paths.now) L.format
+        (conditions_in L.format session) (R.remaining input.old) (R.remaining input.new)
         session.connection (W.contents output.old.writer) (W.contents output.new.writer)
         (V.contents fault_output.old.writer) (V.contents fault_output.new.writer)) }
     ensures store { LeavesHeld P.Store.Store (P.leaves paths.now) session.connection
-        (DoesShell P.Store.Store (telling (P.tells paths.now) (P.stands paths.now)
-        (P.lists paths.now)) L.format (conditions (version_of L.format) session.profile
-        session.limits) (R.remaining input.old)) }
+        (DoesShell P.Store.Store (telling_of P.Paths paths.now) L.format
+        (conditions_in L.format session) (R.remaining input.old)) }
 {
     let mut session = session;
     let answered = serve_lines(alloc, &mut session, paths, input, output, fault_output);

@@ -4,9 +4,7 @@ ghost use Rattle.std.specs.Prelude.{◌≡◌, ◌↔◌, [], true, false, IfErr
 ghost use Rattle.std.specs.Io.KnownBytes.{IsAtEnd};
 ghost use Rattle.sqlite.specs.Held.{state};
 ghost use Rattle.sqlite.specs.State.{HasCleanDisk};
-ghost use Rattle.zeb_change.specs.Conditions.{conditions};
-ghost use Rattle.zeb_paths.specs.Walks.{telling};
-ghost use Rattle.zeb_register.specs.Formats.{version_of};
+ghost use Rattle.zeb_paths.specs.Walks.{telling_of};
 ghost use Rattle.zeb_program.specs.Answers.{AnswersAsTold, Writes};
 ghost use Rattle.zeb_program.specs.Doing.{DoesLine, DoesShell, RunsText, ServesText, StopsLine, StopsText};
 ghost use Rattle.zeb_program.specs.Lines.{first_line, after_first_line};
@@ -14,6 +12,7 @@ ghost use Rattle.zeb_program.specs.OverTables.{LineOver};
 ghost use Rattle.zeb_program.specs.PrivateShell.{AnswersNextLine, ComesTo, EndsInput, StopsAtLine};
 ghost use Rattle.zeb_program.specs.PrivateWordRuns.{ShowsReading};
 ghost use Rattle.zeb_program.specs.Serving.{LeadsOn};
+ghost use Rattle.zeb_engine.specs.Sessions.{KeepsConditions, conditions_in};
 ghost use Rattle.zeb_program.specs.declared.line_input.InputCause.TheVariants.{FailedRead};
 ghost use Rattle.zeb_program.specs.declared.line_input.LineFault.TheVariants.{Unreadable, Memory};
 
@@ -46,26 +45,23 @@ pub fn serve_lines<R: Source, S: Alter, L: Layout, P: Paths, W: Output, V: Write
     requires { R.has_failed input.old ≡ false }
     ensures answer { IfOk result (λ status. output.new.failed ≡ false
         → fault_output.new.failed ≡ false → HasCleanDisk (state S.Store session.new.connection)
-        → IfSome (R.remaining input.old) (λ text. ServesText S.Store
-        (telling (P.tells paths.now) (P.stands paths.now) (P.lists paths.now)) L.format
-        (conditions (version_of L.format) session.old.profile session.old.limits) text
-        (R.remaining input.new) (R.has_failed input.new)
-        (W.contents output.old.writer) (W.contents output.new.writer)
+        → IfSome (R.remaining input.old) (λ text. ServesText S.Store (telling_of P.Paths paths.now)
+        L.format (conditions_in L.format session.old) text (R.remaining input.new)
+        (R.has_failed input.new) (W.contents output.old.writer) (W.contents output.new.writer)
         (V.contents fault_output.old.writer) (V.contents fault_output.new.writer) status
         session.old.connection session.new.connection)) }
     ensures stopped { OnErr result (output.new.failed ≡ false
         → HasCleanDisk (state S.Store session.new.connection) → IfSome (R.remaining input.old)
-        (λ text. StopsText S.Store
-        (telling (P.tells paths.now) (P.stands paths.now) (P.lists paths.now)) L.format
-        (conditions (version_of L.format) session.old.profile session.old.limits) Memory text
-        (R.remaining input.new) (W.contents output.old.writer) (W.contents output.new.writer)
-        session.old.connection session.new.connection)) }
+        (λ text. StopsText S.Store (telling_of P.Paths paths.now) L.format
+        (conditions_in L.format session.old) Memory text (R.remaining input.new)
+        (W.contents output.old.writer) (W.contents output.new.writer) session.old.connection
+        session.new.connection)) }
     ensures silent { OnErr result (fault_output.new ≡ fault_output.old) }
     ensures does { HasCleanDisk (state S.Store session.new.connection)
-        → HasCleanDisk (state S.Store session.old.connection) × DoesShell S.Store
-        (telling (P.tells paths.now) (P.stands paths.now) (P.lists paths.now)) L.format
-        (conditions (version_of L.format) session.old.profile session.old.limits)
-        (R.remaining input.old) session.old.connection session.new.connection }
+        → HasCleanDisk (state S.Store session.old.connection)
+        × DoesShell S.Store (telling_of P.Paths paths.now) L.format
+        (conditions_in L.format session.old) (R.remaining input.old) session.old.connection
+        session.new.connection }
     ensures read { ShowsReading (R.has_failed input.new) (R.remaining input.new) result }
 {
     match run_shell_lines(alloc, session, paths, input, output) {
@@ -98,24 +94,21 @@ pub fn run_shell_lines<R: Source, S: Alter, L: Layout, P: Paths, W: Output>(
     ensures sound { output.new.failed ≡ false → output.old.failed ≡ false }
     ensures answer { IfOk result (λ status. output.new.failed ≡ false
         → HasCleanDisk (state S.Store session.new.connection) → IfSome (R.remaining input.old)
-        (λ text. RunsText S.Store
-        (telling (P.tells paths.now) (P.stands paths.now) (P.lists paths.now)) L.format
-        (conditions (version_of L.format) session.old.profile session.old.limits) 0 text
-        (W.contents output.old.writer) (W.contents output.new.writer) status
-        session.old.connection session.new.connection)) }
+        (λ text. RunsText S.Store (telling_of P.Paths paths.now) L.format
+        (conditions_in L.format session.old) 0 text (W.contents output.old.writer)
+        (W.contents output.new.writer) status session.old.connection session.new.connection)) }
     ensures stopped { IfErr result (λ why. output.new.failed ≡ false
         → HasCleanDisk (state S.Store session.new.connection) → IfSome (R.remaining input.old)
-        (λ text. StopsText S.Store
-        (telling (P.tells paths.now) (P.stands paths.now) (P.lists paths.now)) L.format
-        (conditions (version_of L.format) session.old.profile session.old.limits) why text
-        (R.remaining input.new) (W.contents output.old.writer) (W.contents output.new.writer)
-        session.old.connection session.new.connection)) }
+        (λ text. StopsText S.Store (telling_of P.Paths paths.now) L.format
+        (conditions_in L.format session.old) why text (R.remaining input.new)
+        (W.contents output.old.writer) (W.contents output.new.writer) session.old.connection
+        session.new.connection)) }
     // Whatever is written, also where a write fails.
     ensures does { HasCleanDisk (state S.Store session.new.connection)
-        → HasCleanDisk (state S.Store session.old.connection) × DoesShell S.Store
-        (telling (P.tells paths.now) (P.stands paths.now) (P.lists paths.now)) L.format
-        (conditions (version_of L.format) session.old.profile session.old.limits)
-        (R.remaining input.old) session.old.connection session.new.connection }
+        → HasCleanDisk (state S.Store session.old.connection)
+        × DoesShell S.Store (telling_of P.Paths paths.now) L.format
+        (conditions_in L.format session.old) (R.remaining input.old) session.old.connection
+        session.new.connection }
     // Only where a write failed a line may be left.
     ensures ends { EndsInput (R.has_failed input.new) output.new.failed (R.remaining input.new)
         result }
@@ -150,22 +143,17 @@ fn run_next_line<R: Source, S: Alter, L: Layout, P: Paths, W: Output>(
     requires seen { output.old.failed ≡ false }
     ensures sound { output.new.failed ≡ false → output.old.failed ≡ false }
     // At the input's end nothing is done, and nothing is written for a line that can't be read, or isn't answered.
-    ensures line { ComesTo (AnswersNextLine S.Store
-        (telling (P.tells paths.now) (P.stands paths.now) (P.lists paths.now)) L.format
-        (conditions (version_of L.format) session.old.profile session.old.limits) number
-        (R.remaining input.old) (R.remaining input.new) output.new.failed
-        (W.held_back output.new.writer) (W.contents output.old.writer)
+    ensures line { ComesTo (AnswersNextLine S.Store (telling_of P.Paths paths.now) L.format
+        (conditions_in L.format session.old) number (R.remaining input.old) (R.remaining input.new)
+        output.new.failed (W.held_back output.new.writer) (W.contents output.old.writer)
         (W.contents output.new.writer) session.old.connection session.new.connection)
         (IsAtEnd (R.remaining input.old) × IsAtEnd (R.remaining input.new)
         × (session.new ≡ session.old) × (output.new ≡ output.old))
-        (λ fault. StopsAtLine S.Store
-        (telling (P.tells paths.now) (P.stands paths.now) (P.lists paths.now)) L.format
-        (conditions (version_of L.format) session.old.profile session.old.limits)
-        (R.remaining input.old) (R.remaining input.new) session.old.connection
-        session.new.connection fault × (output.new ≡ output.old)) result }
+        (λ fault. StopsAtLine S.Store (telling_of P.Paths paths.now) L.format
+        (conditions_in L.format session.old) (R.remaining input.old) (R.remaining input.new)
+        session.old.connection session.new.connection fault × (output.new ≡ output.old)) result }
     // The session stays under its profile and its limits, and its disk was clean where it is.
-    ensures stays { (session.new.profile ≡ session.old.profile)
-        × (session.new.limits ≡ session.old.limits)
+    ensures stays { KeepsConditions session.old session.new
         × (HasCleanDisk (state S.Store session.new.connection)
         → HasCleanDisk (state S.Store session.old.connection)) }
     ensures failed { result ≡ Err (Unreadable FailedRead) ↔ R.has_failed input.new ≡ true }
@@ -193,31 +181,25 @@ fn run_bytes<S: Alter, L: Layout, P: Paths, W: Write>(
     ensures answer { IfOk result (λ status. output.new.failed ≡ false
         → HasCleanDisk (state S.Store session.new.connection) → after_first_line bytes.items ≡ []
         → LeadsOn (state S.Store session.old.connection) (state S.Store session.new.connection)
-        (W.contents output.old.writer) (W.contents output.new.writer)
-        (λ before written later. AnswersAsTold (P.tells paths.now)
-        (conditions (version_of L.format) session.old.profile session.old.limits) number
+        (W.contents output.old.writer) (W.contents output.new.writer) (λ before written later.
+        AnswersAsTold (P.tells paths.now) (conditions_in L.format session.old) number
         (first_line bytes.items) before written status later)) }
     ensures over { IfOk result (λ status. output.new.failed ≡ false
         → HasCleanDisk (state S.Store session.new.connection) → after_first_line bytes.items ≡ []
         → Writes (W.contents output.old.writer) (W.contents output.new.writer)
-        (λ written. LineOver S.Store (telling (P.tells paths.now) (P.stands paths.now)
-        (P.lists paths.now)) L.format (conditions (version_of L.format) session.old.profile
-        session.old.limits) number
-        (first_line bytes.items) session.old.connection written status session.new.connection)) }
-    ensures does { MatchResult result
-        (λ _. HasCleanDisk (state S.Store session.new.connection)
-        → after_first_line bytes.items ≡ [] → DoesLine S.Store
-        (telling (P.tells paths.now) (P.stands paths.now) (P.lists paths.now))
-        L.format (conditions (version_of L.format) session.old.profile session.old.limits) number
-        (first_line bytes.items) session.old.connection session.new.connection)
-        (λ _. (output.new ≡ output.old)
+        (λ written. LineOver S.Store (telling_of P.Paths paths.now) L.format
+        (conditions_in L.format session.old) number (first_line bytes.items) session.old.connection
+        written status session.new.connection)) }
+    ensures does { MatchResult result (λ _. HasCleanDisk (state S.Store session.new.connection)
+        → after_first_line bytes.items ≡ [] → DoesLine S.Store (telling_of P.Paths paths.now)
+        L.format (conditions_in L.format session.old) number (first_line bytes.items)
+        session.old.connection session.new.connection) (λ _. (output.new ≡ output.old)
         × (HasCleanDisk (state S.Store session.new.connection) → after_first_line bytes.items ≡ []
-        → StopsLine S.Store (telling (P.tells paths.now) (P.stands paths.now) (P.lists paths.now))
-        L.format (conditions (version_of L.format) session.old.profile session.old.limits)
-        (first_line bytes.items) session.old.connection session.new.connection)) }
+        → StopsLine S.Store (telling_of P.Paths paths.now) L.format
+        (conditions_in L.format session.old) (first_line bytes.items) session.old.connection
+        session.new.connection)) }
     // The session stays under its profile and its limits, and its disk was clean where it is.
-    ensures stays { (session.new.profile ≡ session.old.profile)
-        × (session.new.limits ≡ session.old.limits)
+    ensures stays { KeepsConditions session.old session.new
         × (HasCleanDisk (state S.Store session.new.connection)
         → HasCleanDisk (state S.Store session.old.connection)) }
 {

@@ -3,12 +3,10 @@
 ghost use Rattle.std.specs.Prelude.{◌≡◌, ⊤, false, true, ℕ, None, List, Result, Ok, Err, map, string_bytes, IfErr, IfOk, MatchResult, OnErr};
 ghost use Rattle.sqlite.specs.Held.{state};
 ghost use Rattle.sqlite.specs.State.{HasCleanDisk};
-ghost use Rattle.zeb_change.specs.Conditions.{conditions};
 ghost use Rattle.zeb_image.specs.NameOf.{name_bytes};
 ghost use Rattle.zeb_register.specs.Calls.{ChangesNothing};
-ghost use Rattle.zeb_register.specs.Formats.{version_of};
 ghost use Rattle.zeb_engine.specs.declared.replies.Reply.{Reply};
-ghost use Rattle.zeb_paths.specs.Walks.{telling};
+ghost use Rattle.zeb_paths.specs.Walks.{telling_of};
 ghost use Rattle.zeb_program.specs.PrivateFaults.{IsUnread};
 ghost use Rattle.zeb_program.specs.Errands.{choice_of};
 ghost use Rattle.zeb_program.specs.FaultAnswers.{GivesAnswer, Reaches};
@@ -17,6 +15,7 @@ ghost use Rattle.zeb_program.specs.PrivateServing.{CarriesOut, KeepsStill, Stand
 ghost use Rattle.zeb_program.specs.Serving.{AnswersFrom};
 ghost use Rattle.zeb_program.specs.TaskAnswers.{AnswersCommand, AreTold, ReadsWhole, paths_of};
 ghost use Rattle.zeb_program.specs.PrivateWarnings as spec;
+ghost use Rattle.zeb_engine.specs.Sessions.{KeepsConditions, conditions_in};
 ghost use Rattle.zeb_program.specs.Warnings.{WarnsBelow, records_in, unmarked_by, unmarked_of, warning_of};
 ghost use Rattle.zeb_program.specs.declared.faults.Fault.{Fault};
 ghost use Rattle.zeb_program.specs.declared.faults.Fault.TheVariants.{Refused};
@@ -175,10 +174,9 @@ pub fn carry_out<S: Alter, L: Layout, P: Paths>(
     task: &Task,
 ) -> Result<Served, Fault>
     ensures done { (answer : Result Reply Fault) × StandsFor result answer
-        × CarriesOut (P.tells paths.now)
-        (telling (P.tells paths.now) (P.stands paths.now) (P.lists paths.now)) L.format
-        (conditions (version_of L.format) session.old.profile session.old.limits) task.now
-        (state S.Store session.old.connection) (state S.Store session.new.connection) answer }
+        × CarriesOut (P.tells paths.now) (telling_of P.Paths paths.now) L.format
+        (conditions_in L.format session.old) task.now (state S.Store session.old.connection)
+        (state S.Store session.new.connection) answer }
     // An analysis leaves the connection as it is, whatever it is answered. Where something couldn't be read, the register was asked for nothing.
     ensures still { KeepsStill S.Store task.now result session.old.connection
         session.new.connection (session.new ≡ session.old) }
@@ -187,9 +185,9 @@ pub fn carry_out<S: Alter, L: Layout, P: Paths>(
         files → IfOk result (λ served. spec.warned_in served
         ≡ warning_of (unmarked_by task.now files) (records_in files)) }
     // Of an analysis, whatever stands at its paths: of the files that a walk gives.
-    ensures below { ReadsWhole task.now → IfOk result (λ served. WarnsBelow
-        (telling (P.tells paths.now) (P.stands paths.now) (P.lists paths.now))
-        (paths_of task.now) (spec.warned_in served)) }
+    ensures below { ReadsWhole task.now → IfOk result
+        (λ served. WarnsBelow (telling_of P.Paths paths.now) (paths_of task.now)
+        (spec.warned_in served)) }
     ensures shown { IfOk result (spec.IsServedFor task.now) }
 {
     match task {
@@ -219,12 +217,10 @@ fn to_serve(reply: Result<Reply, Fault>) -> Result<Served, Fault>
 fn ask<S: Alter, L: Layout>(session: &mut Session<S, L>, command: &Command) -> Result<Reply, Fault>
     ensures answer { HasCleanDisk (state S.Store session.new.connection)
         → AnswersFrom (state S.Store session.old.connection) (state S.Store session.new.connection)
-        result (AnswersCommand (conditions (version_of L.format) session.old.profile
-        session.old.limits) command.now) }
+        result (AnswersCommand (conditions_in L.format session.old) command.now) }
     ensures over { HasCleanDisk (state S.Store session.new.connection)
-        → GivesAnswer (ServesOver L.format (conditions (version_of L.format) session.old.profile
-        session.old.limits) command.now (state S.Store session.old.connection)
-        (state S.Store session.new.connection)) result }
+        → GivesAnswer (ServesOver L.format (conditions_in L.format session.old) command.now
+        (state S.Store session.old.connection) (state S.Store session.new.connection)) result }
     ensures clean { HasCleanDisk (state S.Store session.new.connection)
         → HasCleanDisk (state S.Store session.old.connection) }
     ensures refused { HasCleanDisk (state S.Store session.new.connection)
@@ -256,19 +252,16 @@ pub fn change_by_paths<S: Alter, L: Layout, P: Paths>(
     named: &[String],
 ) -> Result<Reply, Fault>
     // The session stays under its profile and its limits, and its disk was clean where it is.
-    ensures stays { (session.new.profile ≡ session.old.profile)
-        × (session.new.limits ≡ session.old.limits)
+    ensures stays { KeepsConditions session.old session.new
         × (HasCleanDisk (state S.Store session.new.connection)
         → HasCleanDisk (state S.Store session.old.connection)) }
     // On any tables, and whatever the paths tell; where they tell the bytes of its files, it is the change by these.
     ensures changes { HasCleanDisk (state S.Store session.new.connection)
-        → ChangesOver (telling (P.tells paths.now) (P.stands paths.now) (P.lists paths.now))
-        L.format (conditions (version_of L.format) session.old.profile session.old.limits) kind
-        (name_bytes database.now) (map string_bytes named.now)
+        → ChangesOver (telling_of P.Paths paths.now) L.format (conditions_in L.format session.old)
+        kind (name_bytes database.now) (map string_bytes named.now)
         (state S.Store session.old.connection) (state S.Store session.new.connection) result }
     ensures unread { IfErr result (λ fault. IsUnread fault → session.new ≡ session.old) }
-    ensures reaches { Reaches (telling (P.tells paths.now) (P.stands paths.now)
-        (P.lists paths.now)) ⊥ (map string_bytes named.now) result }
+    ensures reaches { Reaches (telling_of P.Paths paths.now) ⊥ (map string_bytes named.now) result }
 {
     let mut readers = readers_of(alloc, paths, named)?;
     as_told(session.update_from(database, kind, &mut readers))
@@ -283,18 +276,16 @@ fn analyse_paths<S: Alter, L: Layout, P: Paths>(
 ) -> Result<Served, Fault>
     // On any tables, and whatever the paths tell.
     ensures over { (answer : Result Reply Fault) × StandsFor result answer
-        × AnalysesOver (telling (P.tells paths.now) (P.stands paths.now) (P.lists paths.now))
-        session.now.profile session.now.limits.records (map string_bytes named.now) answer }
-    ensures reaches { Reaches (telling (P.tells paths.now) (P.stands paths.now)
-        (P.lists paths.now)) ⊤ (map string_bytes named.now) result }
+        × AnalysesOver (telling_of P.Paths paths.now) session.now.profile session.now.limits.records
+        (map string_bytes named.now) answer }
+    ensures reaches { Reaches (telling_of P.Paths paths.now) ⊤ (map string_bytes named.now) result }
     // Where the bytes of a file at each path are told.
     ensures unmarked { (files : List (List ℕ)) → AreTold (P.tells paths.now)
         (map string_bytes named.now) files
         → IfOk result (λ served. spec.warned_in served
         ≡ warning_of (unmarked_of 1 files) (records_in files)) }
     // And whatever stands at each path: of the files that a walk gives.
-    ensures below { IfOk result (λ served. WarnsBelow
-        (telling (P.tells paths.now) (P.stands paths.now) (P.lists paths.now))
+    ensures below { IfOk result (λ served. WarnsBelow (telling_of P.Paths paths.now)
         (map string_bytes named.now) (spec.warned_in served)) }
 {
     let AnalysedFiles { lines, unmarked } = analyse_files(alloc, session, paths, named)?;

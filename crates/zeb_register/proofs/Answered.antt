@@ -1,21 +1,16 @@
 -- What a call that answers by one clause is known to answer.
-use Rattle.zeb_register.proofs.Cited.{State, Trees, ◌≡◌, ◌≢◌, ◌∙◌, err_from_is_err_and, ap, sym, subst, Result, Ok, Err, RegFault, Damaged, Store, Content, IsReasoned}
+use Rattle.zeb_register.proofs.Cited.{State, Trees, ◌≡◌, ◌∙◌, err_from_is_err_and, ap, sym, subst, Result, Ok, Err, RegFault, Damaged, Store, Content, IsReasoned}
 use Rattle.std.specs.Result.{IsErrAnd}
 use Rattle.zeb_register.specs.Answers.{Answers, IfDamaged, TellsOr}
 use Rattle.zeb_register.specs.Clauses.{OnStore, Tells, TellsHeld}
 
 -- a call that is refused so answers so
-pub refused_so : {A : Type 0} (Refused : RegFault → Type 0) (Done : A → Type 0) (result : Result A RegFault) (fault : RegFault) → result ≡ Err fault → Refused fault → Answers Refused Done result
+pub refused_so : {A E : Type 0} (Refused : E → Type 0) (Done : A → Type 0) (result : Result A E) (fault : E) → result ≡ Err fault → Refused fault → Answers Refused Done result
 refused_so Refused Done result fault is refused = subst (Answers Refused Done) (sym is) refused
 
 -- what a `?` hands on is the fault that it met
-pub fault_met : {A : Type 0} (result : Result A RegFault) (fault : RegFault) → IsErrAnd result (λ met. met ≡ fault) → result ≡ Err fault
+pub fault_met : {A E : Type 0} (result : Result A E) (fault : E) → IsErrAnd result (λ met. met ≡ fault) → result ≡ Err fault
 fault_met result fault met = let is = err_from_is_err_and result met in is.1 ∙ ap Err is.2
-
--- no failed store, where no refusal is one
-pub never_stored : {A : Type 0} (Refused : RegFault → Type 0) (Done : A → Type 0) (result : Result A RegFault) → Answers (λ fault. (fault ≢ Store) × Refused fault) Done result → result ≢ Err Store
-never_stored {A} Refused Done (Ok answer) told is = let e : ◌≡◌ {A = Result A RegFault} (Ok answer) (Err Store) = is in cc
-never_stored {A} Refused Done (Err fault) told is = told.0 (let e : ◌≡◌ {A = Result A RegFault} (Err fault) (Err Store) = is in cc)
 
 -- two clauses of a call in one
 pub told_or : {A : Type 0} (Damage : Trees → Type 0) (Told : Trees → A → Type 0) (old new : State) (result : Result A RegFault)

@@ -1,6 +1,5 @@
 -- The lists of neighbouring terms are told by their units. What a call that lists them says of tables that hold a content.
-use Rattle.zeb_register.proofs.Cited.{Row, State, Text, has_mapped, mapped_has, Has, ◌≡◌, ◌≢◌, ◌↔◌, ◌∙◌, ℕ, List, [], ◌∷◌, ◌++◌, drop, map, refl, sym, ap, ap₂, subst, inl, inr, Result, Ok, Err, Vec, Global, Key, Posting, RegFault, Store, RegisterOf, IsBetween, IsRestBetween, three_behind, register_columns, key_in, posting_row, first_three, IsListOf, IsRest, IsStore, postings_tree, Format, plain_rows, holds_in, term_list}
-use Rattle.zeb_register.specs.Answers.{Answers, IfDamaged}
+use Rattle.zeb_register.proofs.Cited.{Row, State, Text, has_mapped, mapped_has, Has, ◌≡◌, ◌↔◌, ◌∙◌, ℕ, List, [], ◌∷◌, ◌++◌, drop, map, refl, sym, ap, ap₂, subst, inl, inr, Result, Ok, Err, Vec, Global, Key, Posting, RegFault, RegisterOf, IsBetween, IsRestBetween, three_behind, register_columns, key_in, posting_row, first_three, IsListOf, IsRest, IsStore, postings_tree, Format, plain_rows, holds_in, term_list}
 use Rattle.zeb_register.specs.Between.{IsPostingBetween}
 use Rattle.zeb_register.specs.Clauses.{TellsHeld}
 use Rattle.zeb_register.specs.PlainUnits.{ShowsNone}
@@ -64,17 +63,10 @@ module _ (s : State) (store : IsStore s) (at : RegisterOf) (first last : List �
     }
 
   -- one that shows no posting is of one of the terms
-  none_between : SomeShowsNoneBehind rows → HasMalformedBetween plain_rows s.now.trees at first last
+  pub none_between : SomeShowsNoneBehind rows → HasMalformedBetween plain_rows s.now.trees at first last
   none_between bad =
       let it = shown_row postings_tree s.now.trees at first last rows are bad.0 bad.1 in
       (it.0, it.1, (drop 1 bad.0, subst (λ (r : Row). IsRest postings_tree (register_columns at) s.now.trees r) it.2 it.3, subst (λ (r : Row). ShowsNone (three_behind r)) it.2 bad.2))
-
-  -- a call that reads the rows of the terms lists their units
-  pub between_read : (result : Result (Vec Posting Global) RegFault)
-      → Answers (λ fault. (fault ≢ Store) × IfDamaged (SomeShowsNoneBehind rows) fault) (λ (list : Vec Posting Global). map posting_row list.items ≡ map three_behind rows) result
-      → Answers (IfDamaged (HasMalformedBetween plain_rows s.now.trees at first last)) (λ (list : Vec Posting Global). ListsBetween plain_rows s.now.trees at first last list.items) result
-  between_read (Ok list) shown = rows_between list.items shown
-  between_read (Err fault) refused = λ told. none_between (refused.1 told)
 
 -- ---- a call
 

@@ -198,6 +198,9 @@ reads_goes a b reads = record { was_open = reads.was_open; is_open = reads.is_op
 pub goes_keeps : (a b c : State) → GoesOn a b → KeepsCommit b c → KeepsCommit a c
 goes_keeps a b c before next = record { was_open = λ _. before.was_open; committed = λ o. next.committed o ∙ before.committed_is }
 
+pub reads_keeps : (a b : State) → OnlyReads a b → KeepsCommit a b
+reads_keeps a b reads = record { was_open = λ _. reads.was_open; committed = λ _. reads.committed_is }
+
 pub on_err : {A E : Type 0} (r : Result A E) (P : Type 0) → P → OnErr r P
 on_err (Ok x) P p = tt
 on_err (Err e) P p = p

@@ -119,7 +119,7 @@ pub use Rattle.zeb_register.specs.Catalog.{AreDatabases, AreReadableDatabases, l
 pub use Rattle.zeb_register.specs.Clauses.{IsReasoned, IsReasonedError}
 pub use Rattle.zeb_register.specs.Content.{posted, Content, HasRisingLists, posting_cmp, posting_at, ArePlacesOf, IsChangedAt, IsWithout, place_cmp, AreChangedAt, AreListChanges, IsListChanged, TakesWhole, IsStorable}
 pub use Rattle.zeb_register.specs.Expected.{AreExpected, IsOrdered, IsExpectedAs, IsPostingExpected, key_posting_order, name_order, IsTextOf, number_order}
-pub use Rattle.zeb_register.specs.Faults.{fault_of}
+pub use Rattle.zeb_register.specs.Faults.{fault_of, fault_of_rows}
 pub use Rattle.zeb_register.specs.Formats.{packed_blocks, packed_leaves, plain_rows, Format, holds_in, version_of}
 pub use Rattle.zeb_register.specs.Kept.{record_shown, AreNumbered, AreReadableIdents, AreReadable, IsFirstFrom, IsNumberOf}
 pub use Rattle.zeb_register.specs.Occurring.{HasKey, key_in, IsCount, AreCounts, term_cmp, AreTermsOf, Spot, spot_cmp, capped, TermIn, AreSpotsOf, AreTotals, is_before, is_from, last, HasSpot}
@@ -154,6 +154,8 @@ pub use Rattle.zeb_register.specs.declared.expected.ExpectedDatabase.{ExpectedDa
 pub use Rattle.zeb_register.specs.declared.expected.KeyPosting.{KeyPosting}
 pub use Rattle.zeb_register.specs.declared.faults.RegFault.{RegFault}
 pub use Rattle.zeb_register.specs.declared.faults.RegFault.TheVariants.{Store, Damaged}
+pub use Rattle.zeb_register.specs.declared.faults.RowFault.{RowFault}
+pub use Rattle.zeb_register.specs.declared.faults.RowFault.TheVariants.{Damaged as DamagedRow, Memory as NoMemory}
 pub use Rattle.zeb_register.specs.declared.kept.Record.{Record}
 pub use Rattle.zeb_register.specs.declared.plain_changes.TheConstants.{PUT}
 pub use Rattle.zeb_register.specs.declared.registers.Place.{Place}

@@ -1,5 +1,5 @@
 -- Counting occurrences that come in the order of their terms and then of their numbers.
-use Rattle.zeb_register.proofs.Cited.{all_has, has_left, has_right, has_either, Has, ◌≡◌, ◌≢◌, ◌↔◌, ◌⊎◌, ◌∙◌, ◌<◌, ◌≤◌, ◌+◌, ℕ, List, [], ◌∷◌, ◌++◌, length, refl, sym, ap, subst, inl, inr, Less, Equal, nat_cmp, arith, length-append, ◌^◌, nat_tests, ranked, tied_itself, sum_by-cons, true, false, Ordering, Greater, ordering_reverse, is_lt, IsTotalOrder, on_total, nat_cmp_total, slice_cmp, nat_list_cmp_total, sum_by, TermCount, IsCount, AreCounts, term_cmp, IsCountedIn, term_with, Rises}
+use Rattle.zeb_register.proofs.Cited.{all_from, all_has, has_left, has_right, has_either, Has, ◌≡◌, ◌≢◌, ◌↔◌, ◌⊎◌, ◌∙◌, ◌<◌, ◌≤◌, ◌+◌, ℕ, List, [], ◌∷◌, ◌++◌, length, refl, sym, ap, subst, inl, inr, Less, Equal, nat_cmp, arith, length-append, ◌^◌, nat_tests, ranked, tied_itself, sum_by-cons, true, false, Ordering, Greater, ordering_reverse, is_lt, IsTotalOrder, on_total, nat_cmp_total, slice_cmp, nat_list_cmp_total, sum_by, TermCount, IsCount, AreCounts, term_cmp, IsCountedIn, term_with, Rises}
 use Rattle.std.specs.List.Sorted.{IsStrictlySortedBy}
 use Rattle.zeb_register.specs.Terms.{Comes}
 use Rattle.zeb_register.proofs.RowLemmas.{same_bytes}
@@ -67,6 +67,19 @@ count_more P Q count n it means above = record {
     λ q. elim ((means m).0 q) [ inl p ↦ has_left it.numbers (n ∷ []) m ((it.each m).1 p) | inr same ↦ has_right it.numbers (n ∷ []) m (inl same) ],
   );
   count_is = omega (arith, it.count_is, length-append it.numbers (n ∷ []));
+}
+
+-- a number that is below all others
+pub count_first : (P Q : ℕ → Type 0) (count n : ℕ) → IsCount P count → ((m : ℕ) → Q m ↔ ((m ≡ n) ⊎ P m)) → ((m : ℕ) → P m → n < m) → IsCount Q (count + 1)
+unfolding IsStrictlySortedBy
+count_first P Q count n it means below = record {
+  numbers = n ∷ it.numbers;
+  rising = (all_from (λ m. nat_cmp n m ≡ Less) it.numbers (λ m h. less_is n m (below m ((it.each m).0 h))), it.rising);
+  each = λ m. (
+    λ h. (means m).1 (elim h [ inl same ↦ inl same | inr there ↦ inr ((it.each m).0 there) ]),
+    λ q. elim ((means m).0 q) [ inl same ↦ inl same | inr p ↦ inr ((it.each m).1 p) ],
+  );
+  count_is = omega (arith, it.count_is);
 }
 
 pub count_none : (P : ℕ → Type 0) → ((n : ℕ) → ¬ P n) → IsCount P 0

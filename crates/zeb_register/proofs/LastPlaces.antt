@@ -1,13 +1,11 @@
 -- The places of a record put behind all postings of a list: nothing else of it is changed.
-use Rattle.zeb_register.proofs.Cited.{◌≡◌, ◌∙◌, ◌<◌, ◌≤◌, ◌/◌, ◌++◌, ◌∷◌, ℕ, true, false, Ok, Err, Result, List, [], map, filter, refl, sym, ap, ap₂, subst, inl, inr, arith, Ordering, Less, Equal, Greater, nat_cmp, nat_tests, ordering_then, all_has, has_right, Has, numbers_apart, LiesIn, Posting, posting_cmp, ◌==◌, Bool, Global, Vec, cond, nat_lt, append-nil, IfOk, posting_at, RegFault, RecordChange}
+use Rattle.zeb_register.proofs.Cited.{◌≡◌, ◌∙◌, ◌<◌, ◌≤◌, ◌/◌, ◌++◌, ◌∷◌, ℕ, true, false, List, [], map, filter, refl, sym, ap, ap₂, subst, inl, inr, arith, Ordering, Less, Equal, Greater, nat_cmp, nat_tests, ordering_then, all_has, has_right, Has, numbers_apart, LiesIn, Posting, posting_cmp, ◌==◌, Bool, cond, nat_lt, append-nil, posting_at, RecordChange}
 use Rattle.zeb_register.proofs.CountLemmas.{is_less}
 use Rattle.zeb_register.proofs.KeyPlaces.{place_of}
-use Rattle.zeb_register.specs.Answers.{Answers}
 use Rattle.zeb_register.specs.Content.{places_in}
 use Rattle.std.specs.List.Sorted.{IsStrictlySortedBy}
-use Rattle.zeb_register.proofs.RecordParts.{IsPutTogether, Refuses, next_lies, places_turned, want_refused}
+use Rattle.zeb_register.proofs.RecordParts.{IsPutTogether, next_lies, places_turned}
 use Rattle.zeb_register.specs.UnitChanges.{IsStorableChange, TurnsPlaces}
-use Rattle.zeb_register.specs.declared.faults.RegFault.TheVariants.{Memory}
 use Rattle.zeb_register.specs.PrivateRecordParts.{ComesLast}
 
 -- ---- what a test keeps
@@ -50,12 +48,6 @@ not_higher m n low = grind (arith, nat_tests)
 not_level : (m n : ℕ) → m < n → (m == n) ≡ false
 not_level m n low = grind (arith, nat_tests)
 
-abbrev pub Turns : RecordChange → List Posting → Result (Vec Posting Global) RegFault → Type 0
-Turns change list result = Answers (Refuses change list) (λ (next : Vec Posting Global). TurnsPlaces change list next.items) result
-
-abbrev pub Lies : RecordChange → Result (Vec Posting Global) RegFault → Type 0
-Lies change result = IfOk result (λ (next : Vec Posting Global). LiesIn (change.sysno / 256) next.items)
-
 module _ (change : RecordChange) (list : List Posting) (lies : LiesIn (change.sysno / 256) list) (stored : IsStorableChange change) (last : ComesLast change list) where
   below : (p : Posting) → Has list p → p.sysno < change.sysno
   below p there =
@@ -66,16 +58,15 @@ module _ (change : RecordChange) (list : List Posting) (lies : LiesIn (change.sy
   found : places_in change.sysno list ≡ change.old.now
   found = ap (map place_of) (kept_none (λ p. p.sysno == change.sysno) list (λ p h. not_level p.sysno change.sysno (below p h))) ∙ sym last.0
 
-  together : (next : List Posting) → next ≡ list ++ map (posting_at change.sysno) change.new.now → IsPutTogether change list next
-  together next is =
-      is ∙ ap₂ (λ (a b : List Posting). a ++ b) (sym (kept_all (λ p. nat_lt p.sysno change.sysno) list (λ p h. is_lower p.sysno change.sysno (below p h))))
-      (sym (append-nil (map (posting_at change.sysno) change.new.now))
-      ∙ ap (λ (b : List Posting). map (posting_at change.sysno) change.new.now ++ b) (sym (kept_none (λ p. nat_lt change.sysno p.sysno) list (λ p h. not_higher p.sysno change.sysno (below p h)))))
+  module _ (next : List Posting) (is : next ≡ list ++ map (posting_at change.sysno) change.new.now) where
+    together : IsPutTogether change list next
+    together =
+        is ∙ ap₂ (λ (a b : List Posting). a ++ b) (sym (kept_all (λ p. nat_lt p.sysno change.sysno) list (λ p h. is_lower p.sysno change.sysno (below p h))))
+        (sym (append-nil (map (posting_at change.sysno) change.new.now))
+        ∙ ap (λ (b : List Posting). map (posting_at change.sysno) change.new.now ++ b) (sym (kept_none (λ p. nat_lt change.sysno p.sysno) list (λ p h. not_higher p.sysno change.sysno (below p h)))))
 
-  pub last_turned : (result : Result (Vec Posting Global) RegFault) → Answers (λ fault. fault ≡ Memory) (λ next. next.items ≡ list ++ map (posting_at change.sysno) change.new.now) result → Turns change list result
-  last_turned (Ok next) is = places_turned change list next.items lies stored (together next.items is) found
-  last_turned (Err fault) is = want_refused change list fault is
+    pub last_turned : TurnsPlaces change list next
+    last_turned = places_turned change list next lies stored together found
 
-  pub last_lies : (result : Result (Vec Posting Global) RegFault) → Answers (λ fault. fault ≡ Memory) (λ next. next.items ≡ list ++ map (posting_at change.sysno) change.new.now) result → Lies change result
-  last_lies (Ok next) is = next_lies change list next.items lies stored (together next.items is)
-  last_lies (Err fault) is = tt
+    pub last_lies : LiesIn (change.sysno / 256) next
+    last_lies = next_lies change list next lies stored together

@@ -29,6 +29,7 @@ pub mod LookUps
 pub mod FormatLemmas
 pub mod RisingLists
 pub mod RowCounts
+pub mod RowFaults
 pub mod ContentLemmas
 pub mod ContentChanges
 pub mod CountLemmas

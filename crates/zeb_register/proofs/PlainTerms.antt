@@ -1,7 +1,6 @@
 -- The terms of a register as rows of postings show them, whatever the rows hold.
-use Rattle.zeb_register.proofs.Cited.{Row, column, State, Trees, Null, Int, Text, all_from, has_either, has_left, has_right, has_mapped, mapped_has, Has, row_cmp, ◌≡◌, ◌≢◌, ◌↔◌, ◌⊎◌, ◌∙◌, ◌<◌, ◌≤◌, ℕ, ℤ, pos, List, [], ◌∷◌, ◌++◌, drop, length, length-map, map, reverse, reverse-append, length-reverse, Less, nat_cmp, cases_Bool, slice_cmp, nat_list_cmp_total, is_lt, register_code, refl, sym, ap, subst, inl, inr, arith, Option, Some, None, String, string_bytes, IsUtf8, Result, Ok, Err, Vec, Global, RegFault, Store, Damaged, Spot, Totals, capped, posting_at, posting_row, spot_cmp, Register, Posting, TermCount, store_schema, IsListOf, IsRest, IsStore, postings_tree, register_front, plain_rows, key_in, term_cmp, IsCount, AreCounts, IsInRecord, IsOccurrenceRow, IsShown}
+use Rattle.zeb_register.proofs.Cited.{Row, column, State, Trees, Null, Int, Text, all_from, has_either, has_left, has_right, has_mapped, mapped_has, Has, row_cmp, ◌≡◌, ◌≢◌, ◌↔◌, ◌⊎◌, ◌∙◌, ◌<◌, ◌≤◌, ℕ, ℤ, pos, List, [], ◌∷◌, ◌++◌, drop, length, length-map, map, reverse, reverse-append, length-reverse, Less, nat_cmp, cases_Bool, slice_cmp, nat_list_cmp_total, is_lt, register_code, refl, sym, ap, subst, inl, inr, arith, Option, Some, None, String, string_bytes, IsUtf8, Global, Spot, Totals, capped, posting_at, posting_row, spot_cmp, Register, Posting, TermCount, store_schema, IsListOf, IsRest, IsStore, postings_tree, register_front, plain_rows, key_in, term_cmp, IsCount, AreCounts, IsInRecord, IsOccurrenceRow, IsShown}
 use Rattle.std.specs.List.Sorted.{IsStrictlySortedBy}
-use Rattle.zeb_register.specs.Answers.{Answers, IfDamaged}
 use Rattle.sqlite.specs.Effect.{Database}
 use Rattle.zeb_register.specs.declared.registers.RegisterOf.{RegisterOf}
 use Rattle.zeb_register.specs.PrivateKeyColumns.{HasTermOf}
@@ -155,13 +154,6 @@ module _ (s : State) (store : IsStore s) (db : ℤ) (index : ℕ) (register : Re
             bad.2 (subst IsOccurrenceRow (sym text.1) (omega arith, text.0, p.0, refl, p.1, shows.1 (row_counted trees db index register text.0 records shows.0 row under))),
       )
 
-  -- a call that reads these rows tells all terms
-  pub rows_tell : (result : Result (Vec TermCount Global) RegFault) → Rattle.std.specs.Prelude.IfOk result (λ list. AreCounts (IsShown rows) list.items)
-      → Answers (λ fault. (fault ≢ Store) × IfDamaged (SomeIsNoOccurrence rows) fault) (λ _. (row : Row) → Has rows row → IsOccurrenceRow row) result
-      → Answers (IfDamaged (HidesSome plain_rows trees db index register)) (λ (list : Vec TermCount Global). ListsAll plain_rows trees db index register list.items) result
-  rows_tell (Ok list) counts occur = rows_list_all list.items counts occur
-  rows_tell (Err fault) counts occur = λ told. rows_hide (occur.1 told)
-
 -- ---- the terms nearest to a text, one after the other
 
 -- a row that shows a text has a column
@@ -169,22 +161,24 @@ pub some_column : (row : Row) (term : List ℕ) → column row 0 ≡ Text term �
 some_column [] term is = absurd (let e : Null ≡ Text term = is in cc)
 some_column (v ∷ row) term is = omega arith
 
--- a call that reads the row of one finds it
-pub found_told : (P : List ℕ → Type 0) (IsNearer : List ℕ → List ℕ → Type 0) (rows : List Row) → ShowsNearest P IsNearer rows → (result : Result (Option (String Global)) RegFault) → Rattle.std.specs.Prelude.IfOk result (ShowsTerm rows)
-    → (result ≡ Err Damaged → ¬ ((row : Row) → Has rows row → IsTermRow row)) → Answers (IfDamaged (HidesText P IsNearer)) (FindsNearest P IsNearer) result
-found_told P IsNearer rows shows (Ok None) told honest = subst (ShowsNearest P IsNearer) told shows
-found_told P IsNearer rows shows (Ok (Some text)) told honest =
+-- the row of one, or none, shows it
+pub found_told : (P : List ℕ → Type 0) (IsNearer : List ℕ → List ℕ → Type 0) (rows : List Row) → ShowsNearest P IsNearer rows → (term : Option (String Global)) → ShowsTerm rows term → FindsNearest P IsNearer term
+found_told P IsNearer rows shows None told = subst (ShowsNearest P IsNearer) told shows
+found_told P IsNearer rows shows (Some text) told =
     let it = (subst (ShowsNearest P IsNearer) told.2 shows).1 in
     let head : Text it.0 ≡ Text (string_bytes text) = sym (ap (λ (r : Row). column r 0) it.1) ∙ told.3 in
     let same : it.0 ≡ string_bytes text = cc in
     (subst P same it.2, λ other p. subst (λ t. ¬ IsNearer other t) same (it.3 other p))
-found_told P IsNearer [] shows (Err fault) told honest = λ is. absurd (honest (ap Err is) (λ row h. absurd h))
-found_told P IsNearer (first ∷ rest) shows (Err fault) told honest = λ is.
+
+-- a row that shows no term hides one
+pub text_hidden : (P : List ℕ → Type 0) (IsNearer : List ℕ → List ℕ → Type 0) (rows : List Row) → ShowsNearest P IsNearer rows → ¬ ((row : Row) → Has rows row → IsTermRow row) → HidesText P IsNearer
+text_hidden P IsNearer [] shows bad = absurd (bad (λ row h. absurd h))
+text_hidden P IsNearer (first ∷ rest) shows bad =
     let it = shows.1 in (
       it.0,
       it.2,
       it.3,
-      λ text. honest (ap Err is) (λ row h. elim h [
+      λ text. bad (λ row h. elim h [
         | inl same ↦ (omega (arith, ap length (same ∙ it.1)), (it.0, ap (λ (r : Row). column r 0) (same ∙ it.1), text))
         | inr later ↦ absurd (subst (λ l. Has l row) shows.0 later)
       ]),

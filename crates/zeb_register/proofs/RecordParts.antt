@@ -1,5 +1,5 @@
 -- One record's part of a list of postings: taken apart, compared and put together again.
-use Rattle.zeb_register.proofs.Cited.{◌≡◌, ◌≢◌, ◌⊎◌, ◌∙◌, ◌<◌, ◌≤◌, ◌/◌, ◌^◌, ◌==◌, ℕ, nat_lt, true, List, ◌++◌, map, filter, refl, sym, ap, ap₂, subst, inl, inr, Ordering, Less, Equal, Greater, nat_cmp, arith, nat_tests, Has, all_from, all_has, has_either, has_filtered, has_kept, has_left, has_right, has_mapped, mapped_has, numbers_apart, Posting, IsNumbered, LiesIn, Place, RecordChange, IsListChanged, RegFault, Damaged, Store, posting_at, posting_cmp, Result, Ok, Err, IfOk, Vec, Global}
+use Rattle.zeb_register.proofs.Cited.{◌≡◌, ◌⊎◌, ◌∙◌, ◌<◌, ◌≤◌, ◌/◌, ◌^◌, ◌==◌, ℕ, nat_lt, true, List, ◌++◌, map, filter, refl, sym, ap, ap₂, subst, inl, inr, Ordering, Less, Equal, Greater, nat_cmp, arith, nat_tests, Has, all_from, all_has, has_either, has_filtered, has_kept, has_left, has_right, has_mapped, mapped_has, numbers_apart, Posting, IsNumbered, LiesIn, Place, RecordChange, IsListChanged, posting_at, posting_cmp}
 use Rattle.std.specs.List.Sorted.{IsStrictlySortedBy}
 use Rattle.zeb_register.proofs.ContentChanges.{posting_total}
 use Rattle.zeb_register.proofs.CountLemmas.{is_less}
@@ -8,10 +8,8 @@ use Rattle.zeb_register.proofs.ListChanges.{place_is}
 use Rattle.zeb_register.proofs.RisingLists.{joined_rises, kept_rises}
 use Rattle.zeb_register.proofs.RisingPlaces.{are_in, mapped_back, places_rise, same_places}
 use Rattle.zeb_register.proofs.StorablePlaces.{below_first}
-use Rattle.zeb_register.specs.Answers.{Answers, IfDamaged}
 use Rattle.zeb_register.specs.Content.{AreStorablePlaces, IsStorablePlace, places_in}
 use Rattle.zeb_register.specs.UnitChanges.{IsStorableChange, TurnsPlaces}
-use Rattle.zeb_register.specs.declared.faults.RegFault.TheVariants.{Memory}
 
 -- ---- the postings of a record
 
@@ -150,26 +148,16 @@ module _ (change : RecordChange) (list next : List Posting) (lies : LiesIn (chan
     kept = λ n other. same_places n next list next_changed.rising lies.rising (λ p at. next_changed.others p (λ it. other (sym at ∙ it)));
   }
 
--- ---- a call that puts the parts together
-
--- what it may be refused with
-abbrev pub Refuses : RecordChange → List Posting → RegFault → Type 0
-Refuses change list fault = (fault ≢ Store) × IfDamaged (places_in change.sysno list ≢ change.old.now) fault
-
-pub want_refused : (change : RecordChange) (list : List Posting) (fault : RegFault) → fault ≡ Memory → Refuses change list fault
-want_refused change list fault is = (λ store. let e : Memory ≡ Store = sym is ∙ store in cc, λ told. absurd (let e : Memory ≡ Damaged = sym is ∙ told in cc))
+-- ---- the parts are put together
 
 module _ (change : RecordChange) (list before behind : List Posting) (lies : LiesIn (change.sysno / 256) list) (stored : IsStorableChange change) (found : places_in change.sysno list ≡ change.old.now)
-    (first : before ≡ filter (λ p. nat_lt p.sysno change.sysno) list) (last : behind ≡ filter (λ p. nat_lt change.sysno p.sysno) list) where
-  together : (next : List Posting) → next ≡ before ++ (map (posting_at change.sysno) change.new.now ++ behind) → IsPutTogether change list next
-  together next is = is ∙ ap₂ (λ a b. a ++ (map (posting_at change.sysno) change.new.now ++ b)) first last
+    (first : before ≡ filter (λ p. nat_lt p.sysno change.sysno) list) (last : behind ≡ filter (λ p. nat_lt change.sysno p.sysno) list)
+    (next : List Posting) (is : next ≡ before ++ (map (posting_at change.sysno) change.new.now ++ behind)) where
+  together : IsPutTogether change list next
+  together = is ∙ ap₂ (λ a b. a ++ (map (posting_at change.sysno) change.new.now ++ b)) first last
 
-  pub turned_as : (result : Result (Vec Posting Global) RegFault) → Answers (λ fault. fault ≡ Memory) (λ next. next.items ≡ before ++ (map (posting_at change.sysno) change.new.now ++ behind)) result
-      → Answers (Refuses change list) (λ next. TurnsPlaces change list next.items) result
-  turned_as (Ok next) is = places_turned change list next.items lies stored (together next.items is) found
-  turned_as (Err fault) is = want_refused change list fault is
+  pub turned_as : TurnsPlaces change list next
+  turned_as = places_turned change list next lies stored together found
 
-  pub lies_so : (result : Result (Vec Posting Global) RegFault) → Answers (λ fault. fault ≡ Memory) (λ next. next.items ≡ before ++ (map (posting_at change.sysno) change.new.now ++ behind)) result
-      → IfOk result (λ next. LiesIn (change.sysno / 256) next.items)
-  lies_so (Ok next) is = next_lies change list next.items lies stored (together next.items is)
-  lies_so (Err fault) is = tt
+  pub lies_so : LiesIn (change.sysno / 256) next
+  lies_so = next_lies change list next lies stored together

@@ -1,9 +1,8 @@
 -- What plain rows say of a key, unit by unit: each has one reading, a malformed one none. What tables hold says each unit.
-use Rattle.zeb_register.proofs.Cited.{Row, column, row_cmp, value_cmp-Int, row_cmp_total, State, Trees, Int, Null, all_from, all_has, has_mapped, mapped_has, Has, ◌≡◌, ◌↔◌, ◌∙◌, ℕ, ℤ, pos, List, [], ◌∷◌, ◌++◌, drop, map, refl, sym, ap, ap₂, subst, inl, inr, Ordering, Less, Equal, Greater, nat_cmp, ordering_then, Key, Place, Posting, Content, posting_at, posting_cmp, HoldsRows, key_row, posting_row, first_three, HasRow, IsListOf, IsStore, postings_tree, ◌≢◌, Result, Ok, Err, Vec, Global, RegFault, Store, plain_rows, posted, HasKey, IsCount}
+use Rattle.zeb_register.proofs.Cited.{Row, column, row_cmp, value_cmp-Int, row_cmp_total, State, Trees, Int, Null, all_from, all_has, has_mapped, mapped_has, Has, ◌≡◌, ◌↔◌, ◌∙◌, ℕ, ℤ, pos, List, [], ◌∷◌, ◌++◌, drop, map, refl, sym, ap, ap₂, subst, inl, inr, Ordering, Less, Equal, Greater, nat_cmp, ordering_then, Key, Place, Posting, Content, posting_at, posting_cmp, HoldsRows, key_row, posting_row, first_three, HasRow, IsListOf, IsStore, postings_tree, plain_rows, posted, HasKey, IsCount}
 use Rattle.std.specs.List.Sorted.{IsStrictlySortedBy}
 use Rattle.zeb_register.specs.Content.{places_in}
 use Rattle.zeb_register.specs.PlainUnits.{AreAllShown, HasRowIn, HasShownNone, IsRowMalformed, IsUnderKey, RowsCount, RowsRead, ShowsPosting}
-use Rattle.zeb_register.specs.Answers.{Answers, IfDamaged}
 use Rattle.zeb_register.specs.PrivateRowPlaces.{SomeShowsNone}
 use Rattle.zeb_register.specs.Units.{HoldsUnits, ListsUnits}
 use Rattle.zeb_register.proofs.ContentChanges.{place_total, postings_apart}
@@ -145,12 +144,9 @@ module _ (s : State) (store : IsStore s) (db : ℤ) (key : Key) where
       whole = λ row there. let it = shown_posting row there in (it.0, it.2);
     }
 
-  -- a call that reads the rows of the key lists its units
-  pub read_told : (rows : List Row) → IsListOf (IsUnderKey s.now.trees db key) rows → (result : Result (Vec Posting Global) RegFault)
-      → Answers (λ fault. (fault ≢ Store) × IfDamaged (SomeShowsNone rows) fault) (λ (list : Vec Posting Global). map posting_row list.items ≡ map first_three rows) result
-      → Answers (IfDamaged (HasShownNone s.now.trees db key)) (λ (list : Vec Posting Global). ListsUnits plain_rows s.now.trees db key list.items) result
-  read_told rows listed (Ok list) are = rows_listed rows list.items listed are
-  read_told rows listed (Err fault) refused = λ told. let bad = refused.1 told in (bad.0, (listed.each bad.0).0 bad.1, bad.2)
+  -- a row of the key that shows no posting is one of the tables
+  pub shown_none : (rows : List Row) → IsListOf (IsUnderKey s.now.trees db key) rows → SomeShowsNone rows → HasShownNone s.now.trees db key
+  shown_none rows listed bad = (bad.0, (listed.each bad.0).0 bad.1, bad.2)
 
 -- ---- tables that hold a content
 

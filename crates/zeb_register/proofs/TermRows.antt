@@ -1,11 +1,13 @@
 -- Rows of a register as the terms of a content.
-use Rattle.zeb_register.proofs.Cited.{Row, column, value_cmp, row_cmp, Trees, Value, Null, Int, Real, Text, Blob, has_left, has_right, has_either, mapped_has, Has, row_cmp_total, value_cmp-Int, value_cmp-Text, ◌≡◌, ◌≢◌, ◌↔◌, ◌⊎◌, ◌∙◌, ◌<◌, ◌≤◌, ◌+◌, ℕ, ℤ, pos, negsuc, zero, suc, List, [], ◌∷◌, ◌++◌, length, map, take, drop, get_or, refl, sym, ap, ap₂, subst, inl, inr, Ordering, Less, Equal, Greater, nat_cmp, arith, take_more, slice_cmp, slice_set, ordering_then, Register, Posting, register_code, numbers_apart, TermCount, HasRow, postings_tree, key_of, Content, posted, posting_cmp, HoldsRows, posting_row, register_front, IsCount, AreTermsOf, Spot, TermIn, key_in, spot_cmp, IsInRecord, HasTerm, ShowsOccurrence, IsShown}
+use Rattle.zeb_register.proofs.Cited.{all_has, Row, column, value_cmp, row_cmp, Trees, Value, Null, Int, Real, Text, Blob, has_left, has_right, has_either, mapped_has, Has, row_cmp_total, value_cmp-Int, value_cmp-Text, ◌≡◌, ◌↔◌, ◌⊎◌, ◌∙◌, ◌<◌, ◌≤◌, ◌+◌, ℕ, ℤ, pos, negsuc, zero, suc, List, [], ◌∷◌, ◌++◌, length, map, take, drop, get_or, refl, sym, ap, ap₂, subst, inl, inr, Ordering, Less, Equal, Greater, nat_cmp, arith, take_more, slice_cmp, slice_set, ordering_then, Register, Posting, register_code, numbers_apart, TermCount, HasRow, postings_tree, key_of, Content, posted, posting_cmp, HoldsRows, posting_row, register_front, IsCount, AreTermsOf, Spot, TermIn, key_in, spot_cmp, IsInRecord, HasTerm, ShowsOccurrence, IsShown}
 use Rattle.std.specs.List.Sorted.{IsStrictlySortedBy}
+use Rattle.std.proofs.lemmas.Bool.{cases_eq, eq-eqb, ne_eqb}
+use Rattle.zeb_blocks.specs.Records.{record_count}
 use Rattle.zeb_register.specs.PlainUnits.{ShowsPosting}
 use Rattle.zeb_register.proofs.RisingLists.{front_rises, before_last}
 use Rattle.zeb_register.proofs.RowLemmas.{same_bytes}
 use Rattle.zeb_register.proofs.ContentLemmas.{ints_order}
-use Rattle.zeb_register.proofs.CountLemmas.{IsNewest, is_less, count_so, count_more, counted_none, newest_is, above_newest, newest_stays}
+use Rattle.zeb_register.proofs.CountLemmas.{is_less, count_first, count_none, count_so}
 use Rattle.zeb_register.proofs.OccurringLemmas.{key_posted}
 use Rattle.zeb_register.proofs.TermLists.{IsTerm}
 use Rattle.zeb_register.proofs.TermsAmong.{terms_among}
@@ -94,17 +96,34 @@ shown_whole rows t n = (λ h. (h.0, subst (λ l. Has l h.0) (take_whole rows) h.
 posting_upto : (p q : Posting) → posting_cmp p q ≡ Less → p.sysno ≤ q.sysno
 posting_upto p q h = up_to p.sysno q.sysno _ h
 
-pub records_more : (list : List Posting) (i : ℕ) (p : Posting) → i < length list → p ≡ get_or list i p → (n : ℕ) → IsInRecord (take (i + 1) list) n ↔ (IsInRecord (take i list) n ⊎ (n ≡ p.sysno))
-records_more list i p within is n = (
-  λ h. elim ((taken_more list i p within is h.0).0 h.1) [ inl there ↦ inl (h.0, there, h.2) | inr same ↦ inr (sym h.2 ∙ ap (λ (q : Posting). q.sysno) same) ],
-  λ h. elim h [ inl there ↦ (there.0, (taken_more list i p within is there.0).1 (inl there.1), there.2) | inr same ↦ (p, (taken_more list i p within is p).1 (inr refl), sym same) ],
+in_front : (p : Posting) (list : List Posting) (n : ℕ) → IsInRecord (p ∷ list) n ↔ ((n ≡ p.sysno) ⊎ IsInRecord list n)
+in_front p list n = (
+  λ h. elim h.1 [ inl first ↦ inl (sym h.2 ∙ ap (λ (q : Posting). q.sysno) first) | inr later ↦ inr (h.0, later, h.2) ],
+  λ h. elim h [ inl same ↦ (p, inl refl, sym same) | inr later ↦ (later.0, inr later.1, later.2) ],
 )
 
-pub records_upto : (list : List Posting) (i : ℕ) (p : Posting) → IsStrictlySortedBy posting_cmp list → i < length list → p ≡ get_or list i p → (n : ℕ) → IsInRecord (take i list) n → n ≤ p.sysno
-records_upto list i p up within is n h = omega (arith, h.2, posting_upto h.0 p (taken_below Rattle.zeb_register.proofs.ContentChanges.posting_total list i p up within is h.0 h.1))
+from_first : (p : Posting) (list : List Posting) → IsStrictlySortedBy posting_cmp (p ∷ list) → (n : ℕ) → IsInRecord list n → p.sysno ≤ n
+unfolding IsStrictlySortedBy
+from_first p list up n h = omega (arith, h.2, posting_upto p h.0 (all_has (λ q. posting_cmp p q ≡ Less) list h.0 up.0 h.1))
 
-pub records_whole : (list : List Posting) (n : ℕ) → IsInRecord (take (length list) list) n ↔ IsInRecord list n
-records_whole list n = (λ h. (h.0, subst (λ l. Has l h.0) (take_whole list) h.1, h.2), λ h. (h.0, subst (λ l. Has l h.0) (sym (take_whole list)) h.1, h.2))
+-- what is counted of a rising list is its records
+pub records_counted : (list : List Posting) → IsStrictlySortedBy posting_cmp list → IsCount (IsInRecord list) (record_count list)
+unfolding record_count IsStrictlySortedBy
+records_counted [] up = count_none (IsInRecord []) (λ n h. absurd h.1)
+records_counted (p ∷ []) up = count_first (IsInRecord []) (IsInRecord (p ∷ [])) 0 p.sysno (records_counted [] tt) (in_front p []) (λ n h. absurd h.1)
+records_counted (p ∷ q ∷ list) up =
+    let P = IsInRecord (q ∷ list) in
+    let rest = records_counted (q ∷ list) up.1 in
+    let means = in_front p (q ∷ list) in
+    elim (cases_eq q.sysno p.sysno) [
+      | inl same ↦ rw (eq-eqb q.sysno p.sysno same) (count_so P (IsInRecord (p ∷ q ∷ list)) (record_count (q ∷ list)) (λ n. (λ h. (means n).1 (inr h), λ h. elim ((means n).0 h) [ inl first ↦ (q, inl refl, same ∙ sym first) | inr later ↦ later ])) rest)
+      | inr other ↦
+          let above : p.sysno < q.sysno = omega (arith, other, from_first p (q ∷ list) up q.sysno (q, inl refl, refl)) in
+          rw (ne_eqb q.sysno p.sysno other) (count_first P (IsInRecord (p ∷ q ∷ list)) (record_count (q ∷ list)) p.sysno rest means (λ n h. elim ((in_front q list n).0 h) [
+            | inl first ↦ omega (arith, first, above)
+            | inr later ↦ omega (arith, above, from_first q list up.1 n later)
+          ]))
+    ]
 
 -- ---- the rows of one register
 
@@ -188,29 +207,6 @@ got (x ∷ xs) (suc i) d h = got_more xs i d (get_or xs i d) (omega arith)
     got_more [] i d e h = absurd (omega arith)
     got_more (x ∷ xs) zero d e h = refl
     got_more (x ∷ xs) (suc i) d e h = got_more xs i d e (omega arith)
-
-pub record_step : (list : List Posting) (i records newest after : ℕ) (p : Posting) → IsStrictlySortedBy posting_cmp list → i < length list → p ≡ get_or list i p
-    → IsCount (IsInRecord (take i list)) records × (0 < records → IsNewest (IsInRecord (take i list)) newest)
-    → ((after ≡ records + 1) × ((records ≡ 0) ⊎ (p.sysno ≢ newest))) ⊎ ((after ≡ records) × (records ≢ 0) × (p.sysno ≡ newest))
-    → IsCount (IsInRecord (take (i + 1) list)) after × (0 < after → IsNewest (IsInRecord (take (i + 1) list)) p.sysno)
-record_step list i records newest after p up within is it branch =
-    let P = IsInRecord (take i list) in
-    let Q = IsInRecord (take (i + 1) list) in
-    let means = records_more list i p within is in
-    let upto = records_upto list i p up within is in (
-      elim branch [
-        | inl more ↦ subst (IsCount Q) (sym more.0) (count_more P Q records p.sysno it.0 means (λ m h. elim more.1 [
-          | inl none ↦ absurd (counted_none P records m it.0 none h)
-          | inr differs ↦ above_newest P newest p.sysno (it.1 (elim (below_or records) [ inl none ↦ absurd (counted_none P records m it.0 none h) | inr some ↦ some ])) upto differs m h
-        ]))
-        | inr same ↦ subst (IsCount Q) (sym same.0) (count_so P Q records (newest_stays P Q newest p.sysno (it.1 (elim (below_or records) [ inl none ↦ absurd (same.1 none) | inr some ↦ some ])) same.2 means) it.0)
-      ],
-      λ _. newest_is P Q p.sysno means upto,
-    )
-  where
-    below_or : (n : ℕ) → (n ≡ 0) ⊎ (0 < n)
-    below_or zero = inl refl
-    below_or (suc n) = inr (omega arith)
 
 -- the last of a list, by its place
 pub last_view : {X : Type 0} (n : ℕ) (xs : List X) (x : X) → length xs ≡ suc n → x ≡ get_or xs n x → xs ≡ take n xs ++ x ∷ []

@@ -1,7 +1,6 @@
 -- The rows of one record's unit in plain tables: what they read as, and what they are after its places were changed.
-use Rattle.zeb_register.proofs.Cited.{AllByRecursion, store_schema, ◌≡◌, ◌≢◌, ◌↔◌, ◌∙◌, ◌++◌, ℕ, ℤ, pos, Bool, true, false, IsTrue, Result, Ok, Err, IfErr, List, [], ◌∷◌, drop, map, refl, sym, ap, ap₂, subst, inl, inr, Ordering, Less, Equal, Greater, ordering_then, Int, Row, column, row_cmp, value_cmp-Int, State, Trees, Has, has_mapped, mapped_has, IsUtf8, Key, RegFault, Damaged, Place, place_cmp, posting_at, IsListOf, IsRest, IsStore, Loses, key_row, posting_row, first_two, postings_tree, GainsPlaces, IsPlaceIn, IsTwoNumbers, KeepsBesidePostings, place_row, posting_columns}
+use Rattle.zeb_register.proofs.Cited.{AllByRecursion, store_schema, ◌≡◌, ◌≢◌, ◌↔◌, ◌∙◌, ◌++◌, ℕ, ℤ, pos, Bool, true, false, IsTrue, List, [], ◌∷◌, drop, map, refl, sym, ap, ap₂, subst, inl, inr, Ordering, Less, Equal, Greater, ordering_then, Int, Row, column, row_cmp, value_cmp-Int, State, Trees, Has, has_mapped, mapped_has, IsUtf8, Key, Place, place_cmp, posting_at, IsListOf, IsRest, IsStore, Loses, key_row, posting_row, first_two, postings_tree, GainsPlaces, IsPlaceIn, IsTwoNumbers, KeepsBesidePostings, place_row, posting_columns}
 use Rattle.std.specs.List.Sorted.{IsStrictlySortedBy}
-use Rattle.zeb_register.specs.Answers.{Answers, IfDamaged}
 use Rattle.zeb_register.specs.PlainUnits.{IsUnderKey, RowsRead, ShowsPosting}
 use Rattle.zeb_register.specs.PrivateUnits.{TurnsRows}
 use Rattle.zeb_register.proofs.ContentLemmas.{ints_order, one_list}
@@ -98,17 +97,14 @@ module _ (s : State) (store : IsStore s) (db : ℤ) (key : Key) (sysno : ℕ) wh
         is = sym (two_all rows (λ x h. (list.each x).0 h)) ∙ same
 
     -- an answer on whether the rows show the places, as one on what their unit reads as
-    pub reads_told : (result : Result Bool RegFault) → (result ≡ Ok true → map first_two rows ≡ map place_row places) → (result ≡ Ok false → map first_two rows ≢ map place_row places)
-        → IfErr result (λ fault. (fault ≡ Damaged) × ¬ ((row : Row) → Has rows row → IsTwoNumbers row))
-        → Answers (IfDamaged (¬ RowsRead trees db key sysno places)) (λ same. IsTrue same ↔ RowsRead trees db key sysno places) result
-    reads_told (Ok true) same other refused = (λ yes'. read_as (same refl), λ reads. refl)
-    reads_told (Ok false) same other refused = (λ no'. absurd (cc), λ reads. absurd (other refl (ap (map first_two) (rows_are reads) ∙ shown_again places)))
-    reads_told (Err fault) same other refused = λ told reads. refused.1 (two_numbers reads)
-      where
-        two_numbers : RowsRead trees db key sysno places → (row : Row) → Has rows row → IsTwoNumbers row
-        two_numbers reads row here =
-            let q = has_mapped place_row places row (subst (λ l. Has l row) (rows_are reads) here) in
-            (q.0.seq, q.0.pos, q.2)
+    pub reads_told : (answer : Bool) → (answer ≡ true → map first_two rows ≡ map place_row places) → (answer ≡ false → map first_two rows ≢ map place_row places) → IsTrue answer ↔ RowsRead trees db key sysno places
+    reads_told true same other = (λ yes'. read_as (same refl), λ reads. refl)
+    reads_told false same other = (λ no'. absurd (cc), λ reads. absurd (other refl (ap (map first_two) (rows_are reads) ∙ shown_again places)))
+
+    pub two_numbers : RowsRead trees db key sysno places → (row : Row) → Has rows row → IsTwoNumbers row
+    two_numbers reads row here =
+        let q = has_mapped place_row places row (subst (λ l. Has l row) (rows_are reads) here) in
+        (q.0.seq, q.0.pos, q.2)
 
 -- ---- taken out and put anew
 

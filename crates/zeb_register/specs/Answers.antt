@@ -4,17 +4,23 @@ use Rattle.sqlite.specs.Tree.{Trees}
 use Rattle.sqlite.specs.State.{State}
 use Rattle.zeb_register.specs.declared.faults.RegFault.{RegFault}
 use Rattle.zeb_register.specs.declared.faults.RegFault.TheVariants.{Damaged, Store}
+use Rattle.zeb_register.specs.declared.faults.RowFault.{RowFault}
+use Rattle.zeb_register.specs.declared.faults.RowFault.TheVariants.{Damaged as DamagedRow}
 use Rattle.zeb_register.specs.Calls.{MayRefuse}
 use Rattle.zeb_register.specs.Clauses.{OnStore}
 
 -- what is said of an accepted call's value, or of a refused one's refusal
-abbrev pub Answers : {A : Type 0} → (RegFault → Type 0) → (A → Type 0) → Result A RegFault → Type 0
+abbrev pub Answers : {A E : Type 0} → (E → Type 0) → (A → Type 0) → Result A E → Type 0
 Answers Refused Done (Ok x) = Done x
 Answers Refused Done (Err fault) = Refused fault
 
 -- Damaged is told only where this is so; the store or memory may fail
 abbrev pub IfDamaged : Type 0 → RegFault → Type 0
 IfDamaged Damage fault = fault ≡ Damaged → Damage
+
+-- the same of rows, which ask no store
+abbrev pub IfRowDamaged : Type 0 → RowFault → Type 0
+IfRowDamaged Damage fault = fault ≡ DamagedRow → Damage
 
 -- the same, and a failure of the store has a reason
 abbrev pub IfRefused : State → State → Type 0 → RegFault → Type 0

@@ -8,6 +8,7 @@ pub mod PrivateCatalog
 pub mod Kept
 pub mod Content
 pub mod Clauses
+pub mod Connections
 pub mod PrivateClauses
 pub mod Answers
 pub mod Queries

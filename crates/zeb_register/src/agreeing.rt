@@ -1,12 +1,10 @@
 //! Whole tables beside what is expected of them, one table after the other.
 
 ghost use Rattle.std.specs.Prelude.{◌≡◌, ◌↔◌, length, MatchOption, IfSome, IsTrue, IfOk};
-ghost use Rattle.sqlite.specs.Held.{state};
 ghost use Rattle.sqlite.specs.State.{IsUnchanged};
 ghost use Rattle.std.specs.List.Sorted.{IsStrictlySortedBy};
 ghost use Rattle.zeb_register.specs.Agreeing.{AreBeside, HasNames, KeepsExpectedTexts, LacksPostingsAndDict, ListsAgree, RecordsAgree};
-ghost use Rattle.zeb_register.specs.Calls.{Reading};
-ghost use Rattle.zeb_register.specs.Clauses.{IsReasonedError, OnStore, Tells, TellsWhether};
+ghost use Rattle.zeb_register.specs.Connections.{IsReasonedErrorOf, OnStoreOf, ReadingOf, TellsOf, TellsWhetherOf};
 ghost use Rattle.zeb_register.specs.Expected.{IsOrdered, name_order};
 ghost use Rattle.zeb_register.specs.PrivateRowExpected.{AreInOrder, AsExpected, EachAsExpected, HoldsExpected, IsInOrder, LacksPacked};
 
@@ -17,7 +15,7 @@ use crate::read_beside::rests_agree;
 use crate::statements::databases::listed_rows;
 use crate::statements::postings::nothing_of;
 use crate::statements::texts::all_texts;
-use crate::{DatabaseId, Expected, ExpectedDatabase, ListedDatabase, RegFault};
+use crate::{DatabaseId, Expected, ExpectedDatabase, ListedDatabase, RowFault};
 use sqlite::{Alter, Connection, Error};
 use std::alloc::{AllocError, Global};
 
@@ -36,16 +34,15 @@ pub fn lists_beside<S: Alter>(
     conn: &mut Connection<S>,
     expected: &Expected,
 ) -> Result<Option<Vec<ListedDatabase>>, Error>
-    ensures call { Reading (state S.Store conn.old) (state S.Store conn.new) result
-        (λ _. IsUnchanged) }
-    ensures value { OnStore (state S.Store conn.old) (state S.Store conn.new)
+    ensures call { ReadingOf S.Store conn.old conn.new result (λ _. IsUnchanged) }
+    ensures value { OnStoreOf S.Store conn.old conn.new
         (λ trees. IsOrdered expected.now → IfOk result
         (λ found. MatchOption found (¬ ListsAgree trees expected.now)
         (λ listed. AreBeside listed.items expected.now.databases.items trees
         × ListsAgree trees expected.now))) }
     ensures long { IfOk result (λ found. IfSome found
         (λ listed. length listed.items ≡ length expected.now.databases.items)) }
-    ensures refused { IsReasonedError (state S.Store conn.old) (state S.Store conn.new) result }
+    ensures refused { IsReasonedErrorOf S.Store conn.old conn.new result }
 {
     if !texts_agree(conn, expected)? {
         return Ok(None);
@@ -59,18 +56,15 @@ fn records_beside<S: Alter>(
     conn: &mut Connection<S>,
     expected: &[ExpectedDatabase],
 ) -> Result<Option<Vec<ListedDatabase>>, Error>
-    ensures call { Reading (state S.Store conn.old) (state S.Store conn.new) result
-        (λ _. IsUnchanged) }
-    ensures value { OnStore (state S.Store conn.old) (state S.Store conn.new)
-        (λ trees. IsStrictlySortedBy name_order expected.now
-        → AreInOrder expected.now → IfOk result (λ found.
-        MatchOption found (¬ (HasNames trees expected.now
-        × RecordsAgree expected.now trees))
-        (λ listed. AreBeside listed.items expected.now trees
-        × RecordsAgree expected.now trees))) }
+    ensures call { ReadingOf S.Store conn.old conn.new result (λ _. IsUnchanged) }
+    ensures value { OnStoreOf S.Store conn.old conn.new
+        (λ trees. IsStrictlySortedBy name_order expected.now → AreInOrder expected.now
+        → IfOk result (λ found. MatchOption found
+        (¬ (HasNames trees expected.now × RecordsAgree expected.now trees))
+        (λ listed. AreBeside listed.items expected.now trees × RecordsAgree expected.now trees))) }
     ensures long { IfOk result (λ found. IfSome found
         (λ listed. length listed.items ≡ length expected.now)) }
-    ensures refused { IsReasonedError (state S.Store conn.old) (state S.Store conn.new) result }
+    ensures refused { IsReasonedErrorOf S.Store conn.old conn.new result }
 {
     let Some(listed) = databases_beside(alloc, conn, expected)? else {
         return Ok(None);
@@ -86,12 +80,11 @@ pub(crate) fn rows_agree<S: Alter>(
     expected: &[ExpectedDatabase],
 ) -> Result<bool, Error>
     requires { length listed.now ≡ length expected.now }
-    ensures call { Reading (state S.Store conn.old) (state S.Store conn.new) result
-        (λ _. IsUnchanged) }
-    ensures value { TellsWhether (λ trees. HoldsExpected Table.Postings listed.now expected.now
-        trees × LacksPacked trees)
-        (AreInOrder expected.now) (state S.Store conn.old) (state S.Store conn.new) result }
-    ensures refused { IsReasonedError (state S.Store conn.old) (state S.Store conn.new) result }
+    ensures call { ReadingOf S.Store conn.old conn.new result (λ _. IsUnchanged) }
+    ensures value { TellsWhetherOf S.Store conn.old conn.new
+        (λ trees. HoldsExpected Table.Postings listed.now expected.now trees × LacksPacked trees)
+        (AreInOrder expected.now) result }
+    ensures refused { IsReasonedErrorOf S.Store conn.old conn.new result }
 {
     if !table_agrees(conn, Table::Postings, listed, expected)? {
         return Ok(false);
@@ -101,11 +94,10 @@ pub(crate) fn rows_agree<S: Alter>(
 
 /// Whether no packed table has a row.
 fn lacks_packed<S: Alter>(conn: &mut Connection<S>) -> Result<bool, Error>
-    ensures call { Reading (state S.Store conn.old) (state S.Store conn.new) result
-        (λ _. IsUnchanged) }
-    ensures value { Tells (state S.Store conn.old) (state S.Store conn.new) result
+    ensures call { ReadingOf S.Store conn.old conn.new result (λ _. IsUnchanged) }
+    ensures value { TellsOf S.Store conn.old conn.new result
         (λ trees agree. IsTrue agree ↔ LacksPacked trees) }
-    ensures refused { IsReasonedError (state S.Store conn.old) (state S.Store conn.new) result }
+    ensures refused { IsReasonedErrorOf S.Store conn.old conn.new result }
 {
     if !belongs(conn, Table::Blocks, &[])? {
         return Ok(false);
@@ -115,11 +107,10 @@ fn lacks_packed<S: Alter>(conn: &mut Connection<S>) -> Result<bool, Error>
 
 /// Whether `postings` and `dict` have no row, as where registers are kept in leaves. It changes nothing.
 pub fn postings_and_dict_lack_rows<S: Alter>(conn: &mut Connection<S>) -> Result<bool, Error>
-    ensures call { Reading (state S.Store conn.old) (state S.Store conn.new) result
-        (λ _. IsUnchanged) }
-    ensures value { Tells (state S.Store conn.old) (state S.Store conn.new) result
+    ensures call { ReadingOf S.Store conn.old conn.new result (λ _. IsUnchanged) }
+    ensures value { TellsOf S.Store conn.old conn.new result
         (λ trees agree. IsTrue agree ↔ LacksPostingsAndDict trees) }
-    ensures refused { IsReasonedError (state S.Store conn.old) (state S.Store conn.new) result }
+    ensures refused { IsReasonedErrorOf S.Store conn.old conn.new result }
 {
     if !belongs(conn, Table::Postings, &[])? {
         return Ok(false);
@@ -129,11 +120,10 @@ pub fn postings_and_dict_lack_rows<S: Alter>(conn: &mut Connection<S>) -> Result
 
 /// Whether `meta` has just the expected texts.
 fn texts_agree<S: Alter>(conn: &mut Connection<S>, expected: &Expected) -> Result<bool, Error>
-    ensures call { Reading (state S.Store conn.old) (state S.Store conn.new) result
-        (λ _. IsUnchanged) }
-    ensures value { Tells (state S.Store conn.old) (state S.Store conn.new) result
+    ensures call { ReadingOf S.Store conn.old conn.new result (λ _. IsUnchanged) }
+    ensures value { TellsOf S.Store conn.old conn.new result
         (λ trees agree. IsTrue agree ↔ KeepsExpectedTexts trees expected.now) }
-    ensures refused { IsReasonedError (state S.Store conn.old) (state S.Store conn.new) result }
+    ensures refused { IsReasonedErrorOf S.Store conn.old conn.new result }
 {
     let rows = all_texts(conn)?;
     Ok(are_texts(&rows, expected))
@@ -145,15 +135,14 @@ fn databases_beside<S: Alter>(
     conn: &mut Connection<S>,
     expected: &[ExpectedDatabase],
 ) -> Result<Option<Vec<ListedDatabase>>, Error>
-    ensures call { Reading (state S.Store conn.old) (state S.Store conn.new) result
-        (λ _. IsUnchanged) }
-    ensures value { OnStore (state S.Store conn.old) (state S.Store conn.new)
+    ensures call { ReadingOf S.Store conn.old conn.new result (λ _. IsUnchanged) }
+    ensures value { OnStoreOf S.Store conn.old conn.new
         (λ trees. IsStrictlySortedBy name_order expected.now
         → IfOk result (λ found. MatchOption found (¬ HasNames trees expected.now)
         (λ listed. AreBeside listed.items expected.now trees))) }
     ensures long { IfOk result (λ found. IfSome found
         (λ listed. length listed.items ≡ length expected.now)) }
-    ensures refused { IsReasonedError (state S.Store conn.old) (state S.Store conn.new) result }
+    ensures refused { IsReasonedErrorOf S.Store conn.old conn.new result }
 {
     let rows = listed_rows(conn)?;
     match databases_in(alloc, &rows) {
@@ -165,9 +154,8 @@ fn databases_beside<S: Alter>(
             }
         }
         // An unreadable row is none that is expected.
-        Err(RegFault::Damaged) => Ok(None),
-        // The rows are there: the store isn't asked again.
-        Err(RegFault::Store | RegFault::Memory) => Err(Error::from(AllocError)),
+        Err(RowFault::Damaged) => Ok(None),
+        Err(RowFault::Memory) => Err(Error::from(AllocError)),
     }
 }
 
@@ -179,12 +167,10 @@ pub(crate) fn table_agrees<S: Alter>(
     expected: &[ExpectedDatabase],
 ) -> Result<bool, Error>
     requires { length listed.now ≡ length expected.now }
-    ensures call { Reading (state S.Store conn.old) (state S.Store conn.new) result
-        (λ _. IsUnchanged) }
-    ensures value { TellsWhether (HoldsExpected table listed.now expected.now)
-        (AreInOrder expected.now)
-        (state S.Store conn.old) (state S.Store conn.new) result }
-    ensures refused { IsReasonedError (state S.Store conn.old) (state S.Store conn.new) result }
+    ensures call { ReadingOf S.Store conn.old conn.new result (λ _. IsUnchanged) }
+    ensures value { TellsWhetherOf S.Store conn.old conn.new
+        (HoldsExpected table listed.now expected.now) (AreInOrder expected.now) result }
+    ensures refused { IsReasonedErrorOf S.Store conn.old conn.new result }
 {
     if !each_agrees(conn, table, listed, expected)? {
         return Ok(false);
@@ -200,12 +186,10 @@ fn each_agrees<S: Alter>(
     expected: &[ExpectedDatabase],
 ) -> Result<bool, Error>
     requires { length listed.now ≡ length expected.now }
-    ensures call { Reading (state S.Store conn.old) (state S.Store conn.new) result
-        (λ _. IsUnchanged) }
-    ensures value { TellsWhether (EachAsExpected table listed.now expected.now)
-        (AreInOrder expected.now)
-        (state S.Store conn.old) (state S.Store conn.new) result }
-    ensures refused { IsReasonedError (state S.Store conn.old) (state S.Store conn.new) result }
+    ensures call { ReadingOf S.Store conn.old conn.new result (λ _. IsUnchanged) }
+    ensures value { TellsWhetherOf S.Store conn.old conn.new
+        (EachAsExpected table listed.now expected.now) (AreInOrder expected.now) result }
+    ensures refused { IsReasonedErrorOf S.Store conn.old conn.new result }
 {
     // A closed connection is refused also where no database is expected.
     nothing_of(conn)?;
@@ -224,11 +208,10 @@ fn database_agrees<S: Alter>(
     db: DatabaseId,
     database: &ExpectedDatabase,
 ) -> Result<bool, Error>
-    ensures call { Reading (state S.Store conn.old) (state S.Store conn.new) result
-        (λ _. IsUnchanged) }
-    ensures value { TellsWhether (AsExpected table db.0 database.now) (IsInOrder database.now)
-        (state S.Store conn.old) (state S.Store conn.new) result }
-    ensures refused { IsReasonedError (state S.Store conn.old) (state S.Store conn.new) result }
+    ensures call { ReadingOf S.Store conn.old conn.new result (λ _. IsUnchanged) }
+    ensures value { TellsWhetherOf S.Store conn.old conn.new (AsExpected table db.0 database.now)
+        (IsInOrder database.now) result }
+    ensures refused { IsReasonedErrorOf S.Store conn.old conn.new result }
 {
     rests_agree(conn, table, db.column(), database)
 }

@@ -2,13 +2,11 @@
 //! are looked up, and from one on the next.
 
 ghost use Rattle.std.specs.Prelude.{◌≡◌, ◌↔◌, ◌∷◌, [], List, true, false, IsTrue, None, Some};
-ghost use Rattle.sqlite.specs.Held.{state};
 ghost use Rattle.sqlite.specs.Order.{Row as Columns};
 ghost use Rattle.sqlite.specs.State.{IsUnchanged};
 ghost use Rattle.sqlite.specs.declared.types.Value.TheVariants.{Int};
 ghost use Rattle.zeb_register.specs.Agreeing.{AreEnds, IsLeastFrom, IsListedId, Owns};
-ghost use Rattle.zeb_register.specs.Calls.{Reading};
-ghost use Rattle.zeb_register.specs.Clauses.{IsReasonedError, Tells};
+ghost use Rattle.zeb_register.specs.Connections.{IsReasonedErrorOf, ReadingOf, TellsOf};
 ghost use Rattle.zeb_register.specs.PrivateRowExpected.{BelongsTo, tree_of};
 ghost use Rattle.zeb_register.specs.Store.{blocks_tree};
 
@@ -31,11 +29,10 @@ pub(crate) fn belongs<S: Alter>(
     table: Table,
     listed: &[ListedDatabase],
 ) -> Result<bool, Error>
-    ensures call { Reading (state S.Store conn.old) (state S.Store conn.new) result
-        (λ _. IsUnchanged) }
-    ensures value { Tells (state S.Store conn.old) (state S.Store conn.new) result
+    ensures call { ReadingOf S.Store conn.old conn.new result (λ _. IsUnchanged) }
+    ensures value { TellsOf S.Store conn.old conn.new result
         (λ trees agree. IsTrue agree ↔ BelongsTo (tree_of table) listed.now trees) }
-    ensures refused { IsReasonedError (state S.Store conn.old) (state S.Store conn.new) result }
+    ensures refused { IsReasonedErrorOf S.Store conn.old conn.new result }
 {
     let Some(ends) = ends_of(conn, table)? else {
         return Ok(true);
@@ -60,11 +57,9 @@ pub(crate) fn belongs<S: Alter>(
 
 /// The least and the greatest id, or none where the table has no row.
 fn ends_of<S: Alter>(conn: &mut Connection<S>, table: Table) -> Result<Option<Ends>, Error>
-    ensures call { Reading (state S.Store conn.old) (state S.Store conn.new) result
-        (λ _. IsUnchanged) }
-    ensures value { Tells (state S.Store conn.old) (state S.Store conn.new) result
-        (AreEnds (tree_of table)) }
-    ensures refused { IsReasonedError (state S.Store conn.old) (state S.Store conn.new) result }
+    ensures call { ReadingOf S.Store conn.old conn.new result (λ _. IsUnchanged) }
+    ensures value { TellsOf S.Store conn.old conn.new result (AreEnds (tree_of table)) }
+    ensures refused { IsReasonedErrorOf S.Store conn.old conn.new result }
 {
     let rows = least_rows(conn, table)?;
     let Some(first) = id_of(&rows) else {
@@ -79,22 +74,19 @@ fn ends_of<S: Alter>(conn: &mut Connection<S>, table: Table) -> Result<Option<En
 
 /// The least and the greatest id of a database with which a row of `blocks` begins, or none where it has no row. It changes nothing.
 pub fn ends_in_blocks<S: Alter>(conn: &mut Connection<S>) -> Result<Option<Ends>, Error>
-    ensures call { Reading (state S.Store conn.old) (state S.Store conn.new) result
-        (λ _. IsUnchanged) }
-    ensures value { Tells (state S.Store conn.old) (state S.Store conn.new) result
-        (AreEnds blocks_tree) }
-    ensures refused { IsReasonedError (state S.Store conn.old) (state S.Store conn.new) result }
+    ensures call { ReadingOf S.Store conn.old conn.new result (λ _. IsUnchanged) }
+    ensures value { TellsOf S.Store conn.old conn.new result (AreEnds blocks_tree) }
+    ensures refused { IsReasonedErrorOf S.Store conn.old conn.new result }
 {
     ends_of(conn, Table::Blocks)
 }
 
 /// The least id of a database from a start on with which a row of `blocks` begins, if one does. It changes nothing.
 pub fn next_in_blocks<S: Alter>(conn: &mut Connection<S>, start: i64) -> Result<Option<i64>, Error>
-    ensures call { Reading (state S.Store conn.old) (state S.Store conn.new) result
-        (λ _. IsUnchanged) }
-    ensures value { Tells (state S.Store conn.old) (state S.Store conn.new) result
+    ensures call { ReadingOf S.Store conn.old conn.new result (λ _. IsUnchanged) }
+    ensures value { TellsOf S.Store conn.old conn.new result
         (λ trees. IsLeastFrom (Owns blocks_tree trees) start) }
-    ensures refused { IsReasonedError (state S.Store conn.old) (state S.Store conn.new) result }
+    ensures refused { IsReasonedErrorOf S.Store conn.old conn.new result }
 {
     let rows = next_rows(conn, Table::Blocks, start)?;
     Ok(id_of(&rows))

@@ -11,16 +11,16 @@ ghost use Rattle.zeb_register.specs.PrivateCatalog.{listed_row};
 ghost use Rattle.zeb_register.specs.PrivateRowPlaces.{first_three};
 ghost use Rattle.zeb_register.specs.PrivateRowStatements.{IsDatabaseShown};
 ghost use Rattle.sqlite_rules.specs.Lists.{Has};
-ghost use Rattle.zeb_register.specs.Calls.{GoesOn, OnlyReads, Inside, Reading};
-ghost use Rattle.zeb_register.specs.Clauses.{ChangesTable, InStore, IsDueRefusal, IsDueRefusalInside, IsHonest};
-ghost use Rattle.zeb_register.specs.Clauses.{IsHonestInside, IsOpenDamageInside, Tells, TellsInside, Writes};
+ghost use Rattle.zeb_register.specs.Calls.{GoesOn, OnlyReads};
+ghost use Rattle.zeb_register.specs.Clauses.{IsOpenDamageInside};
+ghost use Rattle.zeb_register.specs.Connections.{ChangesTableOf, InStoreOf, InsideOf, IsDueRefusalInsideOf, IsDueRefusalOf, IsHonestInsideOf, IsHonestOf, ReadingOf, TellsInsideOf, TellsOf, WritesOf};
 
-use crate::RegFault;
 use crate::statements::databases::{
     database_add, database_rows, database_rows_inside, last_set, listed_rows, listed_rows_inside,
 };
 use crate::statements::writing::write;
 use crate::values::{read, read_integer, read_number, stored};
+use crate::{RegFault, RowFault};
 use sqlite::{Alter, Connection, Error, Row, Transaction, params};
 use std::alloc::Global;
 
@@ -62,13 +62,12 @@ pub fn database_of<S: Alter>(
     conn: &mut Connection<S>,
     name: &str,
 ) -> Result<Option<Database>, RegFault>
-    ensures call { Reading (state S.Store conn.old) (state S.Store conn.new) result
-        (λ _. IsUnchanged) }
-    ensures value { Tells (state S.Store conn.old) (state S.Store conn.new) result
+    ensures call { ReadingOf S.Store conn.old conn.new result (λ _. IsUnchanged) }
+    ensures value { TellsOf S.Store conn.old conn.new result
         (λ trees. IsDatabaseOf trees name.now) }
-    ensures honest { IsHonest (state S.Store conn.old) (state S.Store conn.new) result
+    ensures honest { IsHonestOf S.Store conn.old conn.new result
         (λ trees. AreCountedDatabases trees name.now) }
-    ensures refused { IsDueRefusal (state S.Store conn.old) (state S.Store conn.new) result }
+    ensures refused { IsDueRefusalOf S.Store conn.old conn.new result }
 {
     let rows = database_rows(conn, name)?;
     match rows.first() {
@@ -87,16 +86,14 @@ pub fn databases<S: Alter>(
     alloc: Global,
     conn: &mut Connection<S>,
 ) -> Result<Vec<ListedDatabase>, RegFault>
-    ensures call { Reading (state S.Store conn.old) (state S.Store conn.new) result
-        (λ _. IsUnchanged) }
-    ensures value { Tells (state S.Store conn.old) (state S.Store conn.new) result
+    ensures call { ReadingOf S.Store conn.old conn.new result (λ _. IsUnchanged) }
+    ensures value { TellsOf S.Store conn.old conn.new result
         (λ trees list. AreDatabases trees list.items) }
-    ensures honest { IsHonest (state S.Store conn.old) (state S.Store conn.new) result
-        AreReadableDatabases }
-    ensures refused { IsDueRefusal (state S.Store conn.old) (state S.Store conn.new) result }
+    ensures honest { IsHonestOf S.Store conn.old conn.new result AreReadableDatabases }
+    ensures refused { IsDueRefusalOf S.Store conn.old conn.new result }
 {
     let rows = listed_rows(conn)?;
-    databases_in(alloc, &rows)
+    Ok(databases_in(alloc, &rows)?)
 }
 
 /// The same inside a transaction.
@@ -105,26 +102,21 @@ pub fn databases_inside<S: Alter>(
     tx: &mut Transaction<'_, S>,
 ) -> Result<Vec<ListedDatabase>, RegFault>
     ensures same { tx.new.conn.ghost_name ≡ tx.old.conn.ghost_name }
-    ensures call { Inside (state S.Store tx.old.conn.now) (state S.Store tx.new.conn.now) result
-        (λ _. OnlyReads) }
-    ensures value { TellsInside (state S.Store tx.old.conn.now) (state S.Store tx.new.conn.now)
-        result
+    ensures call { InsideOf S.Store tx.old.conn tx.new.conn result (λ _. OnlyReads) }
+    ensures value { TellsInsideOf S.Store tx.old.conn tx.new.conn result
         (λ trees list. AreDatabases trees list.items) }
-    ensures honest { IsHonestInside (state S.Store tx.old.conn.now) (state S.Store tx.new.conn.now)
-        result AreReadableDatabases }
-    ensures refused { IsDueRefusalInside (state S.Store tx.old.conn.now)
-        (state S.Store tx.new.conn.now) result }
+    ensures honest { IsHonestInsideOf S.Store tx.old.conn tx.new.conn result AreReadableDatabases }
+    ensures refused { IsDueRefusalInsideOf S.Store tx.old.conn tx.new.conn result }
 {
     let rows = listed_rows_inside(tx)?;
-    databases_in(alloc, &rows)
+    Ok(databases_in(alloc, &rows)?)
 }
 
 /// The databases that rows show.
-pub(crate) fn databases_in(alloc: Global, rows: &[Row]) -> Result<Vec<ListedDatabase>, RegFault>
+pub(crate) fn databases_in(alloc: Global, rows: &[Row]) -> Result<Vec<ListedDatabase>, RowFault>
     ensures ok { IfOk result (λ list. map listed_row list.items ≡ map first_three rows.now) }
-    ensures honest { result ≡ Err RegFault.Damaged
+    ensures honest { result ≡ Err RowFault.Damaged
         → ¬ ((row : _) → Has rows.now row → IsDatabaseShown row) }
-    ensures unstored { result ≢ Err RegFault.Store }
 {
     let mut databases = Vec::new(alloc);
     for row in rows {
@@ -134,10 +126,9 @@ pub(crate) fn databases_in(alloc: Global, rows: &[Row]) -> Result<Vec<ListedData
 }
 
 /// The database that a row shows.
-fn database_in(row: &Row) -> Result<ListedDatabase, RegFault>
+fn database_in(row: &Row) -> Result<ListedDatabase, RowFault>
     ensures ok { IfOk result (λ database. listed_row database ≡ first_three row.now) }
-    ensures honest { result ≡ Err RegFault.Damaged → ¬ IsDatabaseShown row.now }
-    ensures unstored { result ≢ Err RegFault.Store }
+    ensures honest { result ≡ Err RowFault.Damaged → ¬ IsDatabaseShown row.now }
 {
     Ok(ListedDatabase {
         name: read(row, 0)?,
@@ -155,12 +146,10 @@ pub fn database_put<S: Alter>(
     last: u64,
 ) -> Result<DatabaseId, RegFault>
     ensures same { tx.new.conn.ghost_name ≡ tx.old.conn.ghost_name }
-    ensures call { Inside (state S.Store tx.old.conn.now) (state S.Store tx.new.conn.now) result
-        (λ _. GoesOn) }
-    ensures put { ChangesTable databases_tree (state S.Store tx.old.conn.now)
-        (state S.Store tx.new.conn.now) result
+    ensures call { InsideOf S.Store tx.old.conn tx.new.conn result (λ _. GoesOn) }
+    ensures put { ChangesTableOf S.Store tx.old.conn tx.new.conn databases_tree result
         (λ id. PutsDatabase id.0 name.now (pos last)) }
-    ensures honest { InStore (state S.Store tx.old.conn.now) (state S.Store tx.new.conn.now)
+    ensures honest { InStoreOf S.Store tx.old.conn tx.new.conn
         (λ _. result ≢ Err RegFault.Damaged) }
     ensures opened { IsOpenDamageInside (state S.Store tx.old.conn.now)
         (state S.Store tx.new.conn.now) result }
@@ -186,8 +175,8 @@ pub(crate) fn database_drop<S: Alter>(
     db: DatabaseId,
 ) -> Result<(), Error>
     ensures same { tx.new.conn.ghost_name ≡ tx.old.conn.ghost_name }
-    ensures call { Writes databases_tree (TakesDatabase db.0) (state S.Store tx.old.conn.now)
-        (state S.Store tx.new.conn.now) result }
+    ensures call { WritesOf S.Store tx.old.conn tx.new.conn databases_tree (TakesDatabase db.0)
+        result }
 {
     let id = db.column();
     write(tx, TAKE, params![id])

@@ -2,8 +2,8 @@
 
 ghost use Rattle.std.specs.Prelude.{◌≡◌, OnOk};
 ghost use Rattle.sqlite.specs.Held.{state};
-ghost use Rattle.zeb_register.specs.Calls.{GoesOn, Inside};
-ghost use Rattle.zeb_register.specs.Clauses.{InStore};
+ghost use Rattle.zeb_register.specs.Calls.{GoesOn};
+ghost use Rattle.zeb_register.specs.Connections.{InStoreOf, InsideOf};
 ghost use Rattle.zeb_register.specs.Content.{Content, IsWithout, TakesWhole};
 ghost use Rattle.zeb_register.specs.Formats.{Format, holds_in};
 ghost use Rattle.zeb_register.specs.PrivateRowPlaces.{DropsRegisters};
@@ -21,13 +21,12 @@ pub fn database_drop_whole<S: Alter>(
     db: DatabaseId,
 ) -> Result<(), Error>
     ensures same { tx.new.conn.ghost_name ≡ tx.old.conn.ghost_name }
-    ensures call { Inside (state S.Store tx.old.conn.now) (state S.Store tx.new.conn.now) result
-        (λ _. GoesOn) }
-    ensures taken { InStore (state S.Store tx.old.conn.now) (state S.Store tx.new.conn.now)
+    ensures call { InsideOf S.Store tx.old.conn tx.new.conn result (λ _. GoesOn) }
+    ensures taken { InStoreOf S.Store tx.old.conn tx.new.conn
         (λ trees. OnOk result
         (TakesWhole db.0 (state S.Store tx.old.conn.now) (state S.Store tx.new.conn.now)
-        × ((format : Format) (before after : Content)
-        → holds_in format trees before → IsWithout db.0 before after
+        × ((format : Format) (before after : Content) → holds_in format trees before
+        → IsWithout db.0 before after
         → holds_in format (state S.Store tx.new.conn.now).now.trees after))) }
 {
     registers_drop(tx, db)?;
@@ -38,7 +37,7 @@ pub fn database_drop_whole<S: Alter>(
 /// Takes the rows of the database out of each table of the registers.
 fn registers_drop<S: Alter>(tx: &mut Transaction<'_, S>, db: DatabaseId) -> Result<(), Error>
     ensures same { tx.new.conn.ghost_name ≡ tx.old.conn.ghost_name }
-    ensures call { Inside (state S.Store tx.old.conn.now) (state S.Store tx.new.conn.now) result
+    ensures call { InsideOf S.Store tx.old.conn tx.new.conn result
         (λ _ a b. GoesOn a b × (IsStore a → DropsRegisters db.0 a b)) }
 {
     table_clear(tx, Table::Postings, db)?;

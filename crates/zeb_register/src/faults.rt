@@ -1,4 +1,4 @@
-//! Why a call on the tables is refused.
+//! Why a call on the tables is refused, and why rows tell nothing.
 
 use sqlite::{Error, ErrorCode};
 use std::alloc::{AllocError, AllocFailed};
@@ -66,5 +66,50 @@ impl<T: Drop> From<AllocFailed<T>> for RegFault {
 
     fn from(_: AllocFailed<T>) -> RegFault {
         RegFault::Memory
+    }
+}
+
+/// Why rows that were read tell nothing.
+#[derive(Clone, Copy, Debug, PartialEq, Eq)]
+pub enum RowFault {
+    /// A row holds what no call writes, or rows don't hold what they should.
+    Damaged,
+    /// Memory was refused.
+    Memory,
+}
+
+impl From<AllocError> for RowFault {
+    ghost use Rattle.std.specs.Prelude.{◌≡◌};
+    ghost use Rattle.zeb_register.specs.declared.faults.RowFault.TheVariants.{Memory};
+
+    ghost from_gives = { λ _ fault. fault ≡ Memory };
+
+    fn from(_: AllocError) -> RowFault {
+        RowFault::Memory
+    }
+}
+
+impl<T: Drop> From<AllocFailed<T>> for RowFault {
+    ghost use Rattle.std.specs.Prelude.{◌≡◌};
+    ghost use Rattle.zeb_register.specs.declared.faults.RowFault.TheVariants.{Memory};
+
+    ghost from_gives = { λ _ fault. fault ≡ Memory };
+
+    fn from(_: AllocFailed<T>) -> RowFault {
+        RowFault::Memory
+    }
+}
+
+impl From<RowFault> for RegFault {
+    ghost use Rattle.std.specs.Prelude.{◌≡◌};
+    ghost use Rattle.zeb_register.specs.Faults.{fault_of_rows};
+
+    ghost from_gives = { λ rows fault. fault ≡ fault_of_rows rows };
+
+    fn from(fault: RowFault) -> RegFault {
+        match fault {
+            RowFault::Damaged => RegFault::Damaged,
+            RowFault::Memory => RegFault::Memory,
+        }
     }
 }

@@ -11,16 +11,16 @@ ghost use Rattle.zeb_register.specs.PrivateRowPlaces.{first_three};
 ghost use Rattle.zeb_register.specs.Kept.{IsElderOf, IsIdentOf, AreNumbered, AreReadableIdents, AreReadable, record_shown};
 ghost use Rattle.zeb_register.specs.Kept.{IsFirstFrom, IsRecordCount};
 ghost use Rattle.zeb_register.specs.PrivateRowStatements.{IsRecordShown};
-ghost use Rattle.zeb_register.specs.Calls.{OnlyReads, Inside, Reading};
-ghost use Rattle.zeb_register.specs.Clauses.{IsDueRefusal, IsDueRefusalInside, IsHonest, IsHonestInside, OnStore};
-ghost use Rattle.zeb_register.specs.Clauses.{Tells, TellsByNumber, TellsByNumberInside, TellsInside, Writes};
+ghost use Rattle.zeb_register.specs.Calls.{OnlyReads};
+ghost use Rattle.zeb_register.specs.Clauses.{TellsByNumber, TellsByNumberInside};
+ghost use Rattle.zeb_register.specs.Connections.{InsideOf, IsDueRefusalInsideOf, IsDueRefusalOf, IsHonestInsideOf, IsHonestOf, OnStoreOf, ReadingOf, TellsInsideOf, TellsOf, WritesOf};
 
 use crate::statements::inside::{nothing_inside, rows_from_inside};
 use crate::statements::postings::nothing_of;
 use crate::statements::records::{count_rows, elder_rows, ident_rows, record_rows, rows_from};
 use crate::statements::writing::write;
 use crate::values::{read, read_number, stored};
-use crate::{DatabaseId, RegFault};
+use crate::{DatabaseId, RegFault, RowFault};
 use sqlite::{Alter, Connection, Error, Row, Transaction, params};
 use std::alloc::Global;
 
@@ -45,7 +45,7 @@ pub struct Elder {
 
 /// Keeps a record under a system number, in place of the one that had that number or that identifier.
 ///
-/// `Store` also where `sysno` is above `2^63 - 1`.
+/// It is refused where `sysno` is above `2^63 - 1`.
 pub fn record_put<S: Alter>(
     tx: &mut Transaction<'_, S>,
     db: DatabaseId,
@@ -54,9 +54,9 @@ pub fn record_put<S: Alter>(
     bytes: &[u8],
 ) -> Result<(), Error>
     ensures same { tx.new.conn.ghost_name ≡ tx.old.conn.ghost_name }
-    ensures call { Writes records_tree (Replaces (SharesRecord db.0 (pos sysno) ident.now)
-        (record_row db.0 (pos sysno) ident.now bytes.now)) (state S.Store tx.old.conn.now)
-        (state S.Store tx.new.conn.now) result }
+    ensures call { WritesOf S.Store tx.old.conn tx.new.conn records_tree
+        (Replaces (SharesRecord db.0 (pos sysno) ident.now)
+        (record_row db.0 (pos sysno) ident.now bytes.now)) result }
 {
     let sysno = stored(sysno)?;
     let id = db.column();
@@ -65,15 +65,15 @@ pub fn record_put<S: Alter>(
 
 /// Takes the record of a system number out. Where there is none, nothing changes.
 ///
-/// `Store` also where `sysno` is above `2^63 - 1`.
+/// It is refused where `sysno` is above `2^63 - 1`.
 pub fn record_take<S: Alter>(
     tx: &mut Transaction<'_, S>,
     db: DatabaseId,
     sysno: u64,
 ) -> Result<(), Error>
     ensures same { tx.new.conn.ghost_name ≡ tx.old.conn.ghost_name }
-    ensures call { Writes records_tree (Loses (HasNumber db.0 (pos sysno)))
-        (state S.Store tx.old.conn.now) (state S.Store tx.new.conn.now) result }
+    ensures call { WritesOf S.Store tx.old.conn tx.new.conn records_tree
+        (Loses (HasNumber db.0 (pos sysno))) result }
 {
     let sysno = stored(sysno)?;
     let id = db.column();
@@ -89,16 +89,12 @@ pub fn record_of_ident<S: Alter>(
     ident: &str,
 ) -> Result<Option<Elder>, RegFault>
     ensures same { tx.new.conn.ghost_name ≡ tx.old.conn.ghost_name }
-    ensures call { Inside (state S.Store tx.old.conn.now) (state S.Store tx.new.conn.now) result
-        (λ _. OnlyReads) }
-    ensures value { TellsInside (state S.Store tx.old.conn.now) (state S.Store tx.new.conn.now)
-        result
+    ensures call { InsideOf S.Store tx.old.conn tx.new.conn result (λ _. OnlyReads) }
+    ensures value { TellsInsideOf S.Store tx.old.conn tx.new.conn result
         (λ trees. IsElderOf trees db.0 ident.now) }
-    ensures honest { IsHonestInside (state S.Store tx.old.conn.now) (state S.Store tx.new.conn.now)
-        result
+    ensures honest { IsHonestInsideOf S.Store tx.old.conn tx.new.conn result
         (λ trees. AreNumbered trees db.0 ident.now) }
-    ensures refused { IsDueRefusalInside (state S.Store tx.old.conn.now)
-        (state S.Store tx.new.conn.now) result }
+    ensures refused { IsDueRefusalInsideOf S.Store tx.old.conn tx.new.conn result }
 {
     let rows = elder_rows(tx, db.column(), ident)?;
     match rows.first() {
@@ -118,13 +114,12 @@ pub fn ident_of<S: Alter>(
     db: DatabaseId,
     sysno: u64,
 ) -> Result<Option<String>, RegFault>
-    ensures call { Reading (state S.Store conn.old) (state S.Store conn.new) result
-        (λ _. IsUnchanged) }
+    ensures call { ReadingOf S.Store conn.old conn.new result (λ _. IsUnchanged) }
     ensures value { TellsByNumber sysno (state S.Store conn.old) (state S.Store conn.new) result
         (λ trees. IsIdentOf trees db.0 (pos sysno)) }
-    ensures honest { IsHonest (state S.Store conn.old) (state S.Store conn.new) result
+    ensures honest { IsHonestOf S.Store conn.old conn.new result
         (λ trees. AreReadableIdents trees db.0 (pos sysno)) }
-    ensures refused { IsDueRefusal (state S.Store conn.old) (state S.Store conn.new) result }
+    ensures refused { IsDueRefusalOf S.Store conn.old conn.new result }
 {
     let Ok(sysno) = stored(sysno) else {
         // A closed connection is refused for such a number too.
@@ -142,17 +137,14 @@ pub fn ident_of<S: Alter>(
 ///
 /// No record is read for it, and no memory is held. It changes nothing.
 pub fn record_count<S: Alter>(conn: &mut Connection<S>, db: DatabaseId) -> Result<u64, RegFault>
-    ensures call { Reading (state S.Store conn.old) (state S.Store conn.new) result
-        (λ _. IsUnchanged) }
-    ensures value { Tells (state S.Store conn.old) (state S.Store conn.new) result
-        (λ trees. IsRecordCount trees db.0) }
-    ensures honest { OnStore (state S.Store conn.old) (state S.Store conn.new)
-        (λ trees. result ≢ Err RegFault.Damaged) }
-    ensures refused { IsDueRefusal (state S.Store conn.old) (state S.Store conn.new) result }
+    ensures call { ReadingOf S.Store conn.old conn.new result (λ _. IsUnchanged) }
+    ensures value { TellsOf S.Store conn.old conn.new result (λ trees. IsRecordCount trees db.0) }
+    ensures honest { OnStoreOf S.Store conn.old conn.new (λ trees. result ≢ Err RegFault.Damaged) }
+    ensures refused { IsDueRefusalOf S.Store conn.old conn.new result }
 {
     let rows = count_rows(conn, db.column())?;
     match rows.first() {
-        Some(row) => read_number(row, 0),
+        Some(row) => Ok(read_number(row, 0)?),
         // A count has one row, whatever the tables are.
         None => Err(RegFault::Damaged),
     }
@@ -167,13 +159,11 @@ pub fn record_from<S: Alter>(
     db: DatabaseId,
     start: u64,
 ) -> Result<Option<Record>, RegFault>
-    ensures call { Reading (state S.Store conn.old) (state S.Store conn.new) result
-        (λ _. IsUnchanged) }
+    ensures call { ReadingOf S.Store conn.old conn.new result (λ _. IsUnchanged) }
     ensures value { TellsByNumber start (state S.Store conn.old) (state S.Store conn.new) result
         (λ trees. IsFirstFrom trees db.0 start) }
-    ensures honest { IsHonest (state S.Store conn.old) (state S.Store conn.new) result
-        (λ trees. AreReadable trees db.0) }
-    ensures refused { IsDueRefusal (state S.Store conn.old) (state S.Store conn.new) result }
+    ensures honest { IsHonestOf S.Store conn.old conn.new result (λ trees. AreReadable trees db.0) }
+    ensures refused { IsDueRefusalOf S.Store conn.old conn.new result }
 {
     let Ok(start) = stored(start) else {
         // A closed connection is refused for such a number too.
@@ -194,15 +184,12 @@ pub fn record_from_inside<S: Alter>(
     start: u64,
 ) -> Result<Option<Record>, RegFault>
     ensures same { tx.new.conn.ghost_name ≡ tx.old.conn.ghost_name }
-    ensures call { Inside (state S.Store tx.old.conn.now) (state S.Store tx.new.conn.now) result
-        (λ _. OnlyReads) }
+    ensures call { InsideOf S.Store tx.old.conn tx.new.conn result (λ _. OnlyReads) }
     ensures value { TellsByNumberInside start (state S.Store tx.old.conn.now)
         (state S.Store tx.new.conn.now) result (λ trees. IsFirstFrom trees db.0 start) }
-    ensures honest { IsHonestInside (state S.Store tx.old.conn.now) (state S.Store tx.new.conn.now)
-        result
+    ensures honest { IsHonestInsideOf S.Store tx.old.conn tx.new.conn result
         (λ trees. AreReadable trees db.0) }
-    ensures refused { IsDueRefusalInside (state S.Store tx.old.conn.now)
-        (state S.Store tx.new.conn.now) result }
+    ensures refused { IsDueRefusalInsideOf S.Store tx.old.conn tx.new.conn result }
 {
     let Ok(start) = stored(start) else {
         // A closed connection is refused for such a number too.
@@ -224,25 +211,22 @@ pub fn records<S: Alter>(
     conn: &mut Connection<S>,
     db: DatabaseId,
 ) -> Result<Vec<Record>, RegFault>
-    ensures call { Reading (state S.Store conn.old) (state S.Store conn.new) result
-        (λ _. IsUnchanged) }
-    ensures value { Tells (state S.Store conn.old) (state S.Store conn.new) result
+    ensures call { ReadingOf S.Store conn.old conn.new result (λ _. IsUnchanged) }
+    ensures value { TellsOf S.Store conn.old conn.new result
         (λ trees list. IsListOf (IsRest records_tree (Int db.0 ∷ []) trees)
         (map record_shown list.items)) }
-    ensures honest { IsHonest (state S.Store conn.old) (state S.Store conn.new) result
-        (λ trees. AreReadable trees db.0) }
-    ensures refused { IsDueRefusal (state S.Store conn.old) (state S.Store conn.new) result }
+    ensures honest { IsHonestOf S.Store conn.old conn.new result (λ trees. AreReadable trees db.0) }
+    ensures refused { IsDueRefusalOf S.Store conn.old conn.new result }
 {
     let rows = record_rows(conn, db.column())?;
-    records_of(alloc, &rows)
+    Ok(records_of(alloc, &rows)?)
 }
 
 /// The records that rows show.
-fn records_of(alloc: Global, rows: &[Row]) -> Result<Vec<Record>, RegFault>
+fn records_of(alloc: Global, rows: &[Row]) -> Result<Vec<Record>, RowFault>
     ensures ok { IfOk result (λ list. map record_shown list.items ≡ map first_three rows.now) }
-    ensures honest { result ≡ Err RegFault.Damaged
+    ensures honest { result ≡ Err RowFault.Damaged
         → ¬ ((row : _) → Has rows.now row → IsRecordShown row) }
-    ensures unstored { result ≢ Err RegFault.Store }
 {
     let mut records = Vec::new(alloc);
     for row in rows {
@@ -252,10 +236,9 @@ fn records_of(alloc: Global, rows: &[Row]) -> Result<Vec<Record>, RegFault>
 }
 
 /// The record that a row shows.
-fn record_of(row: &Row) -> Result<Record, RegFault>
+fn record_of(row: &Row) -> Result<Record, RowFault>
     ensures ok { IfOk result (λ r. record_shown r ≡ first_three row.now) }
-    ensures honest { result ≡ Err RegFault.Damaged → ¬ IsRecordShown row.now }
-    ensures unstored { result ≢ Err RegFault.Store }
+    ensures honest { result ≡ Err RowFault.Damaged → ¬ IsRecordShown row.now }
 {
     Ok(Record {
         sysno: read_number(row, 0)?,

@@ -41,7 +41,7 @@ pub use catalog::{
     Database, DatabaseId, ListedDatabase, database_of, database_put, databases, databases_inside,
 };
 pub use expected::{Expected, ExpectedDatabase, KeyPosting};
-pub use faults::RegFault;
+pub use faults::{RegFault, RowFault};
 pub use kept::{
     Elder, Record, ident_of, record_count, record_from, record_from_inside, record_of_ident,
     record_put, record_take, records,

@@ -1,12 +1,10 @@
 //! Texts that the store keeps of itself, each under a name.
 
 ghost use Rattle.std.specs.Prelude.{◌≡◌};
-ghost use Rattle.sqlite.specs.Held.{state};
 ghost use Rattle.sqlite.specs.State.{IsUnchanged};
 ghost use Rattle.zeb_register.specs.Sql.{Replaces};
 ghost use Rattle.zeb_register.specs.Store.{meta_tree, entry, IsEntryOf, IsValueOf, AreReadableTexts};
-ghost use Rattle.zeb_register.specs.Calls.{Reading};
-ghost use Rattle.zeb_register.specs.Clauses.{IsDueRefusal, IsHonest, Tells, Writes};
+ghost use Rattle.zeb_register.specs.Connections.{IsDueRefusalOf, IsHonestOf, ReadingOf, TellsOf, WritesOf};
 
 use crate::RegFault;
 use crate::statements::texts::text_rows;
@@ -20,13 +18,11 @@ const PUT: &str = "INSERT OR REPLACE INTO meta VALUES (?1, ?2)";
 ///
 /// `Damaged` where it is no UTF-8. It changes nothing.
 pub fn meta_of<S: Alter>(conn: &mut Connection<S>, name: &str) -> Result<Option<String>, RegFault>
-    ensures call { Reading (state S.Store conn.old) (state S.Store conn.new) result
-        (λ _. IsUnchanged) }
-    ensures value { Tells (state S.Store conn.old) (state S.Store conn.new) result
-        (λ trees. IsValueOf trees name.now) }
-    ensures honest { IsHonest (state S.Store conn.old) (state S.Store conn.new) result
+    ensures call { ReadingOf S.Store conn.old conn.new result (λ _. IsUnchanged) }
+    ensures value { TellsOf S.Store conn.old conn.new result (λ trees. IsValueOf trees name.now) }
+    ensures honest { IsHonestOf S.Store conn.old conn.new result
         (λ trees. AreReadableTexts trees name.now) }
-    ensures refused { IsDueRefusal (state S.Store conn.old) (state S.Store conn.new) result }
+    ensures refused { IsDueRefusalOf S.Store conn.old conn.new result }
 {
     let rows = text_rows(conn, name)?;
     match rows.first() {
@@ -38,8 +34,8 @@ pub fn meta_of<S: Alter>(conn: &mut Connection<S>, name: &str) -> Result<Option<
 /// Keeps a text under a name, in place of the one that was there.
 pub fn meta_put<S: Alter>(tx: &mut Transaction<'_, S>, name: &str, value: &str) -> Result<(), Error>
     ensures same { tx.new.conn.ghost_name ≡ tx.old.conn.ghost_name }
-    ensures call { Writes meta_tree (Replaces (IsEntryOf name.now) (entry name.now value.now))
-        (state S.Store tx.old.conn.now) (state S.Store tx.new.conn.now) result }
+    ensures call { WritesOf S.Store tx.old.conn tx.new.conn meta_tree
+        (Replaces (IsEntryOf name.now) (entry name.now value.now)) result }
 {
     write(tx, PUT, params![name, value])
 }

@@ -2,13 +2,11 @@
 //! front of those that are left.
 
 ghost use Rattle.std.specs.Prelude.{◌≡◌, ◌≢◌, ◌<◌, ◌≤◌, ◌++◌, ℕ, pos, List, true, false, length, drop, map, IfSome, MatchOption};
-ghost use Rattle.sqlite.specs.Held.{state};
 ghost use Rattle.sqlite.specs.State.{IsUnchanged};
 ghost use Rattle.sqlite.specs.declared.types.Value.TheVariants.{Int};
 ghost use Rattle.sqlite.specs.Order.{column};
 ghost use Rattle.zeb_blocks.specs.Blocks.{BlockSpells};
-ghost use Rattle.zeb_register.specs.Calls.{Reading};
-ghost use Rattle.zeb_register.specs.Clauses.{IsReasonedError, TellsWhether};
+ghost use Rattle.zeb_register.specs.Connections.{IsReasonedErrorOf, ReadingOf, TellsWhetherOf};
 ghost use Rattle.zeb_register.specs.Expected.{AreExpected, IsOrdered};
 ghost use Rattle.zeb_register.specs.Formats.{packed_blocks};
 ghost use Rattle.zeb_register.specs.PrivateRowExpected.{AreInOrder, HoldsExpected, HoldsKeysAlone, IsBlockBefore, with_key};
@@ -29,12 +27,10 @@ pub fn blocks_agree<S: Alter>(
     conn: &mut Connection<S>,
     expected: &Expected,
 ) -> Result<bool, Error>
-    ensures call { Reading (state S.Store conn.old) (state S.Store conn.new) result
-        (λ _. IsUnchanged) }
-    ensures value { TellsWhether (λ trees. AreExpected packed_blocks trees expected.now)
-        (IsOrdered expected.now)
-        (state S.Store conn.old) (state S.Store conn.new) result }
-    ensures refused { IsReasonedError (state S.Store conn.old) (state S.Store conn.new) result }
+    ensures call { ReadingOf S.Store conn.old conn.new result (λ _. IsUnchanged) }
+    ensures value { TellsWhetherOf S.Store conn.old conn.new
+        (λ trees. AreExpected packed_blocks trees expected.now) (IsOrdered expected.now) result }
+    ensures refused { IsReasonedErrorOf S.Store conn.old conn.new result }
 {
     let Some(listed) = lists_beside(alloc, conn, expected)? else {
         return Ok(false);
@@ -49,12 +45,11 @@ fn packed_agree<S: Alter>(
     expected: &[ExpectedDatabase],
 ) -> Result<bool, Error>
     requires { length listed.now ≡ length expected.now }
-    ensures call { Reading (state S.Store conn.old) (state S.Store conn.new) result
-        (λ _. IsUnchanged) }
-    ensures value { TellsWhether (λ trees. HoldsExpected Table.Blocks listed.now expected.now trees
-        × HoldsKeysAlone listed.now expected.now trees) (AreInOrder expected.now)
-        (state S.Store conn.old) (state S.Store conn.new) result }
-    ensures refused { IsReasonedError (state S.Store conn.old) (state S.Store conn.new) result }
+    ensures call { ReadingOf S.Store conn.old conn.new result (λ _. IsUnchanged) }
+    ensures value { TellsWhetherOf S.Store conn.old conn.new
+        (λ trees. HoldsExpected Table.Blocks listed.now expected.now trees
+        × HoldsKeysAlone listed.now expected.now trees) (AreInOrder expected.now) result }
+    ensures refused { IsReasonedErrorOf S.Store conn.old conn.new result }
 {
     if !table_agrees(conn, Table::Blocks, listed, expected)? {
         return Ok(false);
@@ -69,11 +64,10 @@ fn keys_alone<S: Alter>(
     expected: &[ExpectedDatabase],
 ) -> Result<bool, Error>
     requires { length listed.now ≡ length expected.now }
-    ensures call { Reading (state S.Store conn.old) (state S.Store conn.new) result
-        (λ _. IsUnchanged) }
-    ensures value { TellsWhether (HoldsKeysAlone listed.now expected.now) (AreInOrder expected.now)
-        (state S.Store conn.old) (state S.Store conn.new) result }
-    ensures refused { IsReasonedError (state S.Store conn.old) (state S.Store conn.new) result }
+    ensures call { ReadingOf S.Store conn.old conn.new result (λ _. IsUnchanged) }
+    ensures value { TellsWhetherOf S.Store conn.old conn.new
+        (HoldsKeysAlone listed.now expected.now) (AreInOrder expected.now) result }
+    ensures refused { IsReasonedErrorOf S.Store conn.old conn.new result }
 {
     if !table_agrees(conn, Table::Dict, listed, expected)? {
         return Ok(false);

@@ -1,11 +1,9 @@
 //! Registers with one row for each posting.
 
-ghost use Rattle.std.specs.Prelude.{◌≡◌, ◌≢◌, map, IfOk, IfErr};
-ghost use Rattle.sqlite.specs.Held.{state};
+ghost use Rattle.std.specs.Prelude.{◌≡◌, map, IfOk, IfErr};
 ghost use Rattle.sqlite.specs.State.{IsUnchanged};
-ghost use Rattle.zeb_register.specs.Calls.{Reading};
-ghost use Rattle.zeb_register.specs.Answers.{Answers, IfDamaged};
-ghost use Rattle.zeb_register.specs.Clauses.{IsReasoned, OnStore};
+ghost use Rattle.zeb_register.specs.Answers.{Answers, IfDamaged, IfRowDamaged};
+ghost use Rattle.zeb_register.specs.Connections.{IsReasonedOf, OnStoreOf, ReadingOf};
 ghost use Rattle.zeb_register.specs.Formats.{plain_rows};
 ghost use Rattle.zeb_register.specs.Occurring.{key_in};
 ghost use Rattle.zeb_register.specs.PlainRows.{posting_row};
@@ -21,7 +19,7 @@ use crate::registers::{Layout, RecordChange, RegisterOf, TermCount, Totals, Work
 use crate::statements::postings::{nothing_of, posting_rows, register_rows};
 use crate::terms::{count_terms, term_before, term_count, term_from, text_above};
 use crate::values::read_number;
-use crate::{DatabaseId, Expected, RegFault};
+use crate::{DatabaseId, Expected, RegFault, RowFault};
 use sqlite::{Alter, Connection, Error, Row, Transaction};
 use std::alloc::Global;
 use zeb_blocks::Posting;
@@ -92,7 +90,7 @@ impl Layout for Rows {
         at: RegisterOf,
     ) -> Result<Vec<TermCount>, RegFault> {
         let rows = register_rows(conn, at)?;
-        count_terms(alloc, &rows)
+        Ok(count_terms(alloc, &rows)?)
     }
 
     fn terms_from<S: Alter>(
@@ -175,21 +173,21 @@ pub(crate) fn postings_under<S: Alter>(
     at: RegisterOf,
     term: &str,
 ) -> Result<Vec<Posting>, RegFault>
-    ensures call { Reading (state S.Store conn.old) (state S.Store conn.new) result
-        (λ _. IsUnchanged) }
-    ensures lists { OnStore (state S.Store conn.old) (state S.Store conn.new) (λ trees. Answers
-        (IfDamaged (HasShownNone trees at.db.0 (key_in at.index at.register term.now)))
+    ensures call { ReadingOf S.Store conn.old conn.new result (λ _. IsUnchanged) }
+    ensures lists { OnStoreOf S.Store conn.old conn.new
+        (λ trees. Answers (IfDamaged
+        (HasShownNone trees at.db.0 (key_in at.index at.register term.now)))
         (λ list. ListsUnits plain_rows trees at.db.0 (key_in at.index at.register term.now)
         list.items) result) }
-    ensures refused { IsReasoned (state S.Store conn.old) (state S.Store conn.new) result }
+    ensures refused { IsReasonedOf S.Store conn.old conn.new result }
 {
     let rows = posting_rows(conn, at, term)?;
-    postings_of(alloc, &rows)
+    Ok(postings_of(alloc, &rows)?)
 }
 
 /// The postings that rows of a key show.
-fn postings_of(alloc: Global, rows: &[Row]) -> Result<Vec<Posting>, RegFault>
-    ensures { Answers (λ fault. (fault ≢ RegFault.Store) × IfDamaged (SomeShowsNone rows.now) fault)
+fn postings_of(alloc: Global, rows: &[Row]) -> Result<Vec<Posting>, RowFault>
+    ensures { Answers (IfRowDamaged (SomeShowsNone rows.now))
         (λ list. map posting_row list.items ≡ map first_three rows.now) result }
 {
     let mut postings = Vec::new(alloc);
@@ -200,9 +198,9 @@ fn postings_of(alloc: Global, rows: &[Row]) -> Result<Vec<Posting>, RegFault>
 }
 
 /// The posting that a row shows.
-fn posting_of(row: &Row) -> Result<Posting, RegFault>
+fn posting_of(row: &Row) -> Result<Posting, RowFault>
     ensures ok { IfOk result (λ p. posting_row p ≡ first_three row.now) }
-    ensures refused { IfErr result (λ fault. (fault ≡ RegFault.Damaged) × ShowsNone row.now) }
+    ensures refused { IfErr result (λ fault. (fault ≡ RowFault.Damaged) × ShowsNone row.now) }
 {
     Ok(Posting {
         sysno: read_number(row, 0)?,

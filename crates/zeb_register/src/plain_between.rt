@@ -1,22 +1,20 @@
 //! The postings of neighbouring terms, by a row for each.
 
-ghost use Rattle.std.specs.Prelude.{◌≡◌, ◌≢◌, map, IfOk, IfErr};
-ghost use Rattle.sqlite.specs.Held.{state};
+ghost use Rattle.std.specs.Prelude.{◌≡◌, map, IfOk, IfErr};
 ghost use Rattle.sqlite.specs.State.{IsUnchanged};
-ghost use Rattle.zeb_register.specs.Answers.{Answers, IfDamaged};
-ghost use Rattle.zeb_register.specs.Calls.{Reading};
-ghost use Rattle.zeb_register.specs.Clauses.{IsReasoned, OnStore};
+ghost use Rattle.zeb_register.specs.Answers.{Answers, IfDamaged, IfRowDamaged};
+ghost use Rattle.zeb_register.specs.Connections.{IsReasonedOf, OnStoreOf, ReadingOf};
 ghost use Rattle.zeb_register.specs.Formats.{plain_rows};
 ghost use Rattle.zeb_register.specs.PlainRows.{posting_row};
 ghost use Rattle.zeb_register.specs.PlainUnits.{ShowsNone};
 ghost use Rattle.zeb_register.specs.PrivateBetweenRows.{SomeShowsNoneBehind, three_behind};
 ghost use Rattle.zeb_register.specs.Units.{HasMalformedBetween, ListsBetween};
 
-use crate::RegFault;
 use crate::registers::RegisterOf;
 use crate::statements::between::posting_rows_between;
 use crate::terms::text_above;
 use crate::values::read_number;
+use crate::{RegFault, RowFault};
 use sqlite::{Alter, Connection, Row};
 use std::alloc::Global;
 use zeb_blocks::Posting;
@@ -29,22 +27,20 @@ pub(crate) fn postings_between<S: Alter>(
     first: &str,
     last: &str,
 ) -> Result<Vec<Posting>, RegFault>
-    ensures call { Reading (state S.Store conn.old) (state S.Store conn.new) result
-        (λ _. IsUnchanged) }
-    ensures lists { OnStore (state S.Store conn.old) (state S.Store conn.new) (λ trees. Answers
-        (IfDamaged (HasMalformedBetween plain_rows trees at first.now last.now))
+    ensures call { ReadingOf S.Store conn.old conn.new result (λ _. IsUnchanged) }
+    ensures lists { OnStoreOf S.Store conn.old conn.new
+        (λ trees. Answers (IfDamaged (HasMalformedBetween plain_rows trees at first.now last.now))
         (λ list. ListsBetween plain_rows trees at first.now last.now list.items) result) }
-    ensures refused { IsReasoned (state S.Store conn.old) (state S.Store conn.new) result }
+    ensures refused { IsReasonedOf S.Store conn.old conn.new result }
 {
     let end = text_above(alloc, last)?;
     let rows = posting_rows_between(conn, at, first, end.as_str())?;
-    postings_behind(alloc, &rows)
+    Ok(postings_behind(alloc, &rows)?)
 }
 
 /// The postings that rows show behind their terms.
-fn postings_behind(alloc: Global, rows: &[Row]) -> Result<Vec<Posting>, RegFault>
-    ensures { Answers (λ fault. (fault ≢ RegFault.Store)
-        × IfDamaged (SomeShowsNoneBehind rows.now) fault)
+fn postings_behind(alloc: Global, rows: &[Row]) -> Result<Vec<Posting>, RowFault>
+    ensures { Answers (IfRowDamaged (SomeShowsNoneBehind rows.now))
         (λ list. map posting_row list.items ≡ map three_behind rows.now) result }
 {
     let mut postings = Vec::new(alloc);
@@ -55,9 +51,9 @@ fn postings_behind(alloc: Global, rows: &[Row]) -> Result<Vec<Posting>, RegFault
 }
 
 /// The posting that a row shows behind its term.
-fn posting_behind(row: &Row) -> Result<Posting, RegFault>
+fn posting_behind(row: &Row) -> Result<Posting, RowFault>
     ensures ok { IfOk result (λ p. posting_row p ≡ three_behind row.now) }
-    ensures refused { IfErr result (λ fault. (fault ≡ RegFault.Damaged)
+    ensures refused { IfErr result (λ fault. (fault ≡ RowFault.Damaged)
         × ShowsNone (three_behind row.now)) }
 {
     Ok(Posting {

@@ -5,8 +5,8 @@ ghost use Rattle.std.specs.List.Sorted.{IsStrictlySortedBy};
 ghost use Rattle.sqlite_rules.specs.Lists.{Has};
 ghost use Rattle.sqlite.specs.Held.{state};
 ghost use Rattle.zeb_register.specs.Answers.{Answers, IfDamaged};
-ghost use Rattle.zeb_register.specs.Calls.{GoesOn, OnlyReads, Inside};
-ghost use Rattle.zeb_register.specs.Clauses.{InStore, Writes};
+ghost use Rattle.zeb_register.specs.Calls.{GoesOn, OnlyReads};
+ghost use Rattle.zeb_register.specs.Connections.{InStoreOf, InsideOf, WritesOf};
 ghost use Rattle.zeb_register.specs.Content.{place_cmp};
 ghost use Rattle.zeb_register.specs.Formats.{plain_rows};
 ghost use Rattle.zeb_register.specs.PlainUnits.{RowsRead};
@@ -24,7 +24,7 @@ use crate::statements::keys::KeyOf;
 use crate::statements::postings::place_rows;
 use crate::statements::writing::write;
 use crate::values::{read_number, stored};
-use crate::{DatabaseId, RegFault};
+use crate::{DatabaseId, RegFault, RowFault};
 use sqlite::{Alter, Error, Row, Transaction, params};
 use zeb_keys::Key;
 
@@ -41,8 +41,7 @@ pub(crate) fn key_changes_plain<S: Alter>(
     changes: &[RecordChange<'_>],
 ) -> Result<(), RegFault>
     ensures same { tx.new.conn.ghost_name ≡ tx.old.conn.ghost_name }
-    ensures call { Inside (state S.Store tx.old.conn.now) (state S.Store tx.new.conn.now) result
-        (λ _. GoesOn) }
+    ensures call { InsideOf S.Store tx.old.conn tx.new.conn result (λ _. GoesOn) }
     ensures units { ChangesKey plain_rows db.0 key.now changes.now
         (state S.Store tx.old.conn.now) (state S.Store tx.new.conn.now) result }
 {
@@ -66,8 +65,7 @@ fn unit_change<S: Alter>(
 ) -> Result<(), RegFault>
     requires rising { IsStrictlySortedBy place_cmp new.now }
     ensures same { tx.new.conn.ghost_name ≡ tx.old.conn.ghost_name }
-    ensures call { Inside (state S.Store tx.old.conn.now) (state S.Store tx.new.conn.now) result
-        (λ _. GoesOn) }
+    ensures call { InsideOf S.Store tx.old.conn tx.new.conn result (λ _. GoesOn) }
     ensures units { ChangesUnit db.0 key.now sysno old.now new.now
         (state S.Store tx.old.conn.now) (state S.Store tx.new.conn.now) result }
 {
@@ -79,10 +77,10 @@ fn unit_change<S: Alter>(
 }
 
 /// Whether the rows show just these places, in order.
-fn are_places(rows: &[Row], places: &[Place]) -> Result<bool, RegFault>
+fn are_places(rows: &[Row], places: &[Place]) -> Result<bool, RowFault>
     ensures same { result ≡ Ok true → map first_two rows.now ≡ map place_row places.now }
     ensures other { result ≡ Ok false → map first_two rows.now ≢ map place_row places.now }
-    ensures refused { IfErr result (λ fault. (fault ≡ RegFault.Damaged)
+    ensures refused { IfErr result (λ fault. (fault ≡ RowFault.Damaged)
         × ¬ ((row : _) → Has rows.now row → IsTwoNumbers row)) }
 {
     if rows.len() != places.len() {
@@ -97,10 +95,10 @@ fn are_places(rows: &[Row], places: &[Place]) -> Result<bool, RegFault>
 }
 
 /// Whether the row shows this place.
-fn is_place(row: &Row, place: Place) -> Result<bool, RegFault>
+fn is_place(row: &Row, place: Place) -> Result<bool, RowFault>
     ensures same { result ≡ Ok true → first_two row.now ≡ place_row place }
     ensures other { result ≡ Ok false → first_two row.now ≢ place_row place }
-    ensures refused { IfErr result (λ fault. (fault ≡ RegFault.Damaged) × ¬ IsTwoNumbers row.now) }
+    ensures refused { IfErr result (λ fault. (fault ≡ RowFault.Damaged) × ¬ IsTwoNumbers row.now) }
 {
     let seq = read_number(row, 0)?;
     let pos = read_number(row, 1)?;
@@ -116,17 +114,15 @@ fn holds_places<S: Alter>(
     places: &[Place],
 ) -> Result<bool, RegFault>
     ensures same { tx.new.conn.ghost_name ≡ tx.old.conn.ghost_name }
-    ensures call { Inside (state S.Store tx.old.conn.now) (state S.Store tx.new.conn.now) result
-        (λ _. OnlyReads) }
-    ensures told { InStore (state S.Store tx.old.conn.now) (state S.Store tx.new.conn.now)
-        (λ trees. Answers
-        (IfDamaged (¬ RowsRead trees db.0 key.now sysno places.now))
+    ensures call { InsideOf S.Store tx.old.conn tx.new.conn result (λ _. OnlyReads) }
+    ensures told { InStoreOf S.Store tx.old.conn tx.new.conn
+        (λ trees. Answers (IfDamaged (¬ RowsRead trees db.0 key.now sysno places.now))
         (λ same. IsTrue same ↔ RowsRead trees db.0 key.now sysno places.now) result) }
     ensures text { OnOk result (IsUtf8 key.now.term) }
 {
     let number = stored(sysno)?;
     let rows = place_rows(tx, KeyOf { db, key }, number)?;
-    are_places(&rows, places)
+    Ok(are_places(&rows, places)?)
 }
 
 /// Takes the places of the key in the record out.
@@ -137,8 +133,8 @@ fn places_take<S: Alter>(
     sysno: u64,
 ) -> Result<(), Error>
     ensures same { tx.new.conn.ghost_name ≡ tx.old.conn.ghost_name }
-    ensures call { Writes postings_tree (Loses (IsPlaceIn db.0 key.now sysno))
-        (state S.Store tx.old.conn.now) (state S.Store tx.new.conn.now) result }
+    ensures call { WritesOf S.Store tx.old.conn tx.new.conn postings_tree
+        (Loses (IsPlaceIn db.0 key.now sysno)) result }
 {
     let number = stored(sysno)?;
     let id = db.column();
@@ -156,11 +152,10 @@ fn places_put<S: Alter>(
     places: &[Place],
 ) -> Result<(), Error>
     ensures same { tx.new.conn.ghost_name ≡ tx.old.conn.ghost_name }
-    ensures call { Inside (state S.Store tx.old.conn.now) (state S.Store tx.new.conn.now) result
+    ensures call { InsideOf S.Store tx.old.conn tx.new.conn result
         (λ _ a b. IsTrue a.is_open → GoesOn a b) }
-    ensures put { InStore (state S.Store tx.old.conn.now) (state S.Store tx.new.conn.now)
-        (λ _. OnOk result
-        (Puts db.0 key.now sysno places.now (state S.Store tx.old.conn.now)
+    ensures put { InStoreOf S.Store tx.old.conn tx.new.conn
+        (λ _. OnOk result (Puts db.0 key.now sysno places.now (state S.Store tx.old.conn.now)
         (state S.Store tx.new.conn.now))) }
 {
     for place in places {
@@ -169,7 +164,7 @@ fn places_put<S: Alter>(
     Ok(())
 }
 
-/// Puts a place of the key in the record. `Store` also where a number is above `2^63 - 1`.
+/// Puts a place of the key in the record. It is refused where a number is above `2^63 - 1`.
 fn place_put<S: Alter>(
     tx: &mut Transaction<'_, S>,
     db: DatabaseId,
@@ -178,8 +173,8 @@ fn place_put<S: Alter>(
     place: Place,
 ) -> Result<(), Error>
     ensures same { tx.new.conn.ghost_name ≡ tx.old.conn.ghost_name }
-    ensures call { Writes postings_tree (Gains (posting_columns db.0 key.now sysno place))
-        (state S.Store tx.old.conn.now) (state S.Store tx.new.conn.now) result }
+    ensures call { WritesOf S.Store tx.old.conn tx.new.conn postings_tree
+        (Gains (posting_columns db.0 key.now sysno place)) result }
 {
     let number = stored(sysno)?;
     let seq = stored(place.seq)?;

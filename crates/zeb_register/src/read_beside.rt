@@ -1,10 +1,8 @@
 //! The rows of a table, read one at a time beside what is expected of them.
 
 ghost use Rattle.std.specs.Prelude.{◌≡◌, ◌≢◌, ◌<◌, ◌≤◌, ◌↔◌, List, ◌∷◌, length, drop, map, IfSome, MatchOption};
-ghost use Rattle.sqlite.specs.Held.{state};
 ghost use Rattle.sqlite.specs.Order.{Row};
-ghost use Rattle.zeb_register.specs.Calls.{Reading};
-ghost use Rattle.zeb_register.specs.Clauses.{IsReasonedError};
+ghost use Rattle.zeb_register.specs.Connections.{IsReasonedErrorOf, ReadingOf};
 ghost use Rattle.zeb_register.specs.Kept.{record_shown};
 ghost use Rattle.zeb_register.specs.PrivateRowExpected.{IsInOrder, posting_shown};
 ghost use Rattle.zeb_register.specs.PrivateRowReads.{Fits, ReadsRests, rests_text, size_of};
@@ -34,9 +32,8 @@ pub(crate) fn rests_agree<S: Alter>(
     db: i64,
     database: &ExpectedDatabase,
 ) -> Result<bool, Error>
-    ensures call { Reading (state S.Store conn.old) (state S.Store conn.new) result
-        (ReadsRests table db database.now) }
-    ensures refused { IsReasonedError (state S.Store conn.old) (state S.Store conn.new) result }
+    ensures call { ReadingOf S.Store conn.old conn.new result (ReadsRests table db database.now) }
+    ensures refused { IsReasonedErrorOf S.Store conn.old conn.new result }
 {
     // What is seen outside a transaction is what was committed.
     let _idle = conn.is_autocommit();

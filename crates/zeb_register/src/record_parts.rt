@@ -4,14 +4,14 @@ ghost use Rattle.std.specs.Prelude.{◌≡◌, ◌≢◌, ◌/◌, ◌++◌, ◌
 ghost use Rattle.std.specs.Prelude.{map, true, false, IfOk, OnOk};
 ghost use Rattle.zeb_blocks.specs.Blocks.{LiesIn};
 ghost use Rattle.zeb_blocks.specs.declared.postings.Posting.{Posting};
-ghost use Rattle.zeb_register.specs.Answers.{Answers, IfDamaged};
+ghost use Rattle.zeb_register.specs.Answers.{Answers, IfRowDamaged};
 ghost use Rattle.zeb_register.specs.Content.{places_in, posting_at};
 ghost use Rattle.zeb_register.specs.PrivateRecordParts.{ComesLast, EndsBelow, IsParted};
 ghost use Rattle.zeb_register.specs.UnitChanges.{IsStorableChange, TurnsPlaces};
 
-use crate::RegFault;
+use crate::RowFault;
 use crate::registers::{Place, RecordChange};
-use std::alloc::Global;
+use std::alloc::{AllocError, Global};
 use zeb_blocks::Posting;
 
 /// How many places more there is room for where postings are parted: most changes put a record's few places behind all others.
@@ -27,10 +27,9 @@ struct Parted {
 
 impl Parted {
     /// Puts a posting that stands behind the others.
-    fn put(&mut self, posting: Posting, sysno: u64) -> Result<(), RegFault>
-        ensures parted { OnOk result ((list : List Posting) → IsParted sysno list self.old
+    fn put(&mut self, posting: Posting, sysno: u64) -> Result<(), AllocError>
+        ensures { OnOk result ((list : List Posting) → IsParted sysno list self.old
             → IsParted sysno (list ++ posting ∷ []) self.new) }
-        ensures honest { Answers (λ fault. fault ≡ RegFault.Memory) (λ _. Unit {0}) result }
     {
         if posting.sysno < sysno {
             self.before.push(posting)?;
@@ -47,9 +46,8 @@ impl Parted {
 }
 
 /// The postings of a list, parted at a record.
-fn parted_at(alloc: Global, list: &[Posting], sysno: u64) -> Result<Parted, RegFault>
-    ensures { Answers (λ fault. fault ≡ RegFault.Memory) (λ parted. IsParted sysno list.now parted)
-        result }
+fn parted_at(alloc: Global, list: &[Posting], sysno: u64) -> Result<Parted, AllocError>
+    ensures { IfOk result (λ parted. IsParted sysno list.now parted) }
 {
     let mut parted = Parted {
         before: Vec::with_capacity(alloc, list.len().saturating_add(MORE_PLACES))?,
@@ -71,9 +69,8 @@ fn are_same(one: &[Place], two: &[Place]) -> bool
 }
 
 /// A list with the places of a record behind it.
-fn with_places(list: Vec<Posting>, sysno: u64, places: &[Place]) -> Result<Vec<Posting>, RegFault>
-    ensures { Answers (λ fault. fault ≡ RegFault.Memory)
-        (λ next. next.items ≡ list.items ++ map (posting_at sysno) places.now) result }
+fn with_places(list: Vec<Posting>, sysno: u64, places: &[Place]) -> Result<Vec<Posting>, AllocError>
+    ensures { IfOk result (λ next. next.items ≡ list.items ++ map (posting_at sysno) places.now) }
 {
     let mut list = list;
     for place in places {
@@ -92,10 +89,9 @@ fn joined(
     sysno: u64,
     places: &[Place],
     behind: &[Posting],
-) -> Result<Vec<Posting>, RegFault>
-    ensures { Answers (λ fault. fault ≡ RegFault.Memory)
-        (λ list. list.items ≡ before.items ++ (map (posting_at sysno) places.now ++ behind.now))
-        result }
+) -> Result<Vec<Posting>, AllocError>
+    ensures { IfOk result
+        (λ list. list.items ≡ before.items ++ (map (posting_at sysno) places.now ++ behind.now)) }
 {
     let mut list = with_places(before, sysno, places)?;
     list.extend_from_slice(behind)?;
@@ -124,19 +120,19 @@ fn postings_parted(
     alloc: Global,
     list: &[Posting],
     change: &RecordChange<'_>,
-) -> Result<Vec<Posting>, RegFault>
+) -> Result<Vec<Posting>, RowFault>
     requires lies { LiesIn (change.now.sysno / 256) list.now }
     requires stored { IsStorableChange change.now }
-    ensures turned { Answers (λ fault. (fault ≢ RegFault.Store)
-        × IfDamaged (places_in change.now.sysno list.now ≢ change.now.old.now) fault)
+    ensures turned { Answers
+        (IfRowDamaged (places_in change.now.sysno list.now ≢ change.now.old.now))
         (λ next. TurnsPlaces change.now list.now next.items) result }
     ensures lies { IfOk result (λ next. LiesIn (change.now.sysno / 256) next.items) }
 {
     let parted = parted_at(alloc, list, change.sysno)?;
     if !are_same(&parted.own, change.old) {
-        return Err(RegFault::Damaged);
+        return Err(RowFault::Damaged);
     }
-    joined(parted.before, change.sysno, change.new, &parted.behind)
+    Ok(joined(parted.before, change.sysno, change.new, &parted.behind)?)
 }
 
 /// The postings of a block, with a record's places put in the place of its old ones. `Damaged` just where the record has other places than the
@@ -145,16 +141,16 @@ pub fn postings_changed(
     alloc: Global,
     list: Vec<Posting>,
     change: &RecordChange<'_>,
-) -> Result<Vec<Posting>, RegFault>
+) -> Result<Vec<Posting>, RowFault>
     requires lies { LiesIn (change.now.sysno / 256) list.items }
     requires stored { IsStorableChange change.now }
-    ensures turned { Answers (λ fault. (fault ≢ RegFault.Store)
-        × IfDamaged (places_in change.now.sysno list.items ≢ change.now.old.now) fault)
+    ensures turned { Answers
+        (IfRowDamaged (places_in change.now.sysno list.items ≢ change.now.old.now))
         (λ next. TurnsPlaces change.now list.items next.items) result }
     ensures lies { IfOk result (λ next. LiesIn (change.now.sysno / 256) next.items) }
 {
     if comes_last(&list, change) {
-        return with_places(list, change.sysno, change.new);
+        return Ok(with_places(list, change.sysno, change.new)?);
     }
     postings_parted(alloc, &list, change)
 }

@@ -5,10 +5,10 @@ ghost use Rattle.std.specs.List.{AllByRecursion};
 ghost use Rattle.sqlite.specs.Held.{state};
 ghost use Rattle.sqlite.specs.State.{IsUnchanged};
 ghost use Rattle.sqlite_rules.specs.Lists.{Has};
-ghost use Rattle.zeb_register.specs.Calls.{GoesOn, Inside, Reading};
-ghost use Rattle.zeb_register.specs.Clauses.{InStore, IsReasonedError};
-ghost use Rattle.zeb_register.specs.Clauses.{Tells, TellsHeld, TellsWhether};
+ghost use Rattle.zeb_register.specs.Calls.{GoesOn};
+ghost use Rattle.zeb_register.specs.Clauses.{TellsHeld};
 ghost use Rattle.sqlite.specs.Tree.{Trees};
+ghost use Rattle.zeb_register.specs.Connections.{InStoreOf, InsideOf, IsReasonedErrorOf, ReadingOf, TellsOf, TellsWhetherOf};
 ghost use Rattle.zeb_register.specs.Content.{AreChangedAt, Content, HasRisingLists, IsChangedAt, IsStorable, IsWithout, OldsRise};
 ghost use Rattle.zeb_register.specs.Formats.{Format, holds_in, version_of};
 ghost use Rattle.zeb_register.specs.Sound.{keeps_malformed};
@@ -130,14 +130,14 @@ pub trait Layout {
         new: &[Place],
     ) -> Result<(), RegFault>
         ensures same { tx.new.conn.ghost_name ≡ tx.old.conn.ghost_name }
-        ensures call { Inside (state S.Store tx.old.conn.now) (state S.Store tx.new.conn.now) result
-            (λ _. GoesOn) }
+        ensures call { InsideOf S.Store tx.old.conn tx.new.conn result (λ _. GoesOn) }
         ensures units { ChangesKey format db.0 key.now
             (record { sysno = sysno; old = old.entry; new = new.entry } ∷ [])
             (state S.Store tx.old.conn.now) (state S.Store tx.new.conn.now) result }
-        ensures work { InStore (state S.Store tx.old.conn.now) (state S.Store tx.new.conn.now)
-            (λ trees. OnOk result (works_for format row_work 1 trees
-            (state S.Store tx.new.conn.now).now.trees work.old work.new)) }
+        ensures work { InStoreOf S.Store tx.old.conn tx.new.conn
+            (λ trees. OnOk result
+            (works_for format row_work 1 trees (state S.Store tx.new.conn.now).now.trees work.old
+            work.new)) }
         ensures no_work { CountsNothing format row_work → work.new ≡ work.old }
     {
         let change = RecordChange { sysno, old, new };
@@ -161,12 +161,12 @@ pub trait Layout {
     ) -> Result<(), RegFault>
         requires rising { NumbersRise changes.now }
         ensures same { tx.new.conn.ghost_name ≡ tx.old.conn.ghost_name }
-        ensures call { Inside (state S.Store tx.old.conn.now) (state S.Store tx.new.conn.now) result
-            (λ _. GoesOn) }
+        ensures call { InsideOf S.Store tx.old.conn tx.new.conn result (λ _. GoesOn) }
         ensures units { ChangesKey format db.0 key.now changes.now
             (state S.Store tx.old.conn.now) (state S.Store tx.new.conn.now) result }
-        ensures work { InStore (state S.Store tx.old.conn.now) (state S.Store tx.new.conn.now)
-            (λ trees. OnOk result (works_for format row_work (length changes.now) trees
+        ensures work { InStoreOf S.Store tx.old.conn tx.new.conn
+            (λ trees. OnOk result
+            (works_for format row_work (length changes.now) trees
             (state S.Store tx.new.conn.now).now.trees work.old work.new)) }
         ensures no_work { CountsNothing format row_work → work.new ≡ work.old };
 
@@ -182,12 +182,12 @@ pub trait Layout {
     ) -> Result<(), RegFault>
         requires rising { IsRun run.now }
         ensures same { tx.new.conn.ghost_name ≡ tx.old.conn.ghost_name }
-        ensures call { Inside (state S.Store tx.old.conn.now) (state S.Store tx.new.conn.now) result
-            (λ _. GoesOn) }
+        ensures call { InsideOf S.Store tx.old.conn tx.new.conn result (λ _. GoesOn) }
         ensures units { ChangesKeys format db.0 run.now
             (state S.Store tx.old.conn.now) (state S.Store tx.new.conn.now) result }
-        ensures work { InStore (state S.Store tx.old.conn.now) (state S.Store tx.new.conn.now)
-            (λ trees. OnOk result (works_for format row_work (changes_in run.now) trees
+        ensures work { InStoreOf S.Store tx.old.conn tx.new.conn
+            (λ trees. OnOk result
+            (works_for format row_work (changes_in run.now) trees
             (state S.Store tx.new.conn.now).now.trees work.old work.new)) }
         ensures no_work { CountsNothing format row_work → work.new ≡ work.old }
     {
@@ -203,9 +203,8 @@ pub trait Layout {
     /// Takes a database out, with its records and its rows in every table of the registers.
     fn database_take<S: Alter>(tx: &mut Transaction<'_, S>, db: DatabaseId) -> Result<(), Error>
         ensures same { tx.new.conn.ghost_name ≡ tx.old.conn.ghost_name }
-        ensures call { Inside (state S.Store tx.old.conn.now) (state S.Store tx.new.conn.now) result
-            (λ _. GoesOn) }
-        ensures taken { InStore (state S.Store tx.old.conn.now) (state S.Store tx.new.conn.now)
+        ensures call { InsideOf S.Store tx.old.conn tx.new.conn result (λ _. GoesOn) }
+        ensures taken { InStoreOf S.Store tx.old.conn tx.new.conn
             (λ trees. OnOk result
             (TakesWhole db.0 (state S.Store tx.old.conn.now) (state S.Store tx.new.conn.now)
             × ((before after : Content) → holds_in format trees before → IsWithout db.0 before after
@@ -219,11 +218,10 @@ pub trait Layout {
         db: DatabaseId,
         key: &Key,
     ) -> Result<Vec<Posting>, RegFault>
-        ensures call { Reading (state S.Store conn.old) (state S.Store conn.new) result
-            (λ _. IsUnchanged) }
+        ensures call { ReadingOf S.Store conn.old conn.new result (λ _. IsUnchanged) }
         ensures units { ListsKey format db.0 key.now (state S.Store conn.old)
             (state S.Store conn.new) result }
-        ensures work { Tells (state S.Store conn.old) (state S.Store conn.new) result
+        ensures work { TellsOf S.Store conn.old conn.new result
             (λ _ list. Works 0 0 (block_rows list.items) 0 work.old work.new) }
         ensures no_work { row_work ≡ 0 → work.new ≡ work.old };
 
@@ -237,8 +235,7 @@ pub trait Layout {
         first: &str,
         last: &str,
     ) -> Result<Vec<Posting>, RegFault>
-        ensures call { Reading (state S.Store conn.old) (state S.Store conn.new) result
-            (λ _. IsUnchanged) }
+        ensures call { ReadingOf S.Store conn.old conn.new result (λ _. IsUnchanged) }
         ensures units { ListsTerms format at first.now last.now (state S.Store conn.old)
             (state S.Store conn.new) result }
         ensures work { TellsHeld (holds_in format) (state S.Store conn.old) (state S.Store conn.new)
@@ -256,8 +253,7 @@ pub trait Layout {
         work: &mut Work,
         at: RegisterOf,
     ) -> Result<Vec<TermCount>, RegFault>
-        ensures call { Reading (state S.Store conn.old) (state S.Store conn.new) result
-            (λ _. IsUnchanged) }
+        ensures call { ReadingOf S.Store conn.old conn.new result (λ _. IsUnchanged) }
         ensures units { TellsAll format at (state S.Store conn.old)
             (state S.Store conn.new) result }
         ensures work { IfOk result (λ list. Works (row_work * length list.items) 0 0 0 work.old
@@ -273,8 +269,7 @@ pub trait Layout {
         start: &str,
         n: u64,
     ) -> Result<Vec<TermCount>, RegFault>
-        ensures call { Reading (state S.Store conn.old) (state S.Store conn.new) result
-            (λ _. IsUnchanged) }
+        ensures call { ReadingOf S.Store conn.old conn.new result (λ _. IsUnchanged) }
         ensures units { TellsFrom format at start.now n (state S.Store conn.old)
             (state S.Store conn.new) result }
         ensures work { IfOk result (λ list. Works (row_work * length list.items) 0 0 0 work.old
@@ -290,8 +285,7 @@ pub trait Layout {
         start: &str,
         n: u64,
     ) -> Result<Vec<TermCount>, RegFault>
-        ensures call { Reading (state S.Store conn.old) (state S.Store conn.new) result
-            (λ _. IsUnchanged) }
+        ensures call { ReadingOf S.Store conn.old conn.new result (λ _. IsUnchanged) }
         ensures units { TellsBefore format at start.now n (state S.Store conn.old)
             (state S.Store conn.new) result }
         ensures work { IfOk result (λ list. Works (row_work * length list.items) 0 0 0 work.old
@@ -306,11 +300,10 @@ pub trait Layout {
         work: &mut Work,
         at: RegisterOf,
     ) -> Result<Totals, RegFault>
-        ensures call { Reading (state S.Store conn.old) (state S.Store conn.new) result
-            (λ _. IsUnchanged) }
+        ensures call { ReadingOf S.Store conn.old conn.new result (λ _. IsUnchanged) }
         ensures units { TellsTotals format at (state S.Store conn.old) (state S.Store conn.new)
             result }
-        ensures work { Tells (state S.Store conn.old) (state S.Store conn.new) result
+        ensures work { TellsOf S.Store conn.old conn.new result
             (λ trees _. WorksThrough format row_work block_rows at trees work.old work.new) }
         ensures no_work { row_work ≡ 0 → work.new ≡ work.old };
 
@@ -320,12 +313,10 @@ pub trait Layout {
         conn: &mut Connection<S>,
         expected: &Expected,
     ) -> Result<bool, Error>
-        ensures call { Reading (state S.Store conn.old) (state S.Store conn.new) result
-            (λ _. IsUnchanged) }
-        ensures value { TellsWhether (λ trees. AreExpected format trees expected.now)
-            (IsOrdered expected.now)
-            (state S.Store conn.old) (state S.Store conn.new) result }
-        ensures refused { IsReasonedError (state S.Store conn.old) (state S.Store conn.new) result };
+        ensures call { ReadingOf S.Store conn.old conn.new result (λ _. IsUnchanged) }
+        ensures value { TellsWhetherOf S.Store conn.old conn.new
+            (λ trees. AreExpected format trees expected.now) (IsOrdered expected.now) result }
+        ensures refused { IsReasonedErrorOf S.Store conn.old conn.new result };
 }
 
 /// A content is told by its postings. It can be changed at one key of one record, and a database can be taken from it, each in one way.

@@ -7,8 +7,9 @@ ghost use Rattle.zeb_register.specs.Tables.{no_schema, store_schema};
 ghost use Rattle.zeb_register.specs.PrivateRowStatements.{IsMade};
 ghost use Rattle.zeb_register.specs.PrivateStoreTables.{HasEmpty, create_text, schema_after, schema_before};
 ghost use Rattle.zeb_register.specs.Store.{IsEmptyStore};
-ghost use Rattle.zeb_register.specs.Calls.{GoesOn, Inside};
+ghost use Rattle.zeb_register.specs.Calls.{GoesOn};
 ghost use Rattle.zeb_register.specs.Clauses.{DoneUnder, KeepsAllTables};
+ghost use Rattle.zeb_register.specs.Connections.{InsideOf};
 
 use sqlite::{Alter, Error, Transaction};
 
@@ -65,8 +66,7 @@ fn table_make<S: Alter>(tx: &mut Transaction<'_, S>, table: StoreTable) -> Resul
         (state S.Store tx.new.conn.now) result IsUnchanged }
     ensures kept { KeepsAllTables (state S.Store tx.old.conn.now) (state S.Store tx.new.conn.now)
         result }
-    ensures call { Inside (state S.Store tx.old.conn.now) (state S.Store tx.new.conn.now) result
-        (λ _. GoesOn) }
+    ensures call { InsideOf S.Store tx.old.conn tx.new.conn result (λ _. GoesOn) }
 {
     tx.execute(create_text(table), &[])?;
     Ok(())
@@ -90,8 +90,7 @@ fn tables_make<S: Alter>(
         (state S.Store tx.new.conn.now) result IsUnchanged }
     ensures kept { KeepsAllTables (state S.Store tx.old.conn.now) (state S.Store tx.new.conn.now)
         result }
-    ensures call { Inside (state S.Store tx.old.conn.now) (state S.Store tx.new.conn.now) result
-        (λ _. GoesOn) }
+    ensures call { InsideOf S.Store tx.old.conn tx.new.conn result (λ _. GoesOn) }
 {
     table_make(tx, first)?;
     table_make(tx, second)?;
@@ -100,7 +99,7 @@ fn tables_make<S: Alter>(
 
 /// Makes the tables that are absent. No row of a table that is there changes.
 ///
-/// `Store` also where a table of one of these names is there with other columns that the statement doesn't fit.
+/// It is refused where a table of one of these names is there with other columns that the statement doesn't fit.
 pub fn make_tables<S: Alter>(tx: &mut Transaction<'_, S>) -> Result<(), Error>
     ensures same { tx.new.conn.ghost_name ≡ tx.old.conn.ghost_name }
     ensures made { DoneUnder no_schema (state S.Store tx.old.conn.now)
@@ -109,8 +108,7 @@ pub fn make_tables<S: Alter>(tx: &mut Transaction<'_, S>) -> Result<(), Error>
         (state S.Store tx.new.conn.now) result IsUnchanged }
     ensures kept { KeepsAllTables (state S.Store tx.old.conn.now) (state S.Store tx.new.conn.now)
         result }
-    ensures call { Inside (state S.Store tx.old.conn.now) (state S.Store tx.new.conn.now) result
-        (λ _. GoesOn) }
+    ensures call { InsideOf S.Store tx.old.conn tx.new.conn result (λ _. GoesOn) }
 {
     tables_make(
         tx,

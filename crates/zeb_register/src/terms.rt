@@ -1,38 +1,34 @@
 //! The terms of a register, read from the rows of its postings.
 
-ghost use Rattle.std.specs.Prelude.{◌≡◌, ◌≢◌, ◌<◌, ◌+◌, ◌^◌, ◌++◌, [], ◌∷◌, IfOk, OnOk, string_bytes};
+ghost use Rattle.std.specs.Prelude.{◌≡◌, ◌<◌, ◌+◌, ◌^◌, ◌++◌, [], ◌∷◌, IfOk, OnOk, string_bytes};
 ghost use Rattle.std.specs.List.Sorted.{IsStrictlySortedBy};
-ghost use Rattle.sqlite.specs.Held.{state};
 ghost use Rattle.sqlite.specs.State.{IsUnchanged};
 ghost use Rattle.sqlite.specs.Order.{row_cmp};
 ghost use Rattle.sqlite_rules.specs.Lists.{Has};
-ghost use Rattle.zeb_register.specs.Calls.{Reading};
-ghost use Rattle.zeb_register.specs.Clauses.{IsReasoned, OnStore};
-ghost use Rattle.zeb_register.specs.Content.{posting_cmp};
-ghost use Rattle.zeb_register.specs.Occurring.{IsCount, AreCounts, key_in};
+ghost use Rattle.zeb_register.specs.Occurring.{AreCounts, key_in};
 ghost use Rattle.zeb_register.specs.PlainUnits.{HasShownNone, RowsCount};
 ghost use Rattle.zeb_register.specs.PrivateKeyColumns.{HasTermOf};
 ghost use Rattle.zeb_register.specs.Terms.{Comes};
-ghost use Rattle.zeb_register.specs.PrivateRowTerms.{IsInRecord, IsShown, ShowsOccurrence, IsOccurrenceRow, SomeIsNoOccurrence, ShowsTerm, IsTermRow};
-ghost use Rattle.zeb_register.specs.Answers.{Answers, IfDamaged};
+ghost use Rattle.zeb_register.specs.PrivateRowTerms.{IsShown, ShowsOccurrence, IsOccurrenceRow, SomeIsNoOccurrence, ShowsTerm, IsTermRow};
+ghost use Rattle.zeb_register.specs.Answers.{Answers, IfDamaged, IfRowDamaged};
+ghost use Rattle.zeb_register.specs.Connections.{IsReasonedOf, OnStoreOf, ReadingOf};
 ghost use Rattle.zeb_register.specs.PrivateRowTerms.{FindsNearest, HidesText, IsCountedIn};
 
-use crate::RegFault;
 use crate::plain::postings_under;
 use crate::registers::{RegisterOf, TermCount};
 use crate::statements::postings::{rows_before, rows_from};
 use crate::values::{read, read_number};
+use crate::{RegFault, RowFault};
 use sqlite::{Alter, Connection, Row};
 use std::alloc::{AllocError, Global};
-use zeb_blocks::Posting;
+use zeb_blocks::records_in;
 use zeb_keys::Term;
 
 /// The terms of rows that rise by term and then by record, each with the number of its records.
-pub(crate) fn count_terms(alloc: Global, rows: &[Row]) -> Result<Vec<TermCount>, RegFault>
+pub(crate) fn count_terms(alloc: Global, rows: &[Row]) -> Result<Vec<TermCount>, RowFault>
     ensures counts { IfOk result (λ list. IsStrictlySortedBy row_cmp rows.now
         → AreCounts (IsShown rows.now) list.items) }
-    ensures occur { Answers (λ fault. (fault ≢ RegFault.Store)
-        × IfDamaged (SomeIsNoOccurrence rows.now) fault)
+    ensures occur { Answers (IfRowDamaged (SomeIsNoOccurrence rows.now))
         (λ _. (row : _) → Has rows.now row → IsOccurrenceRow row) result }
 {
     let mut counts: Vec<TermCount> = Vec::new(alloc);
@@ -46,11 +42,10 @@ pub(crate) fn count_terms(alloc: Global, rows: &[Row]) -> Result<Vec<TermCount>,
 }
 
 /// The term and the record's number that a row shows, which shows a place in the record too.
-fn occurrence_of(row: &Row) -> Result<(Term, u64), RegFault>
+fn occurrence_of(row: &Row) -> Result<(Term, u64), RowFault>
     ensures ok { IfOk result (λ o. ShowsOccurrence row.now o.0 o.1) }
     ensures occurs { OnOk result (IsOccurrenceRow row.now) }
-    ensures honest { result ≡ Err RegFault.Damaged → ¬ IsOccurrenceRow row.now }
-    ensures unstored { result ≢ Err RegFault.Store }
+    ensures honest { result ≡ Err RowFault.Damaged → ¬ IsOccurrenceRow row.now }
 {
     let term: String = read(row, 0)?;
     let sysno = read_number(row, 1)?;
@@ -82,21 +77,6 @@ fn count_occurrence(
     Ok(())
 }
 
-/// How many records a list has that rises.
-fn records_in(list: &[Posting]) -> u64
-    ensures { IsStrictlySortedBy posting_cmp list.now → IsCount (IsInRecord list.now) result }
-{
-    let mut records: u64 = 0;
-    let mut newest: u64 = 0;
-    for posting in list {
-        if records == 0 || posting.sysno != newest {
-            records += 1;
-        }
-        newest = posting.sysno;
-    }
-    records
-}
-
 /// The term with the number of records that have it.
 pub(crate) fn term_count<S: Alter>(
     alloc: Global,
@@ -104,14 +84,14 @@ pub(crate) fn term_count<S: Alter>(
     at: RegisterOf,
     term: String,
 ) -> Result<TermCount, RegFault>
-    ensures call { Reading (state S.Store conn.old) (state S.Store conn.new) result
-        (λ _. IsUnchanged) }
-    ensures counts { OnStore (state S.Store conn.old) (state S.Store conn.new) (λ trees. Answers
-        (IfDamaged (HasShownNone trees at.db.0 (key_in at.index at.register (string_bytes term))))
+    ensures call { ReadingOf S.Store conn.old conn.new result (λ _. IsUnchanged) }
+    ensures counts { OnStoreOf S.Store conn.old conn.new
+        (λ trees. Answers (IfDamaged
+        (HasShownNone trees at.db.0 (key_in at.index at.register (string_bytes term))))
         (λ t. (t.term ≡ string_bytes term)
         × RowsCount trees at.db.0 (key_in at.index at.register (string_bytes term)) t.records)
         result) }
-    ensures refused { IsReasoned (state S.Store conn.old) (state S.Store conn.new) result }
+    ensures refused { IsReasonedOf S.Store conn.old conn.new result }
 {
     let list = postings_under(alloc, conn, at, term.as_str())?;
     let records = records_in(&list);
@@ -131,11 +111,10 @@ pub fn text_above(alloc: Global, text: &str) -> Result<String, AllocError>
 }
 
 /// The term that the first of the rows shows.
-fn term_of(rows: &[Row]) -> Result<Option<String>, RegFault>
+fn term_of(rows: &[Row]) -> Result<Option<String>, RowFault>
     ensures ok { IfOk result (ShowsTerm rows.now) }
-    ensures honest { result ≡ Err RegFault.Damaged
+    ensures honest { result ≡ Err RowFault.Damaged
         → ¬ ((row : _) → Has rows.now row → IsTermRow row) }
-    ensures unstored { result ≢ Err RegFault.Store }
 {
     match rows.first() {
         Some(row) => Ok(Some(read(row, 0)?)),
@@ -149,15 +128,15 @@ pub(crate) fn term_from<S: Alter>(
     at: RegisterOf,
     start: &str,
 ) -> Result<Option<String>, RegFault>
-    ensures call { Reading (state S.Store conn.old) (state S.Store conn.new) result
-        (λ _. IsUnchanged) }
-    ensures finds { OnStore (state S.Store conn.old) (state S.Store conn.new) (λ trees. Answers
-        (IfDamaged (HidesText (λ term. HasTermOf at trees term × ¬ Comes term start.now) Comes))
-        (FindsNearest (λ term. HasTermOf at trees term × ¬ Comes term start.now) Comes) result) }
-    ensures refused { IsReasoned (state S.Store conn.old) (state S.Store conn.new) result }
+    ensures call { ReadingOf S.Store conn.old conn.new result (λ _. IsUnchanged) }
+    ensures finds { OnStoreOf S.Store conn.old conn.new
+        (λ trees. Answers (IfDamaged (HidesText (λ term. HasTermOf at trees term
+        × ¬ Comes term start.now) Comes)) (FindsNearest
+        (λ term. HasTermOf at trees term × ¬ Comes term start.now) Comes) result) }
+    ensures refused { IsReasonedOf S.Store conn.old conn.new result }
 {
     let rows = rows_from(conn, at, start)?;
-    term_of(&rows)
+    Ok(term_of(&rows)?)
 }
 
 /// The greatest term of the register that is below `start`.
@@ -166,15 +145,14 @@ pub(crate) fn term_before<S: Alter>(
     at: RegisterOf,
     start: &str,
 ) -> Result<Option<String>, RegFault>
-    ensures call { Reading (state S.Store conn.old) (state S.Store conn.new) result
-        (λ _. IsUnchanged) }
-    ensures finds { OnStore (state S.Store conn.old) (state S.Store conn.new) (λ trees. Answers
-        (IfDamaged (HidesText (λ term. HasTermOf at trees term × Comes term start.now)
-        (λ one other. Comes other one)))
+    ensures call { ReadingOf S.Store conn.old conn.new result (λ _. IsUnchanged) }
+    ensures finds { OnStoreOf S.Store conn.old conn.new
+        (λ trees. Answers (IfDamaged (HidesText (λ term. HasTermOf at trees term
+        × Comes term start.now) (λ one other. Comes other one)))
         (FindsNearest (λ term. HasTermOf at trees term × Comes term start.now)
         (λ one other. Comes other one)) result) }
-    ensures refused { IsReasoned (state S.Store conn.old) (state S.Store conn.new) result }
+    ensures refused { IsReasonedOf S.Store conn.old conn.new result }
 {
     let rows = rows_before(conn, at, start)?;
-    term_of(&rows)
+    Ok(term_of(&rows)?)
 }

@@ -7,7 +7,7 @@ ghost use Rattle.sqlite.specs.Values.{IsInt};
 ghost use Rattle.sqlite.specs.Order.{column};
 ghost use Rattle.zeb_register.specs.Faults.{fault_of};
 
-use crate::RegFault;
+use crate::{RegFault, RowFault};
 use sqlite::types::{FromSql, ValueRef};
 use sqlite::{Error, ErrorCode, Row};
 
@@ -20,53 +20,52 @@ pub fn stored(number: u64) -> Result<i64, Error>
 }
 
 /// The value at this place of a row, in memory of its own. `Damaged` where it is of another type or no UTF-8.
-pub fn read<T: FromSql>(row: &Row, at: usize) -> Result<T, RegFault>
+pub fn read<T: FromSql>(row: &Row, at: usize) -> Result<T, RowFault>
     ensures ok { IfOk result (T.FromSql.reads_as (column row.now at)) }
-    ensures honest { result ≡ Err RegFault.Damaged → at < length row.now
+    ensures honest { result ≡ Err RowFault.Damaged → at < length row.now
         → ¬ T.FromSql.is_readable (column row.now at) }
-    ensures unstored { result ≢ Err RegFault.Store }
 {
     match row.get(at) {
         Ok(value) => Ok(value),
-        Err(Error::SqliteFailure(ErrorCode::OutOfMemory)) => Err(RegFault::Memory),
-        Err(_) => Err(RegFault::Damaged),
+        Err(Error::SqliteFailure(ErrorCode::OutOfMemory)) => Err(RowFault::Memory),
+        Err(_) => Err(RowFault::Damaged),
     }
 }
 
 /// The number at this place of a row. It takes no memory: it is refused as `Damaged` alone, where it is of another type or below 0.
-pub fn read_number(row: &Row, at: usize) -> Result<u64, RegFault>
+pub fn read_number(row: &Row, at: usize) -> Result<u64, RowFault>
     ensures ok { IfOk result (λ n. column row.now at ≡ Int (pos n)) }
-    ensures refused { IfErr result (λ fault. (fault ≡ RegFault.Damaged)
+    ensures refused { IfErr result (λ fault. (fault ≡ RowFault.Damaged)
         × ¬ ((n : ℕ) × (column row.now at ≡ Int (pos n)))) }
 {
     match row.get_ref(at) {
-        Ok(ValueRef::Int(value)) => u64::try_from(value).map_err(|_| RegFault::Damaged),
-        _ => Err(RegFault::Damaged),
+        Ok(ValueRef::Int(value)) => u64::try_from(value).map_err(|_| RowFault::Damaged),
+        _ => Err(RowFault::Damaged),
     }
 }
 
 /// The integer at this place of a row. It takes no memory: it is refused as `Damaged` alone, where it is of another type.
-pub(crate) fn read_integer(row: &Row, at: usize) -> Result<i64, RegFault>
+pub(crate) fn read_integer(row: &Row, at: usize) -> Result<i64, RowFault>
     ensures ok { IfOk result (λ n. (column row.now at ≡ Int n) × FitsSigned w64 n) }
-    ensures refused { IfErr result (λ fault. (fault ≡ RegFault.Damaged)
+    ensures refused { IfErr result (λ fault. (fault ≡ RowFault.Damaged)
         × ¬ IsInt (column row.now at)) }
 {
     match row.get_ref(at) {
         Ok(ValueRef::Int(value)) => Ok(value),
-        _ => Err(RegFault::Damaged),
+        _ => Err(RowFault::Damaged),
     }
 }
 
 /// The bytes at this place of a row, as they lie there. They take no memory: they are refused as `Damaged` alone, where they are of another
 /// type.
-pub fn read_bytes(row: &Row, at: usize) -> Result<&[u8], RegFault>
+pub fn read_bytes(row: &Row, at: usize) -> Result<&[u8], RowFault>
     ensures ok { IfOk result (λ bytes. column row.now at ≡ Blob bytes.now) }
-    ensures refused { IfErr result (λ fault. (fault ≡ RegFault.Damaged)
+    ensures refused { IfErr result (λ fault. (fault ≡ RowFault.Damaged)
         × ((bytes : List ℕ) → column row.now at ≢ Blob bytes)) }
 {
     match row.get_ref(at) {
         Ok(ValueRef::Blob(bytes)) => Ok(bytes),
-        _ => Err(RegFault::Damaged),
+        _ => Err(RowFault::Damaged),
     }
 }
 

@@ -1,9 +1,9 @@
 //! All rows of all tables.
 
 ghost use Rattle.std.specs.Prelude.{◌≡◌};
-ghost use Rattle.sqlite.specs.Held.{state};
 ghost use Rattle.zeb_register.specs.Store.{IsStore, IsEmptyStore, LacksLists, LacksRegisters, KeepsLists};
-ghost use Rattle.zeb_register.specs.Calls.{GoesOn, Inside};
+ghost use Rattle.zeb_register.specs.Calls.{GoesOn};
+ghost use Rattle.zeb_register.specs.Connections.{InsideOf};
 
 use crate::statements::whole::table_wipe;
 use crate::tables::StoreTable;
@@ -12,7 +12,7 @@ use sqlite::{Alter, Error, Transaction};
 /// Takes every row out of every table.
 pub fn wipe<S: Alter>(tx: &mut Transaction<'_, S>) -> Result<(), Error>
     ensures same { tx.new.conn.ghost_name ≡ tx.old.conn.ghost_name }
-    ensures call { Inside (state S.Store tx.old.conn.now) (state S.Store tx.new.conn.now) result
+    ensures call { InsideOf S.Store tx.old.conn tx.new.conn result
         (λ _ a b. GoesOn a b × (IsStore a → IsEmptyStore b)) }
 {
     lists_wipe(tx)?;
@@ -22,7 +22,7 @@ pub fn wipe<S: Alter>(tx: &mut Transaction<'_, S>) -> Result<(), Error>
 /// Takes the rows of the lists out.
 fn lists_wipe<S: Alter>(tx: &mut Transaction<'_, S>) -> Result<(), Error>
     ensures same { tx.new.conn.ghost_name ≡ tx.old.conn.ghost_name }
-    ensures call { Inside (state S.Store tx.old.conn.now) (state S.Store tx.new.conn.now) result
+    ensures call { InsideOf S.Store tx.old.conn tx.new.conn result
         (λ _ a b. GoesOn a b × (IsStore a → IsStore b × LacksLists b.now.trees)) }
 {
     table_wipe(tx, StoreTable::Meta)?;
@@ -33,7 +33,7 @@ fn lists_wipe<S: Alter>(tx: &mut Transaction<'_, S>) -> Result<(), Error>
 /// Takes every row out of the tables of the registers. What is kept of texts, databases and records stays.
 pub fn registers_wipe<S: Alter>(tx: &mut Transaction<'_, S>) -> Result<(), Error>
     ensures same { tx.new.conn.ghost_name ≡ tx.old.conn.ghost_name }
-    ensures call { Inside (state S.Store tx.old.conn.now) (state S.Store tx.new.conn.now) result
+    ensures call { InsideOf S.Store tx.old.conn tx.new.conn result
         (λ _ a b. GoesOn a b × (IsStore a → IsStore b × LacksRegisters b.now.trees
         × KeepsLists a.now.trees b.now.trees)) }
 {

@@ -2,7 +2,7 @@
 
 ghost use Rattle.std.specs.Prelude.{◌≡◌, IfOk, IsTrue, OnOk};
 ghost use Rattle.sqlite.specs.Held.{state};
-ghost use Rattle.zeb_register.specs.Calls.{Reading};
+ghost use Rattle.zeb_register.specs.Connections.{ReadingOf};
 ghost use Rattle.zeb_search.specs.SearchCounts.{CountsByContent};
 ghost use Rattle.zeb_search.specs.PrivateSearchCounts.{NoRows};
 ghost use Rattle.zeb_search.specs.DictRows.{EntryDict, RegisterDict};
@@ -101,8 +101,7 @@ fn terms_wanted<S: Alter, L: Layout>(
     of: RegisterOf,
     wanted: Wanted<'_>,
 ) -> Result<Vec<TermCount>, RegFault>
-    ensures call { Reading (state S.Store connection.old) (state S.Store connection.new) result
-        (λ _. IsUntouched) }
+    ensures call { ReadingOf S.Store connection.old connection.new result (λ _. IsUntouched) }
     ensures units { MeetsTerms L.format of wanted.entry
         (state S.Store connection.old) (state S.Store connection.new) result }
     ensures work { OnOk result (CountsByContent L.format
@@ -139,8 +138,7 @@ pub(crate) fn keys_wanted<S: Alter, L: Layout>(
     of: RegisterOf,
     wanted: Wanted<'_>,
 ) -> Result<FoundKeys, RegFault>
-    ensures call { Reading (state S.Store connection.old) (state S.Store connection.new) result
-        (λ _. IsUntouched) }
+    ensures call { ReadingOf S.Store connection.old connection.new result (λ _. IsUntouched) }
     ensures units { FindsKeys L.format of wanted.entry
         (state S.Store connection.old) (state S.Store connection.new) result }
     ensures work { OnOk result (CountsByContent L.format

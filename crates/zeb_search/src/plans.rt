@@ -3,7 +3,7 @@
 ghost use Rattle.std.specs.Prelude.{◌≡◌, ◌<◌, ◌^◌, ℕ, ℤ, [], ◌∷◌, OnOk};
 ghost use Rattle.sqlite.specs.Held.{state};
 ghost use Rattle.zeb_query.specs.Plans.{HasSmallNumber, HasSmallNumbers, NearOf, PlanValue, plan_value, term_plan_value};
-ghost use Rattle.zeb_register.specs.Calls.{Reading};
+ghost use Rattle.zeb_register.specs.Connections.{ReadingOf};
 ghost use Rattle.zeb_register.specs.Content.{Content};
 ghost use Rattle.zeb_search.specs.SearchCounts.{CountsByContent, NamesEntries};
 ghost use Rattle.zeb_search.specs.DictRows.{PlanDict, TermDict};
@@ -40,8 +40,7 @@ pub fn hits<S: Alter, L: Layout>(
     plan: &Plan,
 ) -> Result<Vec<u64>, RegFault>
     requires { HasSmallNumbers (plan_value plan.now) }
-    ensures call { Reading (state S.Store connection.old) (state S.Store connection.new) result
-        (λ _. IsUntouched) }
+    ensures call { ReadingOf S.Store connection.old connection.new result (λ _. IsUntouched) }
     ensures units { FindsPlan L.format database.0 (plan_value plan.now)
         (state S.Store connection.old) (state S.Store connection.new) result }
     ensures work { OnOk result (CountsByContent L.format
@@ -70,8 +69,7 @@ fn term_hits<S: Alter, L: Layout>(
     term: &TermPlan,
 ) -> Result<Vec<u64>, RegFault>
     requires { HasSmallNumber (term_plan_value term.now) }
-    ensures call { Reading (state S.Store connection.old) (state S.Store connection.new) result
-        (λ _. IsUntouched) }
+    ensures call { ReadingOf S.Store connection.old connection.new result (λ _. IsUntouched) }
     ensures units { FindsTerm L.format database.0 (term_plan_value term.now)
         (state S.Store connection.old) (state S.Store connection.new) result }
     ensures work { OnOk result (CountsByContent L.format
@@ -162,8 +160,7 @@ fn record_hits<S: Alter>(
     number: u64,
 ) -> Result<Vec<u64>, RegFault>
     requires { number < 10 ^ 9 }
-    ensures call { Reading (state S.Store connection.old) (state S.Store connection.new) result
-        (λ _. IsUntouched) }
+    ensures call { ReadingOf S.Store connection.old connection.new result (λ _. IsUntouched) }
     ensures units { FindsRecord database.0 number
         (state S.Store connection.old) (state S.Store connection.new) result }
 {
@@ -182,8 +179,7 @@ fn near_hits<S: Alter, L: Layout>(
     plan: &NearPlan,
 ) -> Result<Vec<u64>, RegFault>
     requires { plan.now.separation.distance < 10 ^ 9 }
-    ensures call { Reading (state S.Store connection.old) (state S.Store connection.new) result
-        (λ _. IsUntouched) }
+    ensures call { ReadingOf S.Store connection.old connection.new result (λ _. IsUntouched) }
     ensures units { FindsPlan L.format database.0
         (NearOf plan.now.index plan.now.left plan.now.right plan.now.separation)
         (state S.Store connection.old) (state S.Store connection.new) result }

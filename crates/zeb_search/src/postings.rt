@@ -2,8 +2,7 @@
 
 ghost use Rattle.std.specs.Prelude.{◌≡◌, ◌≤◌, ◌+◌, ◌++◌, IsTrue, OnOk, length};
 ghost use Rattle.sqlite.specs.Held.{state};
-ghost use Rattle.zeb_register.specs.Calls.{Reading};
-ghost use Rattle.zeb_register.specs.Clauses.{OnStore};
+ghost use Rattle.zeb_register.specs.Connections.{OnStoreOf, ReadingOf};
 ghost use Rattle.zeb_register.specs.Content.{Content};
 ghost use Rattle.zeb_register.specs.Formats.{holds_in};
 ghost use Rattle.zeb_search.specs.SearchCounts.{CountsByContent, CountsAtMost};
@@ -58,13 +57,11 @@ fn list_of_run<S: Alter, L: Layout>(
     run: &[Key],
 ) -> Result<Vec<Posting>, RegFault>
     requires { 1 ≤ length run.now }
-    ensures call { Reading (state S.Store connection.old) (state S.Store connection.new) result
-        (λ _. IsUntouched) }
+    ensures call { ReadingOf S.Store connection.old connection.new result (λ _. IsUntouched) }
     ensures units { ReadsRun L.format of run.now
         (state S.Store connection.old) (state S.Store connection.new) result }
-    ensures work { OnOk result (OnStore (state S.Store connection.old)
-        (state S.Store connection.new) (λ trees.
-        (content : Content) → holds_in L.format trees content → AreRun content of run.now
+    ensures work { OnOk result (OnStoreOf S.Store connection.old connection.new
+        (λ trees. (content : Content) → holds_in L.format trees content → AreRun content of run.now
         → CountsAtMost 0 (rows_under L.block_rows content of.db.0 run.now) work.old work.new)) }
     ensures no_work { L.row_work ≡ 0 → work.new ≡ work.old }
 {
@@ -91,15 +88,13 @@ fn list_found<S: Alter, L: Layout>(
     of: RegisterOf,
     found: &FoundKeys,
 ) -> Result<Vec<Posting>, RegFault>
-    ensures call { Reading (state S.Store connection.old) (state S.Store connection.new) result
-        (λ _. IsUntouched) }
+    ensures call { ReadingOf S.Store connection.old connection.new result (λ _. IsUntouched) }
     ensures units { FindsRuns L.format of found.now
         (state S.Store connection.old) (state S.Store connection.new) result }
-    ensures work { OnOk result (OnStore (state S.Store connection.old)
-        (state S.Store connection.new) (λ trees.
-        (content : Content) → holds_in L.format trees content → AreFound content of found.now
-        → CountsAtMost 0 (rows_under L.block_rows content of.db.0 found.now.keys.items) work.old
-        work.new)) }
+    ensures work { OnOk result (OnStoreOf S.Store connection.old connection.new
+        (λ trees. (content : Content) → holds_in L.format trees content
+        → AreFound content of found.now → CountsAtMost 0
+        (rows_under L.block_rows content of.db.0 found.now.keys.items) work.old work.new)) }
     ensures no_work { L.row_work ≡ 0 → work.new ≡ work.old }
 {
     let most = run_of(found);
@@ -122,8 +117,7 @@ pub(crate) fn numbers_wanted<S: Alter, L: Layout>(
     of: RegisterOf,
     wanted: Wanted<'_>,
 ) -> Result<Vec<u64>, RegFault>
-    ensures call { Reading (state S.Store connection.old) (state S.Store connection.new) result
-        (λ _. IsUntouched) }
+    ensures call { ReadingOf S.Store connection.old connection.new result (λ _. IsUntouched) }
     ensures units { FindsEntry L.format of.db.0 (NamesEntry wanted.entry) of.index of.register
         (IsWanted wanted.entry)
         (state S.Store connection.old) (state S.Store connection.new) result }
@@ -148,8 +142,7 @@ pub(crate) fn places_of_words<S: Alter, L: Layout>(
     of: IndexOf,
     pattern: &Pattern,
 ) -> Result<Vec<Posting>, RegFault>
-    ensures call { Reading (state S.Store connection.old) (state S.Store connection.new) result
-        (λ _. IsUntouched) }
+    ensures call { ReadingOf S.Store connection.old connection.new result (λ _. IsUntouched) }
     ensures units { ReadsPlaces L.format of.db.0 of.index pattern.now
         (state S.Store connection.old) (state S.Store connection.new) result }
     ensures work { OnOk result (CountedMatches L.format L.row_work L.block_rows of.db.0 of.index

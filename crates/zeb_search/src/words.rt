@@ -3,7 +3,7 @@
 ghost use Rattle.std.specs.Prelude.{◌≡◌, ◌==◌, IfOk, filter, OnOk};
 ghost use Rattle.sqlite.specs.Held.{state};
 ghost use Rattle.zeb_query.specs.Plans.{AllWordsOf, AnyWordOf, PhraseOf};
-ghost use Rattle.zeb_register.specs.Calls.{Reading};
+ghost use Rattle.zeb_register.specs.Connections.{ReadingOf};
 ghost use Rattle.zeb_search.specs.Holds.{Fits};
 ghost use Rattle.zeb_search.specs.PrivateWordCounts.{CountedMatches, CountedWords};
 ghost use Rattle.zeb_search.specs.SearchCounts.{HasNoStar};
@@ -29,8 +29,7 @@ fn word_hits<S: Alter, L: Layout>(
     of: IndexOf,
     pattern: &Pattern,
 ) -> Result<Vec<u64>, RegFault>
-    ensures call { Reading (state S.Store connection.old) (state S.Store connection.new) result
-        (λ _. IsUntouched) }
+    ensures call { ReadingOf S.Store connection.old connection.new result (λ _. IsUntouched) }
     ensures units { FindsEntry L.format of.db.0 (HasNoStar pattern.now) of.index Register.Word
         (Fits pattern.now)
         (state S.Store connection.old) (state S.Store connection.new) result }
@@ -55,8 +54,7 @@ pub(crate) fn any_word_hits<S: Alter, L: Layout>(
     of: IndexOf,
     patterns: &[Pattern],
 ) -> Result<Vec<u64>, RegFault>
-    ensures call { Reading (state S.Store connection.old) (state S.Store connection.new) result
-        (λ _. IsUntouched) }
+    ensures call { ReadingOf S.Store connection.old connection.new result (λ _. IsUntouched) }
     ensures units { FindsTerm L.format of.db.0 (AnyWordOf of.index patterns.now)
         (state S.Store connection.old) (state S.Store connection.new) result }
     ensures work { OnOk result (CountedWords L.format L.row_work L.block_rows of.db.0 of.index
@@ -80,8 +78,7 @@ pub(crate) fn all_words_hits<S: Alter, L: Layout>(
     of: IndexOf,
     patterns: &[Pattern],
 ) -> Result<Vec<u64>, RegFault>
-    ensures call { Reading (state S.Store connection.old) (state S.Store connection.new) result
-        (λ _. IsUntouched) }
+    ensures call { ReadingOf S.Store connection.old connection.new result (λ _. IsUntouched) }
     ensures units { FindsTerm L.format of.db.0 (AllWordsOf of.index patterns.now)
         (state S.Store connection.old) (state S.Store connection.new) result }
     ensures work { OnOk result (CountedWords L.format L.row_work L.block_rows of.db.0 of.index
@@ -110,8 +107,7 @@ pub(crate) fn phrase_hits<S: Alter, L: Layout>(
     patterns: &[Pattern],
     first: bool,
 ) -> Result<Vec<u64>, RegFault>
-    ensures call { Reading (state S.Store connection.old) (state S.Store connection.new) result
-        (λ _. IsUntouched) }
+    ensures call { ReadingOf S.Store connection.old connection.new result (λ _. IsUntouched) }
     ensures units { FindsTerm L.format of.db.0 (PhraseOf of.index patterns.now first)
         (state S.Store connection.old) (state S.Store connection.new) result }
     ensures work { OnOk result (CountedWords L.format L.row_work L.block_rows of.db.0 of.index
@@ -151,8 +147,7 @@ fn places_of_phrase<S: Alter, L: Layout>(
     of: IndexOf,
     patterns: &[Pattern],
 ) -> Result<Vec<Posting>, RegFault>
-    ensures call { Reading (state S.Store connection.old) (state S.Store connection.new) result
-        (λ _. IsUntouched) }
+    ensures call { ReadingOf S.Store connection.old connection.new result (λ _. IsUntouched) }
     ensures units { ReadsPhrases L.format of.db.0 of.index patterns.now
         (state S.Store connection.old) (state S.Store connection.new) result }
     ensures work { OnOk result (CountedWords L.format L.row_work L.block_rows of.db.0 of.index

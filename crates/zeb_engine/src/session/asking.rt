@@ -2,20 +2,19 @@
 
 ghost use Rattle.std.specs.Prelude.{◌≡◌, ◌+◌, ◌∷◌, ◌++◌, [], ℕ, List, Ok, String, length, string_bytes};
 ghost use Rattle.std.specs.declared.alloc.Global.{Global};
-ghost use Rattle.zeb_register.specs.Formats.{version_of};
-ghost use Rattle.zeb_change.specs.Conditions.{conditions};
 ghost use Rattle.zeb_engine.specs.Analysed.{HasLines};
 ghost use Rattle.zeb_engine.specs.Costs.{no_work};
 ghost use Rattle.zeb_engine.specs.PrivateDone.{CommandDone};
+ghost use Rattle.zeb_engine.specs.Sessions.{KeepsConditions, conditions_in};
 
 use crate::analysis::no_lines;
 use crate::commands::Command;
 use crate::dump::dump;
 use crate::find::{Question, find};
 use crate::readiness::check_ready;
+use crate::registers::Session;
 use crate::replies::Reply;
 use crate::scan::{Around, scan};
-use crate::session::Session;
 use crate::stat::stat;
 use sqlite::Alter;
 use zeb_analysis::AnalysedLines;
@@ -32,12 +31,10 @@ impl<S: Alter, L: Layout> Session<S, L> {
     ) -> Result<Reply, Refusal>
         requires fresh { self.old.work ≡ no_work }
         ensures done { (query : String Global) → string_bytes query ≡ question.entry.query.now
-            → CommandDone S.Store L.format L.row_work L.block_rows
-            (conditions (version_of L.format) self.old.profile self.old.limits)
+            → CommandDone S.Store L.format L.row_work L.block_rows (conditions_in L.format self.old)
             (Command.Find database.now query question.entry.first question.entry.count)
             self.old.connection self.new.connection result self.new.work }
-        ensures under { (self.new.profile ≡ self.old.profile)
-            × (self.new.limits ≡ self.old.limits) }
+        ensures under { KeepsConditions self.old self.new }
     {
         // Its profile is some text's.
         self.profile.is_of_some_text();
@@ -56,12 +53,10 @@ impl<S: Alter, L: Layout> Session<S, L> {
     pub(super) fn scan(&mut self, database: &DbName, around: Around<'_>) -> Result<Reply, Refusal>
         requires fresh { self.old.work ≡ no_work }
         ensures done { (query : String Global) → string_bytes query ≡ around.entry.query.now
-            → CommandDone S.Store L.format L.row_work L.block_rows
-            (conditions (version_of L.format) self.old.profile self.old.limits)
+            → CommandDone S.Store L.format L.row_work L.block_rows (conditions_in L.format self.old)
             (Command.Scan database.now query around.entry.number around.entry.position)
             self.old.connection self.new.connection result self.new.work }
-        ensures under { (self.new.profile ≡ self.old.profile)
-            × (self.new.limits ≡ self.old.limits) }
+        ensures under { KeepsConditions self.old self.new }
     {
         // Its profile is some text's.
         self.profile.is_of_some_text();
@@ -80,11 +75,9 @@ impl<S: Alter, L: Layout> Session<S, L> {
     pub(super) fn stat(&mut self, name: &DbName) -> Result<Reply, Refusal>
         requires fresh { self.old.work ≡ no_work }
         ensures done { CommandDone S.Store L.format L.row_work L.block_rows
-            (conditions (version_of L.format) self.old.profile self.old.limits)
-            (Command.Stat name.now)
-            self.old.connection self.new.connection result self.new.work }
-        ensures under { (self.new.profile ≡ self.old.profile)
-            × (self.new.limits ≡ self.old.limits) }
+            (conditions_in L.format self.old) (Command.Stat name.now) self.old.connection
+            self.new.connection result self.new.work }
+        ensures under { KeepsConditions self.old self.new }
     {
         // Its profile is some text's.
         self.profile.is_of_some_text();
@@ -102,11 +95,9 @@ impl<S: Alter, L: Layout> Session<S, L> {
     pub(super) fn dump(&mut self, name: &DbName) -> Result<Reply, Refusal>
         requires fresh { self.old.work ≡ no_work }
         ensures done { CommandDone S.Store L.format L.row_work L.block_rows
-            (conditions (version_of L.format) self.old.profile self.old.limits)
-            (Command.Dump name.now)
-            self.old.connection self.new.connection result self.new.work }
-        ensures under { (self.new.profile ≡ self.old.profile)
-            × (self.new.limits ≡ self.old.limits) }
+            (conditions_in L.format self.old) (Command.Dump name.now) self.old.connection
+            self.new.connection result self.new.work }
+        ensures under { KeepsConditions self.old self.new }
     {
         // Its profile is some text's.
         self.profile.is_of_some_text();
@@ -118,11 +109,9 @@ impl<S: Alter, L: Layout> Session<S, L> {
     pub(super) fn check(&mut self) -> Result<Reply, Refusal>
         requires fresh { self.old.work ≡ no_work }
         ensures done { CommandDone S.Store L.format L.row_work L.block_rows
-            (conditions (version_of L.format) self.old.profile self.old.limits)
-            Command.Check
-            self.old.connection self.new.connection result self.new.work }
-        ensures under { (self.new.profile ≡ self.old.profile)
-            × (self.new.limits ≡ self.old.limits) }
+            (conditions_in L.format self.old) Command.Check self.old.connection self.new.connection
+            result self.new.work }
+        ensures under { KeepsConditions self.old self.new }
     {
         // A register that isn't ready is refused as such, whatever its tables hold.
         check_ready::<S, L>(&mut self.connection, &self.profile)?;

@@ -4,12 +4,11 @@ ghost use Rattle.std.specs.Prelude.{◌≡◌, ℕ, Vec};
 ghost use Rattle.std.specs.declared.alloc.Global.{Global};
 ghost use Rattle.sqlite.specs.Held.{state};
 ghost use Rattle.sqlite.specs.State.{HasCleanDisk};
-ghost use Rattle.zeb_register.specs.Formats.{version_of};
-ghost use Rattle.zeb_change.specs.Conditions.{conditions};
 ghost use Rattle.zeb_image.specs.NameOf.{name_bytes};
 ghost use Rattle.zeb_engine.specs.Costs.{no_work};
 ghost use Rattle.zeb_engine.specs.FromReaders.{Give, NamesFaults, ReadersChange, ReadersCount, ReadersLast};
 ghost use Rattle.zeb_engine.specs.PrivateDone.{CommandDone, ReadersDone};
+ghost use Rattle.zeb_engine.specs.Sessions.{KeepsConditions, conditions_in};
 ghost use Rattle.zeb_engine.specs.Steps.{TakesFiles};
 ghost use Rattle.zeb_engine.specs.Transactions.{CallHolds};
 ghost use Rattle.zeb_engine.specs.Works.{ServesBy};
@@ -17,8 +16,8 @@ ghost use Rattle.zeb_engine.specs.Works.{ServesBy};
 use crate::changes::change_database;
 use crate::commands::Command;
 use crate::readiness::check_ready;
+use crate::registers::Session;
 use crate::replies::Reply;
-use crate::session::Session;
 use sqlite::Alter;
 use zeb_change::{Kind, Refusal, Setting, check_readers};
 use zeb_image::DbName;
@@ -35,12 +34,10 @@ impl<S: Alter, L: Layout> Session<S, L> {
     ) -> Result<Reply, Refusal>
         requires fresh { self.old.work ≡ no_work }
         ensures done { (given : Vec (Vec ℕ Global) Global) → given.items ≡ files.now
-            → CommandDone S.Store L.format L.row_work L.block_rows
-            (conditions (version_of L.format) self.old.profile self.old.limits)
-            (Command.Change kind database.now given)
-            self.old.connection self.new.connection result self.new.work }
-        ensures under { (self.new.profile ≡ self.old.profile)
-            × (self.new.limits ≡ self.old.limits) }
+            → CommandDone S.Store L.format L.row_work L.block_rows (conditions_in L.format self.old)
+            (Command.Change kind database.now given) self.old.connection self.new.connection result
+            self.new.work }
+        ensures under { KeepsConditions self.old self.new }
     {
         let mut readers = Vec::with_capacity(self.alloc, files.len())?;
         for file in files {
@@ -59,33 +56,29 @@ impl<S: Alter, L: Layout> Session<S, L> {
     ) -> Result<Reply, Refusal>
         // From tables that keep what a register holds it is answered as a step of a run, and they keep what is held then.
         ensures step { HasCleanDisk (state S.Store self.new.connection)
-            → Give R.remaining R.has_failed readers.old readers.new (λ texts. ServesBy
-            (TakesFiles (conditions (version_of L.format) self.old.profile self.old.limits) kind
-            (name_bytes database.now) texts)
-            (state S.Store self.old.connection) (state S.Store self.new.connection) result) }
+            → Give R.remaining R.has_failed readers.old readers.new
+            (λ texts. ServesBy (TakesFiles (conditions_in L.format self.old) kind
+            (name_bytes database.now) texts) (state S.Store self.old.connection)
+            (state S.Store self.new.connection) result) }
         // What it does on any tables, and whatever the readers tell.
         ensures tables { HasCleanDisk (state S.Store self.new.connection)
             → ReadersChange R.remaining R.has_failed readers.old readers.new
-            (conditions (version_of L.format) self.old.profile self.old.limits) kind
-            (name_bytes database.now)
+            (conditions_in L.format self.old) kind (name_bytes database.now)
             (state S.Store self.old.connection) (state S.Store self.new.connection) result }
         // A reader that fails is named, and none that can't.
         ensures faults { NamesFaults R.may_fail R.has_failed readers.old readers.new result }
         // What it has done to the connection; the session's profile and limits stay.
         ensures holds { CallHolds (state S.Store self.old.connection)
-            (state S.Store self.new.connection) result
-            × ((self.new.profile ≡ self.old.profile) × (self.new.limits ≡ self.old.limits)) }
+            (state S.Store self.new.connection) result × KeepsConditions self.old self.new }
         // What a crash leaves.
         ensures lasts { ReadersLast R.remaining R.has_failed readers.old readers.new
-            (conditions (version_of L.format) self.old.profile self.old.limits) kind
-            (name_bytes database.now)
+            (conditions_in L.format self.old) kind (name_bytes database.now)
             (state S.Store self.old.connection) (state S.Store self.new.connection) result }
         // What it has counted, as a command that is a change.
         ensures counts { ReadersCount R.remaining R.has_failed readers.old readers.new
-            (conditions (version_of L.format) self.old.profile self.old.limits) kind
-            (name_bytes database.now)
-            (state S.Store self.old.connection) (state S.Store self.new.connection) result
-            L.format L.row_work self.new.work }
+            (conditions_in L.format self.old) kind (name_bytes database.now)
+            (state S.Store self.old.connection) (state S.Store self.new.connection) result L.format
+            L.row_work self.new.work }
     {
         let answer = self.change_from(database, kind, readers);
         // What is shown is what was committed.
@@ -100,13 +93,9 @@ impl<S: Alter, L: Layout> Session<S, L> {
         readers: &mut [R],
     ) -> Result<Reply, Refusal>
         ensures done { ReadersDone S.Store R.remaining R.may_fail R.has_failed readers.old
-            readers.new
-            L.format L.row_work
-            (conditions (version_of L.format) self.old.profile self.old.limits) kind
-            (name_bytes database.now)
-            self.old.connection self.new.connection result self.new.work }
-        ensures under { (self.new.profile ≡ self.old.profile)
-            × (self.new.limits ≡ self.old.limits) }
+            readers.new L.format L.row_work (conditions_in L.format self.old) kind
+            (name_bytes database.now) self.old.connection self.new.connection result self.new.work }
+        ensures under { KeepsConditions self.old self.new }
     {
         self.work = Work::default();
         check_readers(readers)?;

@@ -1,4 +1,4 @@
-//! The layout of a session's register.
+//! The layout that a session's register keeps.
 
 ghost use Rattle.std.specs.Prelude.{◌≡◌};
 ghost use Rattle.sqlite.specs.Held.{state};
@@ -6,41 +6,17 @@ ghost use Rattle.sqlite.specs.State.{HasCleanDisk, Survives};
 ghost use Rattle.zeb_register.specs.Formats.{version_of};
 ghost use Rattle.zeb_engine.specs.Causes.{OnlyLooks};
 ghost use Rattle.zeb_engine.specs.Readiness.{TellsVersion};
+ghost use Rattle.zeb_engine.specs.Sessions.{KeepsConditions};
 ghost use Rattle.zeb_engine.specs.Transactions.{CallHolds};
 
 use crate::looks::keeps_text;
 use crate::readiness::VERSION;
-use crate::session::Session;
+use crate::registers::Session;
 use sqlite::Alter;
-use std::marker::PhantomData;
 use zeb_change::Refusal;
 use zeb_register::Layout;
 
 impl<S: Alter, L: Layout> Session<S, L> {
-    /// The same store under another layout. Nothing is done to it, and the work that was counted last stays.
-    pub fn to_layout<M: Layout>(self) -> Session<S, M>
-        ensures same { (result.connection ≡ self.connection)
-            × ((result.profile ≡ self.profile) × (result.limits ≡ self.limits)) }
-        ensures counted { result.work ≡ self.work }
-    {
-        let Session {
-            connection,
-            profile,
-            limits,
-            alloc,
-            work,
-            layout: _,
-        } = self;
-        Session {
-            connection,
-            profile,
-            limits,
-            alloc,
-            work,
-            layout: PhantomData,
-        }
-    }
-
     /// Whether the store keeps the version of the layout `M`. Before an `init` it keeps none. The session's profile isn't asked for.
     /// `Damaged` where the version can't be read.
     pub fn keeps_layout<M: Layout>(&mut self) -> Result<bool, Refusal>
@@ -51,8 +27,7 @@ impl<S: Alter, L: Layout> Session<S, L> {
             result }
         // What it has done to the connection; the session's profile and limits stay.
         ensures holds { CallHolds (state S.Store self.old.connection)
-            (state S.Store self.new.connection) result
-            × ((self.new.profile ≡ self.old.profile) × (self.new.limits ≡ self.old.limits)) }
+            (state S.Store self.new.connection) result × KeepsConditions self.old self.new }
         // A crash leaves what it left before.
         ensures lasts { Survives (state S.Store self.old.connection)
             (state S.Store self.new.connection) (λ _. ⊥) }

@@ -1,15 +1,14 @@
 //! The commands of a session that make and drop databases.
 
 ghost use Rattle.std.specs.Prelude.{◌≡◌};
-ghost use Rattle.zeb_register.specs.Formats.{version_of};
-ghost use Rattle.zeb_change.specs.Conditions.{conditions};
 ghost use Rattle.zeb_engine.specs.Costs.{no_work};
 ghost use Rattle.zeb_engine.specs.PrivateDone.{CommandDone};
+ghost use Rattle.zeb_engine.specs.Sessions.{KeepsConditions, conditions_in};
 
 use crate::commands::Command;
 use crate::readiness::check_ready;
+use crate::registers::Session;
 use crate::replies::Reply;
-use crate::session::Session;
 use crate::writes::{create_database, drop_database};
 use sqlite::Alter;
 use zeb_change::Refusal;
@@ -21,11 +20,9 @@ impl<S: Alter, L: Layout> Session<S, L> {
     pub(super) fn create(&mut self, name: &DbName) -> Result<Reply, Refusal>
         requires fresh { self.old.work ≡ no_work }
         ensures done { CommandDone S.Store L.format L.row_work L.block_rows
-            (conditions (version_of L.format) self.old.profile self.old.limits)
-            (Command.Create name.now)
-            self.old.connection self.new.connection result self.new.work }
-        ensures under { (self.new.profile ≡ self.old.profile)
-            × (self.new.limits ≡ self.old.limits) }
+            (conditions_in L.format self.old) (Command.Create name.now) self.old.connection
+            self.new.connection result self.new.work }
+        ensures under { KeepsConditions self.old self.new }
     {
         check_ready::<S, L>(&mut self.connection, &self.profile)?;
         create_database::<S, L>(&mut self.connection, name)
@@ -35,11 +32,9 @@ impl<S: Alter, L: Layout> Session<S, L> {
     pub(super) fn take(&mut self, name: &DbName) -> Result<Reply, Refusal>
         requires fresh { self.old.work ≡ no_work }
         ensures done { CommandDone S.Store L.format L.row_work L.block_rows
-            (conditions (version_of L.format) self.old.profile self.old.limits)
-            (Command.Drop name.now)
-            self.old.connection self.new.connection result self.new.work }
-        ensures under { (self.new.profile ≡ self.old.profile)
-            × (self.new.limits ≡ self.old.limits) }
+            (conditions_in L.format self.old) (Command.Drop name.now) self.old.connection
+            self.new.connection result self.new.work }
+        ensures under { KeepsConditions self.old self.new }
     {
         check_ready::<S, L>(&mut self.connection, &self.profile)?;
         drop_database::<S, L>(self.alloc, &mut self.connection, name)

@@ -1,9 +1,7 @@
 //! Statements that read the rows of a register's terms from one text to another.
 
-ghost use Rattle.sqlite.specs.Held.{state};
 ghost use Rattle.zeb_register.specs.PrivateBetweenRows.{IsRestBetween};
-ghost use Rattle.zeb_register.specs.Calls.{Reading};
-ghost use Rattle.zeb_register.specs.Clauses.{IsReasonedError};
+ghost use Rattle.zeb_register.specs.Connections.{IsReasonedErrorOf, ReadingOf};
 ghost use Rattle.zeb_register.specs.PrivateKeyColumns.{register_columns};
 ghost use Rattle.zeb_register.specs.PrivateRowStatements.{Lists};
 ghost use Rattle.zeb_register.specs.Store.{blocks_tree};
@@ -18,10 +16,9 @@ pub(crate) fn block_rows_between<S: Alter>(
     first: &str,
     end: &str,
 ) -> Result<Vec<Row>, Error>
-    ensures call { Reading (state S.Store conn.old) (state S.Store conn.new) result
-        (λ rows a b. Lists (IsRestBetween blocks_tree (register_columns at) first.now end.now) a b
-        rows.items) }
-    ensures err { IsReasonedError (state S.Store conn.old) (state S.Store conn.new) result }
+    ensures call { ReadingOf S.Store conn.old conn.new result (λ rows a b. Lists
+        (IsRestBetween blocks_tree (register_columns at) first.now end.now) a b rows.items) }
+    ensures err { IsReasonedErrorOf S.Store conn.old conn.new result }
 {
     // What is seen outside a transaction is what was committed.
     let _idle = conn.is_autocommit();

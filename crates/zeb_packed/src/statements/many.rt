@@ -4,8 +4,8 @@ ghost use Rattle.std.specs.Prelude.{◌≡◌, ◌++◌, List, map, IfOk, OnOk};
 ghost use Rattle.sqlite.specs.Held.{state};
 ghost use Rattle.sqlite.specs.Values.{bound};
 ghost use Rattle.zeb_packed.specs.PrivateNewRows.{AreLacking, AreValuesOf, GainsAll, joined, new_block_row, new_count_row};
-ghost use Rattle.zeb_register.specs.Calls.{GoesOn, Inside};
-ghost use Rattle.zeb_register.specs.Clauses.{ChangesTable, InStore};
+ghost use Rattle.zeb_register.specs.Calls.{GoesOn};
+ghost use Rattle.zeb_register.specs.Connections.{ChangesTableOf, InStoreOf, InsideOf};
 ghost use Rattle.zeb_register.specs.PrivateRowStatements.{IsUnchangedByViolation};
 ghost use Rattle.zeb_register.specs.Store.{blocks_tree, dict_tree};
 
@@ -33,16 +33,15 @@ pub(crate) fn blocks_add<S: Alter>(
     values: &[ValueRef<'_>],
 ) -> Result<usize, Error>
     ensures same { tx.new.conn.ghost_name ≡ tx.old.conn.ghost_name }
-    ensures call { Inside (state S.Store tx.old.conn.now) (state S.Store tx.new.conn.now) result
-        (λ _. GoesOn) }
+    ensures call { InsideOf S.Store tx.old.conn tx.new.conn result (λ _. GoesOn) }
     ensures put { (db : _) (blocks : List _)
         → AreValuesOf (new_block_row db) blocks (bound values.now)
-        → ChangesTable blocks_tree (state S.Store tx.old.conn.now) (state S.Store tx.new.conn.now)
-        result (λ _. GainsAll (map (new_block_row db) blocks)) }
+        → ChangesTableOf S.Store tx.old.conn tx.new.conn blocks_tree result
+        (λ _. GainsAll (map (new_block_row db) blocks)) }
     ensures lacking { (db : _) (blocks : List _)
         → AreValuesOf (new_block_row db) blocks (bound values.now)
-        → InStore (state S.Store tx.old.conn.now) (state S.Store tx.new.conn.now)
-        (λ trees. OnOk result (AreLacking db blocks trees)) }
+        → InStoreOf S.Store tx.old.conn tx.new.conn (λ trees. OnOk result
+        (AreLacking db blocks trees)) }
     ensures violated { IsUnchangedByViolation (state S.Store tx.old.conn.now)
         (state S.Store tx.new.conn.now) result }
 {
@@ -88,12 +87,11 @@ pub(crate) fn counts_add<S: Alter>(
     values: &[ValueRef<'_>],
 ) -> Result<usize, Error>
     ensures same { tx.new.conn.ghost_name ≡ tx.old.conn.ghost_name }
-    ensures call { Inside (state S.Store tx.old.conn.now) (state S.Store tx.new.conn.now) result
-        (λ _. GoesOn) }
+    ensures call { InsideOf S.Store tx.old.conn tx.new.conn result (λ _. GoesOn) }
     ensures put { (db : _) (counts : List _)
         → AreValuesOf (new_count_row db) counts (bound values.now)
-        → ChangesTable dict_tree (state S.Store tx.old.conn.now) (state S.Store tx.new.conn.now)
-        result (λ _. GainsAll (map (new_count_row db) counts)) }
+        → ChangesTableOf S.Store tx.old.conn tx.new.conn dict_tree result
+        (λ _. GainsAll (map (new_count_row db) counts)) }
 {
     tx.execute(ADD_COUNTS, values)
 }

@@ -1,13 +1,11 @@
 //! Statements on the tables `blocks` and `dict`, which hold packed registers.
 
 ghost use Rattle.std.specs.Prelude.{[], ◌∷◌, ◌++◌};
-ghost use Rattle.sqlite.specs.Held.{state};
 ghost use Rattle.sqlite.specs.declared.types.Value.TheVariants.{Text};
 ghost use Rattle.zeb_register.specs.Store.{blocks_tree, dict_tree, IsRest};
-ghost use Rattle.zeb_register.specs.Calls.{Reading};
-ghost use Rattle.zeb_register.specs.Clauses.{IsReasonedError};
 ghost use Rattle.zeb_register.specs.PrivateKeyColumns.{register_columns};
 ghost use Rattle.zeb_packed.specs.PrivatePackedRows.{IsRestBefore, IsRestFrom, ListsFirst, ListsLast};
+ghost use Rattle.zeb_register.specs.Connections.{IsReasonedErrorOf, ReadingOf};
 ghost use Rattle.zeb_register.specs.PrivateRowStatements.{Lists};
 
 use sqlite::{Alter, Connection, Error, Row, params};
@@ -23,10 +21,9 @@ pub(crate) fn block_rows<S: Alter>(
     at: RegisterOf,
     term: &str,
 ) -> Result<Vec<Row>, Error>
-    ensures call { Reading (state S.Store conn.old) (state S.Store conn.new) result
-        (λ rows a b. Lists (IsRest blocks_tree (register_columns at ++ Text term.now ∷ [])) a b
-        rows.items) }
-    ensures err { IsReasonedError (state S.Store conn.old) (state S.Store conn.new) result }
+    ensures call { ReadingOf S.Store conn.old conn.new result (λ rows a b. Lists
+        (IsRest blocks_tree (register_columns at ++ Text term.now ∷ [])) a b rows.items) }
+    ensures err { IsReasonedErrorOf S.Store conn.old conn.new result }
 {
     // What is seen outside a transaction is what was committed.
     let _idle = conn.is_autocommit();
@@ -43,9 +40,9 @@ pub(crate) fn dict_rows<S: Alter>(
     conn: &mut Connection<S>,
     at: RegisterOf,
 ) -> Result<Vec<Row>, Error>
-    ensures call { Reading (state S.Store conn.old) (state S.Store conn.new) result
-        (λ rows a b. Lists (IsRest dict_tree (register_columns at)) a b rows.items) }
-    ensures err { IsReasonedError (state S.Store conn.old) (state S.Store conn.new) result }
+    ensures call { ReadingOf S.Store conn.old conn.new result (λ rows a b. Lists
+        (IsRest dict_tree (register_columns at)) a b rows.items) }
+    ensures err { IsReasonedErrorOf S.Store conn.old conn.new result }
 {
     // What is seen outside a transaction is what was committed.
     let _idle = conn.is_autocommit();
@@ -64,10 +61,9 @@ pub(crate) fn dict_rows_from<S: Alter>(
     start: &str,
     limit: i64,
 ) -> Result<Vec<Row>, Error>
-    ensures call { Reading (state S.Store conn.old) (state S.Store conn.new) result
-        (λ rows a b. ListsFirst limit (IsRestFrom dict_tree (register_columns at) start.now) a b
-        rows.items) }
-    ensures err { IsReasonedError (state S.Store conn.old) (state S.Store conn.new) result }
+    ensures call { ReadingOf S.Store conn.old conn.new result (λ rows a b. ListsFirst limit
+        (IsRestFrom dict_tree (register_columns at) start.now) a b rows.items) }
+    ensures err { IsReasonedErrorOf S.Store conn.old conn.new result }
 {
     // What is seen outside a transaction is what was committed.
     let _idle = conn.is_autocommit();
@@ -84,10 +80,9 @@ pub(crate) fn dict_rows_before<S: Alter>(
     start: &str,
     limit: i64,
 ) -> Result<Vec<Row>, Error>
-    ensures call { Reading (state S.Store conn.old) (state S.Store conn.new) result
-        (λ rows a b. ListsLast limit (IsRestBefore dict_tree (register_columns at) start.now) a b
-        rows.items) }
-    ensures err { IsReasonedError (state S.Store conn.old) (state S.Store conn.new) result }
+    ensures call { ReadingOf S.Store conn.old conn.new result (λ rows a b. ListsLast limit
+        (IsRestBefore dict_tree (register_columns at) start.now) a b rows.items) }
+    ensures err { IsReasonedErrorOf S.Store conn.old conn.new result }
 {
     // What is seen outside a transaction is what was committed.
     let _idle = conn.is_autocommit();

@@ -4,9 +4,8 @@ ghost use Rattle.std.specs.Prelude.{IsUtf8, ◌≡◌, ◌++◌, List, [], ◌�
 ghost use Rattle.sqlite.specs.declared.types.Value.TheVariants.{Blob, Int};
 ghost use Rattle.sqlite.specs.Held.{state};
 ghost use Rattle.zeb_packed.specs.PrivatePackedRows.{IsRestFrom};
-ghost use Rattle.zeb_register.specs.Calls.{Inside};
 ghost use Rattle.zeb_register.specs.UnitChanges.{IsTold};
-ghost use Rattle.zeb_register.specs.Clauses.{InStore, Writes};
+ghost use Rattle.zeb_register.specs.Connections.{InStoreOf, InsideOf, WritesOf};
 ghost use Rattle.zeb_register.specs.PrivateKeyColumns.{IsOfKey, IsOfNumbered, key_columns, numbered_columns};
 ghost use Rattle.zeb_register.specs.PrivateRowStatements.{Gains, IsUnchangedByViolation, ListsInside, Renews};
 ghost use Rattle.zeb_register.specs.PlainRows.{register_front};
@@ -26,9 +25,8 @@ pub(crate) fn block_bytes<S: Alter>(
     number: i64,
 ) -> Result<Vec<Row>, Error>
     ensures same { tx.new.conn.ghost_name ≡ tx.old.conn.ghost_name }
-    ensures call { Inside (state S.Store tx.old.conn.now) (state S.Store tx.new.conn.now) result
-        (λ rows a b. ListsInside (IsRest blocks_tree (numbered_columns at.entry number)) a b
-        rows.items) }
+    ensures call { InsideOf S.Store tx.old.conn tx.new.conn result (λ rows a b. ListsInside
+        (IsRest blocks_tree (numbered_columns at.entry number)) a b rows.items) }
 {
     let db = at.db.column();
     let reg = u32::from(at.key.register.code());
@@ -45,8 +43,8 @@ pub(crate) fn dict_records<S: Alter>(
     at: KeyOf<'_>,
 ) -> Result<Vec<Row>, Error>
     ensures same { tx.new.conn.ghost_name ≡ tx.old.conn.ghost_name }
-    ensures call { Inside (state S.Store tx.old.conn.now) (state S.Store tx.new.conn.now) result
-        (λ rows a b. ListsInside (IsRest dict_tree (key_columns at.entry)) a b rows.items) }
+    ensures call { InsideOf S.Store tx.old.conn tx.new.conn result (λ rows a b. ListsInside
+        (IsRest dict_tree (key_columns at.entry)) a b rows.items) }
     ensures text { IsUtf8 at.entry.key.now.term }
 {
     let db = at.db.column();
@@ -64,11 +62,11 @@ pub(crate) fn dict_from<S: Alter>(
     at: KeyOf<'_>,
 ) -> Result<Vec<Row>, Error>
     ensures same { tx.new.conn.ghost_name ≡ tx.old.conn.ghost_name }
-    ensures call { Inside (state S.Store tx.old.conn.now) (state S.Store tx.new.conn.now) result
-        (λ rows a b. ReadsInside (λ trees rows. (all : List _)
-        × IsListOf (IsRestFrom dict_tree
-        (register_front at.entry.db.0 at.entry.key.now.index at.entry.key.now.register)
-        at.entry.key.now.term trees) all × (rows ≡ take 1 all)) a b rows.items) }
+    ensures call { InsideOf S.Store tx.old.conn tx.new.conn result (λ rows a b. ReadsInside
+        (λ trees rows. (all : List _) × IsListOf
+        (IsRestFrom dict_tree (register_front at.entry.db.0 at.entry.key.now.index
+        at.entry.key.now.register) at.entry.key.now.term trees) all × (rows ≡ take 1 all)) a b
+        rows.items) }
 {
     let db = at.db.column();
     let reg = u32::from(at.key.register.code());
@@ -85,11 +83,9 @@ pub(crate) fn block_add<S: Alter>(
     bytes: &[u8],
 ) -> Result<usize, Error>
     ensures same { tx.new.conn.ghost_name ≡ tx.old.conn.ghost_name }
-    ensures call { Writes blocks_tree (Gains (numbered_columns at.entry number ++ Blob
-        bytes.now ∷ []))
-        (state S.Store tx.old.conn.now) (state S.Store tx.new.conn.now) result }
-    ensures alone { InStore (state S.Store tx.old.conn.now) (state S.Store tx.new.conn.now)
-        (λ trees. OnOk result
+    ensures call { WritesOf S.Store tx.old.conn tx.new.conn blocks_tree
+        (Gains (numbered_columns at.entry number ++ Blob bytes.now ∷ [])) result }
+    ensures alone { InStoreOf S.Store tx.old.conn tx.new.conn (λ trees. OnOk result
         (IsTold false (IsOfNumbered at.entry number) blocks_tree trees)) }
     ensures violated { IsUnchangedByViolation (state S.Store tx.old.conn.now)
         (state S.Store tx.new.conn.now) result }
@@ -110,9 +106,9 @@ pub(crate) fn block_set<S: Alter>(
     bytes: &[u8],
 ) -> Result<usize, Error>
     ensures same { tx.new.conn.ghost_name ≡ tx.old.conn.ghost_name }
-    ensures call { Writes blocks_tree (Renews (IsOfNumbered at.entry number)
-        (numbered_columns at.entry number ++ Blob bytes.now ∷ []))
-        (state S.Store tx.old.conn.now) (state S.Store tx.new.conn.now) result }
+    ensures call { WritesOf S.Store tx.old.conn tx.new.conn blocks_tree
+        (Renews (IsOfNumbered at.entry number) (numbered_columns at.entry number ++ Blob
+        bytes.now ∷ [])) result }
 {
     let db = at.db.column();
     let reg = u32::from(at.key.register.code());
@@ -129,8 +125,8 @@ pub(crate) fn block_remove<S: Alter>(
     number: i64,
 ) -> Result<usize, Error>
     ensures same { tx.new.conn.ghost_name ≡ tx.old.conn.ghost_name }
-    ensures call { Writes blocks_tree (Loses (IsOfNumbered at.entry number))
-        (state S.Store tx.old.conn.now) (state S.Store tx.new.conn.now) result }
+    ensures call { WritesOf S.Store tx.old.conn tx.new.conn blocks_tree
+        (Loses (IsOfNumbered at.entry number)) result }
 {
     let db = at.db.column();
     let reg = u32::from(at.key.register.code());
@@ -148,8 +144,8 @@ pub(crate) fn dict_add<S: Alter>(
     records: i64,
 ) -> Result<usize, Error>
     ensures same { tx.new.conn.ghost_name ≡ tx.old.conn.ghost_name }
-    ensures call { Writes dict_tree (Gains (key_columns at.entry ++ Int records ∷ []))
-        (state S.Store tx.old.conn.now) (state S.Store tx.new.conn.now) result }
+    ensures call { WritesOf S.Store tx.old.conn tx.new.conn dict_tree
+        (Gains (key_columns at.entry ++ Int records ∷ [])) result }
 {
     let db = at.db.column();
     let reg = u32::from(at.key.register.code());
@@ -166,9 +162,8 @@ pub(crate) fn dict_set<S: Alter>(
     records: i64,
 ) -> Result<usize, Error>
     ensures same { tx.new.conn.ghost_name ≡ tx.old.conn.ghost_name }
-    ensures call { Writes dict_tree (Renews (IsOfKey at.entry)
-        (key_columns at.entry ++ Int records ∷ []))
-        (state S.Store tx.old.conn.now) (state S.Store tx.new.conn.now) result }
+    ensures call { WritesOf S.Store tx.old.conn tx.new.conn dict_tree
+        (Renews (IsOfKey at.entry) (key_columns at.entry ++ Int records ∷ [])) result }
 {
     let db = at.db.column();
     let reg = u32::from(at.key.register.code());
@@ -184,8 +179,8 @@ pub(crate) fn dict_remove<S: Alter>(
     at: KeyOf<'_>,
 ) -> Result<usize, Error>
     ensures same { tx.new.conn.ghost_name ≡ tx.old.conn.ghost_name }
-    ensures call { Writes dict_tree (Loses (IsOfKey at.entry)) (state S.Store tx.old.conn.now)
-        (state S.Store tx.new.conn.now) result }
+    ensures call { WritesOf S.Store tx.old.conn tx.new.conn dict_tree (Loses (IsOfKey at.entry))
+        result }
 {
     let db = at.db.column();
     let reg = u32::from(at.key.register.code());

@@ -1,9 +1,7 @@
 //! Statements that read the rows of a register's terms from one text to another.
 
-ghost use Rattle.sqlite.specs.Held.{state};
 ghost use Rattle.zeb_register.specs.PrivateBetweenRows.{IsRestBetween};
-ghost use Rattle.zeb_register.specs.Calls.{Reading};
-ghost use Rattle.zeb_register.specs.Clauses.{IsReasonedError};
+ghost use Rattle.zeb_register.specs.Connections.{IsReasonedErrorOf, ReadingOf};
 ghost use Rattle.zeb_register.specs.PrivateKeyColumns.{register_columns};
 ghost use Rattle.zeb_register.specs.PrivateRowStatements.{Lists};
 ghost use Rattle.zeb_register.specs.Store.{postings_tree};
@@ -22,10 +20,10 @@ pub(crate) fn posting_rows_between<S: Alter>(
     first: &str,
     end: &str,
 ) -> Result<Vec<Row>, Error>
-    ensures call { Reading (state S.Store conn.old) (state S.Store conn.new) result
+    ensures call { ReadingOf S.Store conn.old conn.new result
         (λ rows a b. Lists (IsRestBetween postings_tree (register_columns at) first.now end.now) a b
         rows.items) }
-    ensures err { IsReasonedError (state S.Store conn.old) (state S.Store conn.new) result }
+    ensures err { IsReasonedErrorOf S.Store conn.old conn.new result }
 {
     let db = at.db.column();
     let reg = u32::from(at.register.code());

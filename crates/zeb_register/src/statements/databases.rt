@@ -1,13 +1,10 @@
 //! Statements on the table `databases`.
 
 ghost use Rattle.std.specs.Prelude.{◌≡◌};
-ghost use Rattle.sqlite.specs.Held.{state};
 ghost use Rattle.zeb_register.specs.Store.{databases_tree};
 ghost use Rattle.zeb_register.specs.PrivateRowStatements.{AddsDatabase, SetsLast, IsDatabaseRow, IsListedRow, Lists, ListsInside};
-ghost use Rattle.zeb_register.specs.Calls.{Alters, Inside, Reading};
-ghost use Rattle.zeb_register.specs.Clauses.{Writes};
-ghost use Rattle.zeb_register.specs.Clauses.{IsReasonedErrorInside};
-ghost use Rattle.zeb_register.specs.Clauses.{IsReasonedError};
+ghost use Rattle.zeb_register.specs.Calls.{Alters};
+ghost use Rattle.zeb_register.specs.Connections.{InsideOf, IsReasonedErrorInsideOf, IsReasonedErrorOf, ReadingOf, WritesOf};
 
 use crate::statements::queries::look_up;
 use crate::statements::writing::write;
@@ -25,9 +22,9 @@ pub(crate) fn database_rows<S: Alter>(
     conn: &mut Connection<S>,
     name: &str,
 ) -> Result<Vec<Row>, Error>
-    ensures call { Reading (state S.Store conn.old) (state S.Store conn.new) result
+    ensures call { ReadingOf S.Store conn.old conn.new result
         (λ rows a b. Lists (λ trees. IsDatabaseRow trees name.now) a b rows.items) }
-    ensures err { IsReasonedError (state S.Store conn.old) (state S.Store conn.new) result }
+    ensures err { IsReasonedErrorOf S.Store conn.old conn.new result }
 {
     look_up(conn, BY_NAME, params![name])
 }
@@ -37,7 +34,7 @@ pub(crate) fn database_rows_inside<S: Alter>(
     name: &str,
 ) -> Result<Vec<Row>, Error>
     ensures same { tx.new.conn.ghost_name ≡ tx.old.conn.ghost_name }
-    ensures call { Inside (state S.Store tx.old.conn.now) (state S.Store tx.new.conn.now) result
+    ensures call { InsideOf S.Store tx.old.conn tx.new.conn result
         (λ rows a b. ListsInside (λ trees. IsDatabaseRow trees name.now) a b rows.items) }
 {
     tx.query_all(BY_NAME, params![name])
@@ -45,19 +42,18 @@ pub(crate) fn database_rows_inside<S: Alter>(
 
 /// All databases, rising by the bytes of their names: the name, the id and the last number of each.
 pub(crate) fn listed_rows<S: Alter>(conn: &mut Connection<S>) -> Result<Vec<Row>, Error>
-    ensures call { Reading (state S.Store conn.old) (state S.Store conn.new) result
+    ensures call { ReadingOf S.Store conn.old conn.new result
         (λ rows a b. Lists IsListedRow a b rows.items) }
-    ensures err { IsReasonedError (state S.Store conn.old) (state S.Store conn.new) result }
+    ensures err { IsReasonedErrorOf S.Store conn.old conn.new result }
 {
     look_up(conn, LISTED, &[])
 }
 
 pub(crate) fn listed_rows_inside<S: Alter>(tx: &mut Transaction<'_, S>) -> Result<Vec<Row>, Error>
     ensures same { tx.new.conn.ghost_name ≡ tx.old.conn.ghost_name }
-    ensures call { Inside (state S.Store tx.old.conn.now) (state S.Store tx.new.conn.now) result
+    ensures call { InsideOf S.Store tx.old.conn tx.new.conn result
         (λ rows a b. ListsInside IsListedRow a b rows.items) }
-    ensures err { IsReasonedErrorInside (state S.Store tx.old.conn.now)
-        (state S.Store tx.new.conn.now) result }
+    ensures err { IsReasonedErrorInsideOf S.Store tx.old.conn tx.new.conn result }
 {
     tx.query_all(LISTED, &[])
 }
@@ -68,7 +64,7 @@ pub(crate) fn database_add<S: Alter>(
     last: i64,
 ) -> Result<(), Error>
     ensures same { tx.new.conn.ghost_name ≡ tx.old.conn.ghost_name }
-    ensures call { Inside (state S.Store tx.old.conn.now) (state S.Store tx.new.conn.now) result
+    ensures call { InsideOf S.Store tx.old.conn tx.new.conn result
         (λ _ a b. Alters databases_tree (AddsDatabase b.last_rowid name.now last) a b) }
 {
     write(tx, ADD, params![name, last])
@@ -80,8 +76,8 @@ pub(crate) fn last_set<S: Alter>(
     last: i64,
 ) -> Result<(), Error>
     ensures same { tx.new.conn.ghost_name ≡ tx.old.conn.ghost_name }
-    ensures call { Writes databases_tree (SetsLast id last) (state S.Store tx.old.conn.now)
-        (state S.Store tx.new.conn.now) result }
+    ensures call { WritesOf S.Store tx.old.conn tx.new.conn databases_tree (SetsLast id last)
+        result }
 {
     write(tx, SET_LAST, params![id, last])
 }

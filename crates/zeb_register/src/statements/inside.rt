@@ -1,10 +1,9 @@
 //! Statements that read inside a transaction what others read outside.
 
 ghost use Rattle.std.specs.Prelude.{◌≡◌, List, [], ◌∷◌, take};
-ghost use Rattle.sqlite.specs.Held.{state};
 ghost use Rattle.sqlite.specs.declared.types.Value.TheVariants.{Int};
-ghost use Rattle.zeb_register.specs.Calls.{Inside, OnlyReads};
-ghost use Rattle.zeb_register.specs.Clauses.{IsReasonedErrorInside};
+ghost use Rattle.zeb_register.specs.Calls.{OnlyReads};
+ghost use Rattle.zeb_register.specs.Connections.{InsideOf, IsReasonedErrorInsideOf};
 ghost use Rattle.zeb_register.specs.PrivateRowStatements.{IsRestAtLeast};
 ghost use Rattle.zeb_register.specs.PrivateRowTerms.{ReadsInside};
 ghost use Rattle.zeb_register.specs.Sql.{IsListOf};
@@ -19,10 +18,8 @@ use std::alloc::Global;
 /// Reads nothing, and gives the allocator by which it was read. It is refused where the connection is closed.
 pub fn nothing_inside<S: Alter>(tx: &mut Transaction<'_, S>) -> Result<Global, Error>
     ensures same { tx.new.conn.ghost_name ≡ tx.old.conn.ghost_name }
-    ensures call { Inside (state S.Store tx.old.conn.now) (state S.Store tx.new.conn.now) result
-        (λ _. OnlyReads) }
-    ensures err { IsReasonedErrorInside (state S.Store tx.old.conn.now)
-        (state S.Store tx.new.conn.now) result }
+    ensures call { InsideOf S.Store tx.old.conn tx.new.conn result (λ _. OnlyReads) }
+    ensures err { IsReasonedErrorInsideOf S.Store tx.old.conn tx.new.conn result }
 {
     let rows = tx.query_all(NOTHING, &[])?;
     Ok(*rows.allocator())
@@ -35,12 +32,11 @@ pub(crate) fn rows_from_inside<S: Alter>(
     start: i64,
 ) -> Result<Vec<Row>, Error>
     ensures same { tx.new.conn.ghost_name ≡ tx.old.conn.ghost_name }
-    ensures call { Inside (state S.Store tx.old.conn.now) (state S.Store tx.new.conn.now) result
+    ensures call { InsideOf S.Store tx.old.conn tx.new.conn result
         (λ rows a b. ReadsInside (λ trees rows. (all : List _)
-        × IsListOf (IsRestAtLeast records_tree (Int db ∷ []) start trees) all
-        × (rows ≡ take 1 all)) a b rows.items) }
-    ensures err { IsReasonedErrorInside (state S.Store tx.old.conn.now)
-        (state S.Store tx.new.conn.now) result }
+        × IsListOf (IsRestAtLeast records_tree (Int db ∷ []) start trees) all × (rows ≡ take 1 all))
+        a b rows.items) }
+    ensures err { IsReasonedErrorInsideOf S.Store tx.old.conn tx.new.conn result }
 {
     tx.query_all(FIRST_FROM, params![db, start])
 }

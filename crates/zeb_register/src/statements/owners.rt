@@ -1,10 +1,8 @@
 //! Statements on the ids of databases with which the rows of a table begin. Each asks for one row, so that no row is read in turn.
 
 ghost use Rattle.std.specs.Prelude.{◌≡◌, ◌≤ℤ◌};
-ghost use Rattle.sqlite.specs.Held.{state};
 ghost use Rattle.zeb_register.specs.Agreeing.{Owns};
-ghost use Rattle.zeb_register.specs.Calls.{Reading};
-ghost use Rattle.zeb_register.specs.Clauses.{IsReasonedError};
+ghost use Rattle.zeb_register.specs.Connections.{IsReasonedErrorOf, ReadingOf};
 ghost use Rattle.zeb_register.specs.PrivateRowExpected.{tree_of};
 ghost use Rattle.zeb_register.specs.PrivateRowReads.{ShowsFirst, greatest_text, least_text, next_text};
 ghost use Rattle.zeb_register.specs.PrivateRowTerms.{ReadsRows};
@@ -42,10 +40,10 @@ pub(crate) fn least_rows<S: Alter>(
     conn: &mut Connection<S>,
     table: Table,
 ) -> Result<Vec<Row>, Error>
-    ensures call { Reading (state S.Store conn.old) (state S.Store conn.new) result
+    ensures call { ReadingOf S.Store conn.old conn.new result
         (λ rows a b. ReadsRows (λ trees. ShowsFirst (λ id other. id ≤ℤ other)
         (Owns (tree_of table) trees)) a b rows.items) }
-    ensures err { IsReasonedError (state S.Store conn.old) (state S.Store conn.new) result }
+    ensures err { IsReasonedErrorOf S.Store conn.old conn.new result }
 {
     look_up(conn, least_text(table), &[])
 }
@@ -55,10 +53,10 @@ pub(crate) fn greatest_rows<S: Alter>(
     conn: &mut Connection<S>,
     table: Table,
 ) -> Result<Vec<Row>, Error>
-    ensures call { Reading (state S.Store conn.old) (state S.Store conn.new) result
+    ensures call { ReadingOf S.Store conn.old conn.new result
         (λ rows a b. ReadsRows (λ trees. ShowsFirst (λ id other. other ≤ℤ id)
         (Owns (tree_of table) trees)) a b rows.items) }
-    ensures err { IsReasonedError (state S.Store conn.old) (state S.Store conn.new) result }
+    ensures err { IsReasonedErrorOf S.Store conn.old conn.new result }
 {
     look_up(conn, greatest_text(table), &[])
 }
@@ -69,10 +67,10 @@ pub(crate) fn next_rows<S: Alter>(
     table: Table,
     start: i64,
 ) -> Result<Vec<Row>, Error>
-    ensures call { Reading (state S.Store conn.old) (state S.Store conn.new) result
+    ensures call { ReadingOf S.Store conn.old conn.new result
         (λ rows a b. ReadsRows (λ trees. ShowsFirst (λ id other. id ≤ℤ other)
         (λ id. Owns (tree_of table) trees id × (start ≤ℤ id))) a b rows.items) }
-    ensures err { IsReasonedError (state S.Store conn.old) (state S.Store conn.new) result }
+    ensures err { IsReasonedErrorOf S.Store conn.old conn.new result }
 {
     look_up(conn, next_text(table), params![start])
 }

@@ -1,13 +1,11 @@
 //! Statements on the table `postings`: a row for each posting.
 
 ghost use Rattle.std.specs.Prelude.{IsUtf8, ◌≡◌, [], ◌∷◌, ◌++◌};
-ghost use Rattle.sqlite.specs.Held.{state};
 ghost use Rattle.sqlite.specs.State.{IsUnchanged};
 ghost use Rattle.sqlite.specs.declared.types.Value.TheVariants.{Text};
 ghost use Rattle.zeb_register.specs.PrivateRowStatements.{Lists, ListsInside};
 ghost use Rattle.zeb_register.specs.Store.{postings_tree, IsRest};
-ghost use Rattle.zeb_register.specs.Calls.{Inside, Reading};
-ghost use Rattle.zeb_register.specs.Clauses.{IsReasonedError};
+ghost use Rattle.zeb_register.specs.Connections.{InsideOf, IsReasonedErrorOf, ReadingOf};
 ghost use Rattle.zeb_register.specs.PrivateKeyColumns.{HasTermOf, numbered_columns, register_columns};
 ghost use Rattle.zeb_register.specs.PrivateRowTerms.{ShowsNearest, ReadsRows};
 ghost use Rattle.zeb_register.specs.Terms.{Comes};
@@ -36,9 +34,8 @@ const TERM_BEFORE: &str =
 
 /// Reads nothing. It is refused where the connection is closed.
 pub(crate) fn nothing_of<S: Alter>(conn: &mut Connection<S>) -> Result<(), Error>
-    ensures call { Reading (state S.Store conn.old) (state S.Store conn.new) result
-        (λ _. IsUnchanged) }
-    ensures err { IsReasonedError (state S.Store conn.old) (state S.Store conn.new) result }
+    ensures call { ReadingOf S.Store conn.old conn.new result (λ _. IsUnchanged) }
+    ensures err { IsReasonedErrorOf S.Store conn.old conn.new result }
 {
     look_up(conn, NOTHING, &[])?;
     Ok(())
@@ -49,10 +46,10 @@ pub(crate) fn posting_rows<S: Alter>(
     at: RegisterOf,
     term: &str,
 ) -> Result<Vec<Row>, Error>
-    ensures call { Reading (state S.Store conn.old) (state S.Store conn.new) result
+    ensures call { ReadingOf S.Store conn.old conn.new result
         (λ rows a b. Lists (IsRest postings_tree (register_columns at ++ Text term.now ∷ [])) a b
         rows.items) }
-    ensures err { IsReasonedError (state S.Store conn.old) (state S.Store conn.new) result }
+    ensures err { IsReasonedErrorOf S.Store conn.old conn.new result }
 {
     let db = at.db.column();
     let reg = u32::from(at.register.code());
@@ -65,7 +62,7 @@ pub(crate) fn place_rows<S: Alter>(
     number: i64,
 ) -> Result<Vec<Row>, Error>
     ensures same { tx.new.conn.ghost_name ≡ tx.old.conn.ghost_name }
-    ensures call { Inside (state S.Store tx.old.conn.now) (state S.Store tx.new.conn.now) result
+    ensures call { InsideOf S.Store tx.old.conn tx.new.conn result
         (λ rows a b. ListsInside (IsRest postings_tree (numbered_columns at.entry number)) a b
         rows.items) }
     ensures text { IsUtf8 at.entry.key.now.term }
@@ -80,9 +77,9 @@ pub(crate) fn register_rows<S: Alter>(
     conn: &mut Connection<S>,
     at: RegisterOf,
 ) -> Result<Vec<Row>, Error>
-    ensures call { Reading (state S.Store conn.old) (state S.Store conn.new) result
+    ensures call { ReadingOf S.Store conn.old conn.new result
         (λ rows a b. Lists (IsRest postings_tree (register_columns at)) a b rows.items) }
-    ensures err { IsReasonedError (state S.Store conn.old) (state S.Store conn.new) result }
+    ensures err { IsReasonedErrorOf S.Store conn.old conn.new result }
 {
     let db = at.db.column();
     let reg = u32::from(at.register.code());
@@ -95,11 +92,10 @@ pub(crate) fn rows_from<S: Alter>(
     at: RegisterOf,
     start: &str,
 ) -> Result<Vec<Row>, Error>
-    ensures call { Reading (state S.Store conn.old) (state S.Store conn.new) result
-        (λ rows a b. ReadsRows (λ trees. ShowsNearest (λ term. HasTermOf at trees term
-        × ¬ Comes term start.now) Comes)
-        a b rows.items) }
-    ensures err { IsReasonedError (state S.Store conn.old) (state S.Store conn.new) result }
+    ensures call { ReadingOf S.Store conn.old conn.new result
+        (λ rows a b. ReadsRows (λ trees. ShowsNearest
+        (λ term. HasTermOf at trees term × ¬ Comes term start.now) Comes) a b rows.items) }
+    ensures err { IsReasonedErrorOf S.Store conn.old conn.new result }
 {
     let db = at.db.column();
     let reg = u32::from(at.register.code());
@@ -112,11 +108,11 @@ pub(crate) fn rows_before<S: Alter>(
     at: RegisterOf,
     start: &str,
 ) -> Result<Vec<Row>, Error>
-    ensures call { Reading (state S.Store conn.old) (state S.Store conn.new) result
-        (λ rows a b. ReadsRows (λ trees. ShowsNearest (λ term. HasTermOf at trees term
-        × Comes term start.now)
-        (λ one other. Comes other one)) a b rows.items) }
-    ensures err { IsReasonedError (state S.Store conn.old) (state S.Store conn.new) result }
+    ensures call { ReadingOf S.Store conn.old conn.new result
+        (λ rows a b. ReadsRows (λ trees. ShowsNearest
+        (λ term. HasTermOf at trees term × Comes term start.now) (λ one other. Comes other one)) a b
+        rows.items) }
+    ensures err { IsReasonedErrorOf S.Store conn.old conn.new result }
 {
     let db = at.db.column();
     let reg = u32::from(at.register.code());

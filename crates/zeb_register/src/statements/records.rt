@@ -1,14 +1,12 @@
 //! Statements on the table `records`.
 
 ghost use Rattle.std.specs.Prelude.{◌≡◌, List, [], ◌∷◌, take};
-ghost use Rattle.sqlite.specs.Held.{state};
 ghost use Rattle.sqlite.specs.declared.types.Value.TheVariants.{Int};
 ghost use Rattle.zeb_register.specs.Sql.{IsListOf};
 ghost use Rattle.zeb_register.specs.Store.{records_tree, IsRest};
 ghost use Rattle.zeb_register.specs.PrivateRowStatements.{IsElderRow, IsIdentRow, IsRestAtLeast, Lists, ListsInside, ShowsCount};
 ghost use Rattle.zeb_register.specs.PrivateRowTerms.{ReadsRows};
-ghost use Rattle.zeb_register.specs.Calls.{Inside, Reading};
-ghost use Rattle.zeb_register.specs.Clauses.{IsReasonedError, IsReasonedErrorInside};
+ghost use Rattle.zeb_register.specs.Connections.{InsideOf, IsReasonedErrorInsideOf, IsReasonedErrorOf, ReadingOf};
 
 use crate::statements::queries::look_up;
 use sqlite::{Alter, Connection, Error, Row, Transaction, params};
@@ -30,10 +28,9 @@ pub(crate) fn elder_rows<S: Alter>(
     ident: &str,
 ) -> Result<Vec<Row>, Error>
     ensures same { tx.new.conn.ghost_name ≡ tx.old.conn.ghost_name }
-    ensures call { Inside (state S.Store tx.old.conn.now) (state S.Store tx.new.conn.now) result
+    ensures call { InsideOf S.Store tx.old.conn tx.new.conn result
         (λ rows a b. ListsInside (IsElderRow db ident.now) a b rows.items) }
-    ensures err { IsReasonedErrorInside (state S.Store tx.old.conn.now)
-        (state S.Store tx.new.conn.now) result }
+    ensures err { IsReasonedErrorInsideOf S.Store tx.old.conn tx.new.conn result }
 {
     tx.query_all(BY_IDENT, params![db, ident])
 }
@@ -43,26 +40,26 @@ pub(crate) fn ident_rows<S: Alter>(
     db: i64,
     sysno: i64,
 ) -> Result<Vec<Row>, Error>
-    ensures call { Reading (state S.Store conn.old) (state S.Store conn.new) result
+    ensures call { ReadingOf S.Store conn.old conn.new result
         (λ rows a b. Lists (IsIdentRow db sysno) a b rows.items) }
-    ensures err { IsReasonedError (state S.Store conn.old) (state S.Store conn.new) result }
+    ensures err { IsReasonedErrorOf S.Store conn.old conn.new result }
 {
     look_up(conn, IDENT, params![db, sysno])
 }
 
 pub(crate) fn record_rows<S: Alter>(conn: &mut Connection<S>, db: i64) -> Result<Vec<Row>, Error>
-    ensures call { Reading (state S.Store conn.old) (state S.Store conn.new) result
+    ensures call { ReadingOf S.Store conn.old conn.new result
         (λ rows a b. Lists (IsRest records_tree (Int db ∷ [])) a b rows.items) }
-    ensures err { IsReasonedError (state S.Store conn.old) (state S.Store conn.new) result }
+    ensures err { IsReasonedErrorOf S.Store conn.old conn.new result }
 {
     look_up(conn, ALL, params![db])
 }
 
 /// How many records a database has: one row, with one number.
 pub(crate) fn count_rows<S: Alter>(conn: &mut Connection<S>, db: i64) -> Result<Vec<Row>, Error>
-    ensures call { Reading (state S.Store conn.old) (state S.Store conn.new) result
+    ensures call { ReadingOf S.Store conn.old conn.new result
         (λ rows a b. ReadsRows (ShowsCount db) a b rows.items) }
-    ensures err { IsReasonedError (state S.Store conn.old) (state S.Store conn.new) result }
+    ensures err { IsReasonedErrorOf S.Store conn.old conn.new result }
 {
     look_up(conn, COUNT, params![db])
 }
@@ -73,11 +70,11 @@ pub(crate) fn rows_from<S: Alter>(
     db: i64,
     start: i64,
 ) -> Result<Vec<Row>, Error>
-    ensures call { Reading (state S.Store conn.old) (state S.Store conn.new) result
+    ensures call { ReadingOf S.Store conn.old conn.new result
         (λ rows a b. ReadsRows (λ trees rows. (all : List _)
-        × IsListOf (IsRestAtLeast records_tree (Int db ∷ []) start trees) all
-        × (rows ≡ take 1 all)) a b rows.items) }
-    ensures err { IsReasonedError (state S.Store conn.old) (state S.Store conn.new) result }
+        × IsListOf (IsRestAtLeast records_tree (Int db ∷ []) start trees) all × (rows ≡ take 1 all))
+        a b rows.items) }
+    ensures err { IsReasonedErrorOf S.Store conn.old conn.new result }
 {
     look_up(conn, FIRST_FROM, params![db, start])
 }

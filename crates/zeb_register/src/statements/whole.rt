@@ -1,8 +1,7 @@
 //! Statements that take the rows of a whole table, or of a database in one.
 
 ghost use Rattle.std.specs.Prelude.{◌≡◌};
-ghost use Rattle.sqlite.specs.Held.{state};
-ghost use Rattle.zeb_register.specs.Clauses.{Writes};
+ghost use Rattle.zeb_register.specs.Connections.{WritesOf};
 ghost use Rattle.zeb_register.specs.PrivateRowExpected.{tree_of};
 ghost use Rattle.zeb_register.specs.PrivateRowStatements.{Empties};
 ghost use Rattle.zeb_register.specs.PrivateStoreTables.{clear_text, tree_at, wipe_text};
@@ -65,8 +64,7 @@ pub(crate) fn table_wipe<S: Alter>(
     table: StoreTable,
 ) -> Result<(), Error>
     ensures same { tx.new.conn.ghost_name ≡ tx.old.conn.ghost_name }
-    ensures call { Writes (tree_at table) Empties (state S.Store tx.old.conn.now)
-        (state S.Store tx.new.conn.now) result }
+    ensures call { WritesOf S.Store tx.old.conn tx.new.conn (tree_at table) Empties result }
 {
     write(tx, wipe_text(table), &[])
 }
@@ -78,8 +76,8 @@ pub(crate) fn table_clear<S: Alter>(
     db: DatabaseId,
 ) -> Result<(), Error>
     ensures same { tx.new.conn.ghost_name ≡ tx.old.conn.ghost_name }
-    ensures call { Writes (tree_of table) (Loses (IsOfDatabase db.0))
-        (state S.Store tx.old.conn.now) (state S.Store tx.new.conn.now) result }
+    ensures call { WritesOf S.Store tx.old.conn tx.new.conn (tree_of table)
+        (Loses (IsOfDatabase db.0)) result }
 {
     let id = db.column();
     write(tx, clear_text(table), params![id])

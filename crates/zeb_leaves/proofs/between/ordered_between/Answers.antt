@@ -1,14 +1,13 @@
-use Rattle.zeb_leaves.proofs.Cited.{◌≡◌, ◌≢◌, ◌∙◌, ℕ, List, Err, false, ap, subst, rules, state, nat_cmp, nat_list_cmp_total, slice_cmp, tied_itself}
+use Rattle.zeb_leaves.proofs.Cited.{◌≡◌, ◌∙◌, ℕ, List, Err, false, ap, subst, rules, state, nat_cmp, nat_list_cmp_total, slice_cmp, tied_itself}
 use Rattle.std.specs.Ordering.{is_lt}
 use Rattle.zeb_leaf.specs.declared.entries.Held.{Held}
-use Rattle.zeb_leaves.proofs.SpanCalls.{answers_between, said_in_turn, uncovered_between, unshown_between}
+use Rattle.zeb_leaves.proofs.SpanCalls.{listed_between, said_in_turn, uncovered_between, unsaid_between, unshown_between}
 use Rattle.zeb_leaves.specs.PrivateSaid.{SayAll, SomeSaysNone}
 use Rattle.zeb_leaves.specs.PrivateSpans.{SomeShowsNoKey}
 use Rattle.zeb_register.proofs.Answered.{refused_so}
+use Rattle.zeb_register.proofs.RowFaults.{rows_told}
 use Rattle.zeb_register.proofs.BetweenLemmas.{up_to}
-use Rattle.zeb_register.specs.Answers.{Answers, IfDamaged}
 use Rattle.zeb_register.specs.Between.{IsBetween}
-use Rattle.zeb_register.specs.declared.faults.RegFault.TheVariants.{Store}
 use Rattle.zeb_leaves.proofs.between.ordered_between.Goals as goal
 
 -- a text that isn't above the last stands from itself to the last
@@ -28,7 +27,18 @@ returns-clause-units g c clean store =
     let held = c.in_ok-held.held.items in
     let are = c.in_ok-rows.ensures.finds clean store last (c.as_str.ensures.value ∙ c.in_ok-end.ensures) in
     let shows = rw (c.deref.ensures.value, c.as_bytes.ensures.value, c.as_bytes-2.ensures.value, c.as_str-2.ensures.value, c.in_ok-end.ensures) at c.in_ok-held.ensures in
-    answers_between s0 store c.args.at first last known rows are held shows (state g.S.Store c.span_leaves.new.conn) c.postings_said.result (subst (λ (h : List Held). Answers (λ fault. (fault ≢ Store) × IfDamaged (SomeSaysNone h) fault) (λ list. SayAll h list.items) c.postings_said.result) c.deref-2.ensures.value c.postings_said.ensures)
+    let list = c.in_ok-postings_said.field-0.items in
+    listed_between s0 store c.args.at first last known rows are held shows list (subst (λ (h : List Held). SayAll h list) c.deref-2.ensures.value c.in_ok-postings_said.ensures)
+
+pub returns-in_err-postings_said-clause-units : goal.returns-in_err-postings_said-clause-units
+returns-in_err-postings_said-clause-units g c clean store =
+    let s0 = state g.S.Store c.args.conn.now in
+    let first = c.args.first.now in
+    let last = c.args.last.now in
+    let are = c.in_ok-rows.ensures.finds clean store last (c.as_str.ensures.value ∙ c.in_ok-end.ensures) in
+    let shows = rw (c.deref.ensures.value, c.as_bytes.ensures.value, c.as_bytes-2.ensures.value, c.as_str-2.ensures.value, c.in_ok-end.ensures) at c.in_ok-held.ensures in
+    rows_told c.in_err-postings_said.field-0.0 c.from_residual-in_err-postings_said.result c.from_residual-in_err-postings_said.ensures.1 _ _ _
+    (λ told. unsaid_between s0 store c.args.at first last (itself_between first last c.requires) c.in_ok-rows.rows.items are c.in_ok-held.held.items shows (subst SomeSaysNone c.deref-2.ensures.value (c.in_err-postings_said.ensures told)))
 
 pub returns-in_err-held-clause-units : goal.returns-in_err-held-clause-units
 returns-in_err-held-clause-units g c clean store =
@@ -36,10 +46,8 @@ returns-in_err-held-clause-units g c clean store =
     let first = c.args.first.now in
     let last = c.args.last.now in
     let are = c.in_ok-rows.ensures.finds clean store last (c.as_str.ensures.value ∙ c.in_ok-end.ensures) in
-    refused_so _ _ c.from_residual-in_err-held.result c.in_err-held.field-0.0 (search rules) (
-      λ told. unshown_between s0 store c.args.at first last (itself_between first last c.requires) c.in_ok-rows.rows.items are (subst SomeShowsNoKey c.deref.ensures.value (c.in_err-held.ensures.1 told)),
-      λ failed. absurd (c.in_err-held.ensures.0 failed),
-    )
+    rows_told c.in_err-held.field-0.0 c.from_residual-in_err-held.result c.from_residual-in_err-held.ensures.1 _ _ _
+    (λ told. unshown_between s0 store c.args.at first last (itself_between first last c.requires) c.in_ok-rows.rows.items are (subst SomeShowsNoKey c.deref.ensures.value (c.in_err-held.ensures told)))
 
 pub returns-in_err-rows-clause-units : goal.returns-in_err-rows-clause-units
 returns-in_err-rows-clause-units g c clean store =
@@ -60,4 +68,5 @@ returns-clause-turn g c clean store =
     let held = c.in_ok-held.held.items in
     let are = c.in_ok-rows.ensures.finds clean store last (c.as_str.ensures.value ∙ c.in_ok-end.ensures) in
     let shows = rw (c.deref.ensures.value, c.as_bytes.ensures.value, c.as_bytes-2.ensures.value, c.as_str-2.ensures.value, c.in_ok-end.ensures) at c.in_ok-held.ensures in
-    said_in_turn s0 store c.args.at first last (itself_between first last c.requires) rows are held shows c.postings_said.result (subst (λ (h : List Held). Answers (λ fault. (fault ≢ Store) × IfDamaged (SomeSaysNone h) fault) (λ list. SayAll h list.items) c.postings_said.result) c.deref-2.ensures.value c.postings_said.ensures)
+    let list = c.in_ok-postings_said.field-0.items in
+    said_in_turn s0 store c.args.at first last (itself_between first last c.requires) rows are held shows list (subst (λ (h : List Held). SayAll h list) c.deref-2.ensures.value c.in_ok-postings_said.ensures)

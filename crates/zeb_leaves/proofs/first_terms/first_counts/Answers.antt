@@ -5,16 +5,10 @@ use Rattle.zeb_register.proofs.Answered.{refused_so}
 use Rattle.zeb_leaves.proofs.first_terms.first_counts.Goals as goal
 
 pub returns-in_err-own : goal.returns-in_err-own
-returns-in_err-own c rest none = refused_so _ _ c.from_residual.result c.in_err-own.field-0.0 (search rules) (
-  λ is. let e = c.in_err-own.ensures.refused.0 in absurd (cc),
-  λ told. c.loop-next.invariant.hides rest (keyless_row c.args.n c.loop-next.from.term.now c.loop-next.from.block c.loop-next.row.now c.next-item.result c.args.behind.now rest c.loop-next.next-index c.loop-next-test.true c.next-item.is c.loop-next.counts.items c.in_err-own.ensures.refused.1),
-)
+returns-in_err-own c rest none = refused_so _ _ c.from_residual.result c.in_err-own.field-0.0 (search rules) (λ told. c.loop-next.invariant.hides rest (keyless_row c.args.n c.loop-next.from.term.now c.loop-next.from.block c.loop-next.row.now c.next-item.result c.args.behind.now rest c.loop-next.next-index c.loop-next-test.true c.next-item.is c.loop-next.counts.items c.in_err-own.ensures.refused.1))
 
 pub returns-in_err-up_to_next : goal.returns-in_err-up_to_next
-returns-in_err-up_to_next c rest none = refused_so _ _ c.from_residual-in_err-up_to_next.result c.in_err-up_to_next.field-0.0 (search rules) (
-  c.in_err-up_to_next.ensures.0,
-  λ told. c.loop-next.invariant.hides rest (hidden_row c.args.n c.loop-next.from.term.now c.loop-next.from.block c.loop-next.row.now c.next-item.result c.args.behind.now rest c.loop-next.next-index c.loop-next-test.true c.next-item.is c.loop-next.counts.items c.in_ok-own.own.term.now c.in_ok-own.own.block c.in_ok-own.ensures.ok (c.in_err-up_to_next.ensures.1 told)),
-)
+returns-in_err-up_to_next c rest none = refused_so _ _ c.from_residual-in_err-up_to_next.result c.in_err-up_to_next.field-0.0 (search rules) (λ told. c.loop-next.invariant.hides rest (hidden_row c.args.n c.loop-next.from.term.now c.loop-next.from.block c.loop-next.row.now c.next-item.result c.args.behind.now rest c.loop-next.next-index c.loop-next-test.true c.next-item.is c.loop-next.counts.items c.in_ok-own.own.term.now c.in_ok-own.own.block c.in_ok-own.ensures.ok (c.in_err-up_to_next.ensures told)))
 
 pub returns-then-branch : goal.returns-then-branch
 returns-then-branch c rest none =
@@ -35,10 +29,7 @@ loop-next-preserved c =
     ]
 
 pub returns-in_err-row_until : goal.returns-in_err-row_until
-returns-in_err-row_until c rest none = refused_so _ _ c.from_residual-in_err-row_until.result c.in_err-row_until.field-0.0 (search rules) (
-  c.in_err-row_until.ensures.0,
-  λ told. c.loop-next.invariant.hides rest (subst (λ rows. HideRows c.args.n c.loop-next.from.term.now c.loop-next.from.block c.loop-next.row.now rows c.loop-next.counts.items) (sym (left c.args.behind.now rest c.loop-next.next-index (search rules) (none (search rules)))) (c.in_err-row_until.ensures.1 told)),
-)
+returns-in_err-row_until c rest none = refused_so _ _ c.from_residual-in_err-row_until.result c.in_err-row_until.field-0.0 (search rules) (λ told. c.loop-next.invariant.hides rest (subst (λ rows. HideRows c.args.n c.loop-next.from.term.now c.loop-next.from.block c.loop-next.row.now rows c.loop-next.counts.items) (sym (left c.args.behind.now rest c.loop-next.next-index (search rules) (none (search rules)))) (c.in_err-row_until.ensures told)))
 
 pub returns : goal.returns
 returns c rest none =

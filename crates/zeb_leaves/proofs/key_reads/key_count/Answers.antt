@@ -1,12 +1,11 @@
 use Rattle.zeb_leaves.proofs.Cited.{◌∙◌, ℕ, List, Err, ap, subst, rules, state, IsLeafOf, IsUncovered, leaf_key}
 use Rattle.zeb_leaf.specs.declared.entries.Held.{Held}
 use Rattle.zeb_leaves.proofs.OnlyLeaf.{below_above}
-use Rattle.zeb_leaves.proofs.KeyCalls.{answers_counted, uncovered_lacking, unread_lacking}
+use Rattle.zeb_leaves.proofs.KeyCalls.{held_counted, uncovered_lacking, unread_lacking}
 use Rattle.zeb_leaves.specs.PrivateSpans.{AreSpanLeaves, SomeShowsNoKey}
 use Rattle.zeb_register.proofs.Answered.{refused_so}
+use Rattle.zeb_register.proofs.RowFaults.{rows_told}
 use Rattle.zeb_leaves.proofs.Cited.{◌≡◌, sum_by}
-use Rattle.zeb_register.specs.Answers.{Answers}
-use Rattle.zeb_register.specs.declared.faults.RegFault.TheVariants.{Memory}
 use Rattle.zeb_leaves.proofs.key_reads.key_count.Goals as goal
 
 pub span_leaves-requires : goal.span_leaves-requires
@@ -22,7 +21,8 @@ returns-clause-count g c clean store =
     let found = c.in_ok-rows.ensures.finds clean store c.as_str-term.result.now (c.as_str.ensures.value ∙ c.in_ok-end.ensures) in
     let are = subst (λ (t : List ℕ). AreSpanLeaves Leaves t t rows) c.as_str-term.ensures found in
     let shows = rw (c.deref.ensures.value, c.as_bytes.ensures.value, c.as_bytes-2.ensures.value, c.as_str-2.ensures.value, c.in_ok-end.ensures, c.as_str-term.ensures) at c.in_ok-held.ensures in
-    answers_counted s0 store c.args.db.0 key rows are held shows (state g.S.Store c.span_leaves.new.conn) c.records_said.result (subst (λ (h : List Held). Answers (λ fault. fault ≡ Memory) (λ records. records ≡ sum_by (λ (one : Held). one.records) h) c.records_said.result) c.deref-2.ensures.value c.records_said.ensures)
+    let records = c.in_ok-records_said.field-0 in
+    held_counted s0 store c.args.db.0 key rows are held shows records (subst (λ (h : List Held). records ≡ sum_by (λ (one : Held). one.records) h) c.deref-2.ensures.value c.in_ok-records_said.ensures)
 
 pub returns-in_err-held-clause-count : goal.returns-in_err-held-clause-count
 returns-in_err-held-clause-count g c clean store =
@@ -32,10 +32,8 @@ returns-in_err-held-clause-count g c clean store =
     let rows = c.in_ok-rows.rows.items in
     let found = c.in_ok-rows.ensures.finds clean store c.as_str-term.result.now (c.as_str.ensures.value ∙ c.in_ok-end.ensures) in
     let are = subst (λ (t : List ℕ). AreSpanLeaves Leaves t t rows) c.as_str-term.ensures found in
-    refused_so _ _ c.from_residual-in_err-held.result c.in_err-held.field-0.0 (search rules) (
-      λ told. (unread_lacking s0 store c.args.db.0 key rows are (subst SomeShowsNoKey c.deref.ensures.value (c.in_err-held.ensures.1 told))),
-      λ failed. absurd (c.in_err-held.ensures.0 failed),
-    )
+    rows_told c.in_err-held.field-0.0 c.from_residual-in_err-held.result c.from_residual-in_err-held.ensures.1 _ _ _
+    (λ told. (unread_lacking s0 store c.args.db.0 key rows are (subst SomeShowsNoKey c.deref.ensures.value (c.in_err-held.ensures told))))
 
 pub returns-in_err-rows-clause-count : goal.returns-in_err-rows-clause-count
 returns-in_err-rows-clause-count g c clean store =

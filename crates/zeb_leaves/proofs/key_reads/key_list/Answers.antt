@@ -1,12 +1,11 @@
-use Rattle.zeb_leaves.proofs.Cited.{◌≢◌, ◌∙◌, ℕ, List, Err, ap, subst, rules, state, IsLeafOf, IsUncovered, leaf_key}
+use Rattle.zeb_leaves.proofs.Cited.{◌∙◌, ℕ, List, Err, ap, subst, rules, state, IsLeafOf, IsUncovered, leaf_key}
 use Rattle.zeb_leaf.specs.declared.entries.Held.{Held}
 use Rattle.zeb_leaves.proofs.OnlyLeaf.{below_above}
-use Rattle.zeb_leaves.proofs.KeyCalls.{answers_listed, lacking_malformed, uncovered_lacking, unread_lacking}
+use Rattle.zeb_leaves.proofs.KeyCalls.{held_listed, held_malformed, lacking_malformed, uncovered_lacking, unread_lacking}
 use Rattle.zeb_leaves.specs.PrivateSaid.{SayAll, SomeSaysNone}
 use Rattle.zeb_leaves.specs.PrivateSpans.{AreSpanLeaves, SomeShowsNoKey}
 use Rattle.zeb_register.proofs.Answered.{refused_so}
-use Rattle.zeb_register.specs.Answers.{Answers, IfDamaged}
-use Rattle.zeb_register.specs.declared.faults.RegFault.TheVariants.{Store}
+use Rattle.zeb_register.proofs.RowFaults.{rows_told}
 use Rattle.zeb_leaves.proofs.key_reads.key_list.Goals as goal
 
 pub span_leaves-requires : goal.span_leaves-requires
@@ -22,7 +21,21 @@ returns-clause-units g c clean store =
     let found = c.in_ok-rows.ensures.finds clean store c.as_str-term.result.now (c.as_str.ensures.value ∙ c.in_ok-end.ensures) in
     let are = subst (λ (t : List ℕ). AreSpanLeaves Leaves t t rows) c.as_str-term.ensures found in
     let shows = rw (c.deref.ensures.value, c.as_bytes.ensures.value, c.as_bytes-2.ensures.value, c.as_str-2.ensures.value, c.in_ok-end.ensures, c.as_str-term.ensures) at c.in_ok-held.ensures in
-    answers_listed s0 store c.args.db.0 key rows are held shows (state g.S.Store c.span_leaves.new.conn) c.postings_said.result (subst (λ (h : List Held). Answers (λ fault. (fault ≢ Store) × IfDamaged (SomeSaysNone h) fault) (λ list. SayAll h list.items) c.postings_said.result) c.deref-2.ensures.value c.postings_said.ensures)
+    let list = c.in_ok-postings_said.field-0.items in
+    held_listed s0 store c.args.db.0 key rows are held shows list (subst (λ (h : List Held). SayAll h list) c.deref-2.ensures.value c.in_ok-postings_said.ensures)
+
+pub returns-in_err-postings_said-clause-units : goal.returns-in_err-postings_said-clause-units
+returns-in_err-postings_said-clause-units g c clean store =
+    let s0 = state g.S.Store c.args.conn.now in
+    let key = c.args.key.now in
+    let Leaves = IsLeafOf s0.now.trees c.args.db.0 key in
+    let rows = c.in_ok-rows.rows.items in
+    let held = c.in_ok-held.held.items in
+    let found = c.in_ok-rows.ensures.finds clean store c.as_str-term.result.now (c.as_str.ensures.value ∙ c.in_ok-end.ensures) in
+    let are = subst (λ (t : List ℕ). AreSpanLeaves Leaves t t rows) c.as_str-term.ensures found in
+    let shows = rw (c.deref.ensures.value, c.as_bytes.ensures.value, c.as_bytes-2.ensures.value, c.as_str-2.ensures.value, c.in_ok-end.ensures, c.as_str-term.ensures) at c.in_ok-held.ensures in
+    rows_told c.in_err-postings_said.field-0.0 c.from_residual-in_err-postings_said.result c.from_residual-in_err-postings_said.ensures.1 _ _ _
+    (λ told. held_malformed s0 store c.args.db.0 key rows are held shows (subst SomeSaysNone c.deref-2.ensures.value (c.in_err-postings_said.ensures told)))
 
 pub returns-in_err-held-clause-units : goal.returns-in_err-held-clause-units
 returns-in_err-held-clause-units g c clean store =
@@ -32,10 +45,8 @@ returns-in_err-held-clause-units g c clean store =
     let rows = c.in_ok-rows.rows.items in
     let found = c.in_ok-rows.ensures.finds clean store c.as_str-term.result.now (c.as_str.ensures.value ∙ c.in_ok-end.ensures) in
     let are = subst (λ (t : List ℕ). AreSpanLeaves Leaves t t rows) c.as_str-term.ensures found in
-    refused_so _ _ c.from_residual-in_err-held.result c.in_err-held.field-0.0 (search rules) (
-      λ told. lacking_malformed s0 c.args.db.0 key (unread_lacking s0 store c.args.db.0 key rows are (subst SomeShowsNoKey c.deref.ensures.value (c.in_err-held.ensures.1 told))),
-      λ failed. absurd (c.in_err-held.ensures.0 failed),
-    )
+    rows_told c.in_err-held.field-0.0 c.from_residual-in_err-held.result c.from_residual-in_err-held.ensures.1 _ _ _
+    (λ told. lacking_malformed s0 c.args.db.0 key (unread_lacking s0 store c.args.db.0 key rows are (subst SomeShowsNoKey c.deref.ensures.value (c.in_err-held.ensures told))))
 
 pub returns-in_err-rows-clause-units : goal.returns-in_err-rows-clause-units
 returns-in_err-rows-clause-units g c clean store =

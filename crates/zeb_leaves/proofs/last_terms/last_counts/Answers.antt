@@ -5,16 +5,10 @@ use Rattle.zeb_register.proofs.Answered.{refused_so}
 use Rattle.zeb_leaves.proofs.last_terms.last_counts.Goals as goal
 
 pub returns-in_err-own : goal.returns-in_err-own
-returns-in_err-own c rest none = refused_so _ _ c.from_residual.result c.in_err-own.field-0.0 (search rules) (
-  λ is. let e = c.in_err-own.ensures.refused.0 in absurd (cc),
-  λ told. c.loop-row.invariant.hides rest (keyless_below c.args.n c.loop-row.end.term.now c.loop-row.end.block c.row-item.result c.args.rows.now rest c.loop-row.row-index c.loop-row-test.true c.row-item.is c.loop-row.counts.items c.in_err-own.ensures.refused.1),
-)
+returns-in_err-own c rest none = refused_so _ _ c.from_residual.result c.in_err-own.field-0.0 (search rules) (λ told. c.loop-row.invariant.hides rest (keyless_below c.args.n c.loop-row.end.term.now c.loop-row.end.block c.row-item.result c.args.rows.now rest c.loop-row.row-index c.loop-row-test.true c.row-item.is c.loop-row.counts.items c.in_err-own.ensures.refused.1))
 
 pub returns-in_err-down_to_own : goal.returns-in_err-down_to_own
-returns-in_err-down_to_own c rest none = refused_so _ _ c.from_residual-in_err-down_to_own.result c.in_err-down_to_own.field-0.0 (search rules) (
-  c.in_err-down_to_own.ensures.0,
-  λ told. c.loop-row.invariant.hides rest (hidden_here c.args.n c.loop-row.end.term.now c.loop-row.end.block c.row-item.result c.args.rows.now rest c.loop-row.row-index c.loop-row-test.true c.row-item.is c.loop-row.counts.items c.in_ok-own.own.term.now c.in_ok-own.own.block c.in_ok-own.ensures.ok (c.in_err-down_to_own.ensures.1 told)),
-)
+returns-in_err-down_to_own c rest none = refused_so _ _ c.from_residual-in_err-down_to_own.result c.in_err-down_to_own.field-0.0 (search rules) (λ told. c.loop-row.invariant.hides rest (hidden_here c.args.n c.loop-row.end.term.now c.loop-row.end.block c.row-item.result c.args.rows.now rest c.loop-row.row-index c.loop-row-test.true c.row-item.is c.loop-row.counts.items c.in_ok-own.own.term.now c.in_ok-own.own.block c.in_ok-own.ensures.ok (c.in_err-down_to_own.ensures told)))
 
 pub returns-then-branch : goal.returns-then-branch
 returns-then-branch c rest none =

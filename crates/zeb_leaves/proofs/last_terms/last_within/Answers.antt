@@ -1,7 +1,8 @@
 use Rattle.zeb_leaves.proofs.Cited.{◌++◌, ap, ap₂, arith, length, state, sym, HasCleanDisk}
-use Rattle.zeb_leaves.proofs.LastTold.{answers_last, answers_leafless, more_there, none_there, some_there}
+use Rattle.zeb_leaves.proofs.LastTold.{answers_leafless, last_found, last_hidden, more_there, none_there, some_there}
 use Rattle.zeb_register.proofs.Calls.{store_same}
 use Rattle.zeb_register.proofs.Causes.{reasoned_after}
+use Rattle.zeb_register.proofs.RowFaults.{rows_told}
 use Rattle.zeb_leaves.proofs.last_terms.last_within.Goals as goal
 
 pub returns-then-is_empty-clause-tells : goal.returns-then-is_empty-clause-tells
@@ -27,6 +28,17 @@ returns-clause-tells g c clean store =
     let rows = c.in_ok-rows.rows in
     let listed = (c.in_ok-rows.ensures.call.ok clean).1 store in
     let whole = rw (c.deref.ensures.value) at c.are_all-whole.ensures in
+    last_found s0 store c.args.at c.args.start.now c.args.n c.requires.0 listed.0 listed.2 (rows.items ++ listed.1) listed.3 s1 c.in_ok-terms_below.field-0
+    ((rw (c.deref-2.ensures.value, c.as_bytes.ensures.value) at c.in_ok-terms_below.ensures) listed.1 (λ yes'. listed.4 (whole.0 yes')))
+
+pub returns-in_err-terms_below-clause-tells : goal.returns-in_err-terms_below-clause-tells
+returns-in_err-terms_below-clause-tells g c clean store =
+    let s0 = state g.S.Store c.args.conn.now in
+    let s1 = state g.S.Store c.last_rows.new.conn in
+    let rows = c.in_ok-rows.rows in
+    let listed = (c.in_ok-rows.ensures.call.ok clean).1 store in
+    let whole = rw (c.deref.ensures.value) at c.are_all-whole.ensures in
     let some = some_there rows.items rows.len (omega (arith, rows.ok.0)) (sym c.if-is_empty.ensures) in
-    answers_last s0 store c.args.at c.args.start.now c.args.n c.requires.0 listed.0 listed.2 (rows.items ++ listed.1) listed.3 s1 (more_there rows.items listed.1 some) c.terms_below.result
-    ((rw (c.deref-2.ensures.value, c.as_bytes.ensures.value) at c.terms_below.ensures) listed.1 (λ yes'. listed.4 (whole.0 yes')))
+    let hidden = (rw (c.deref-2.ensures.value, c.as_bytes.ensures.value) at c.in_err-terms_below.ensures) listed.1 (λ yes'. listed.4 (whole.0 yes')) in
+    rows_told c.in_err-terms_below.field-0.0 c.from_residual-in_err-terms_below.result c.from_residual-in_err-terms_below.ensures.1 _ _ _
+    (λ told. last_hidden s0 store c.args.at c.args.start.now c.args.n c.requires.0 listed.0 listed.2 (rows.items ++ listed.1) listed.3 s1 (more_there rows.items listed.1 some) (hidden told))

@@ -18,10 +18,7 @@ pub loop-own-init : goal.loop-own-init
 loop-own-init c = ([], rw c.new-reader.ensures (reaches_first c.args.bytes.now), c.new-own.ensures.items, λ begun. absurd (let e : false ≡ true = begun in cc))
 
 pub returns-in_err-held : goal.returns-in_err-held
-returns-in_err-held c = refused_so _ _ c.from_residual.result c.in_err-held.field-0.0 (search rules) (
-  c.in_err-held.ensures.0,
-  λ told. stuck_none c.args.bytes.now c.loop-own.invariant.0 c.loop-own.reader c.loop-own.invariant.1 (c.in_err-held.ensures.1 told),
-)
+returns-in_err-held c = refused_so _ _ c.from_residual.result c.in_err-held.field-0.0 (search rules) (λ told. stuck_none c.args.bytes.now c.loop-own.invariant.0 c.loop-own.reader c.loop-own.invariant.1 (c.in_err-held.ensures told))
 
 pub is_own_entry-chosen-requires : goal.is_own_entry-chosen-requires
 is_own_entry-chosen-requires c = λ begun.

@@ -6,10 +6,8 @@ use Rattle.zeb_register.proofs.TermRows.{got}
 use Rattle.zeb_leaves.proofs.said_postings.postings_said.Goals as goal
 
 pub returns-in_err-push_said : goal.returns-in_err-push_said
-returns-in_err-push_said c = refused_so _ _ c.from_residual.result c.in_err-push_said.field-0.0 (search rules) (
-  c.in_err-push_said.ensures.0,
-  λ told. (_, has_get c.args.held.now c.loop-one.one-index _ c.loop-one-test.true, c.in_err-push_said.ensures.1 told),
-)
+returns-in_err-push_said c = refused_so _ _ c.from_residual.result c.in_err-push_said.field-0.0 (search rules)
+    (λ told. (_, has_get c.args.held.now c.loop-one.one-index _ c.loop-one-test.true, c.in_err-push_said.ensures told))
 
 pub loop-one-preserved : goal.loop-one-preserved
 loop-one-preserved c =

@@ -11,22 +11,13 @@ pub loop-next-init : goal.loop-next-init
 loop-next-init c = record { leads = λ rest shows. rw c.new-held.ensures.items shows; among = inl refl }
 
 pub returns-in_err-own : goal.returns-in_err-own
-returns-in_err-own c = refused_so _ _ c.from_residual.result c.in_err-own.field-0.0 (search rules) (
-  λ is. let e = c.in_err-own.ensures.refused.0 in absurd (cc),
-  λ told. (c.next-item.result, inr (has_at _ _ _ c.next-item.is c.loop-next-test.true), inr c.in_err-own.ensures.refused.1),
-)
+returns-in_err-own c = refused_so _ _ c.from_residual.result c.in_err-own.field-0.0 (search rules) (λ told. (c.next-item.result, inr (has_at _ _ _ c.next-item.is c.loop-next-test.true), inr c.in_err-own.ensures.refused.1))
 
 pub returns-in_err-push_row_span : goal.returns-in_err-push_row_span
-returns-in_err-push_row_span c = refused_so _ _ c.from_residual-in_err-push_row_span.result c.in_err-push_row_span.field-0.0 (search rules) (
-  c.in_err-push_row_span.ensures.0,
-  λ told. (c.loop-next.row.now, c.loop-next.invariant.among, inl (c.in_err-push_row_span.ensures.1 told)),
-)
+returns-in_err-push_row_span c = refused_so _ _ c.from_residual-in_err-push_row_span.result c.in_err-push_row_span.field-0.0 (search rules) (λ told. (c.loop-next.row.now, c.loop-next.invariant.among, inl (c.in_err-push_row_span.ensures told)))
 
 pub returns-in_err-push_row_span-2 : goal.returns-in_err-push_row_span-2
-returns-in_err-push_row_span-2 c = refused_so _ _ c.from_residual-in_err-push_row_span-2.result c.in_err-push_row_span-2.field-0.0 (search rules) (
-  c.in_err-push_row_span-2.ensures.0,
-  λ told. (c.loop-next.row.now, c.loop-next.invariant.among, inl (c.in_err-push_row_span-2.ensures.1 told)),
-)
+returns-in_err-push_row_span-2 c = refused_so _ _ c.from_residual-in_err-push_row_span-2.result c.in_err-push_row_span-2.field-0.0 (search rules) (λ told. (c.loop-next.row.now, c.loop-next.invariant.among, inl (c.in_err-push_row_span-2.ensures told)))
 
 pub loop-next-preserved : goal.loop-next-preserved
 loop-next-preserved c =

@@ -5,10 +5,8 @@ use Rattle.zeb_register.proofs.ContentLemmas.{has_at}
 use Rattle.zeb_leaves.proofs.term_totals.entries_postings.Goals as goal
 
 pub returns-in_err-entry_postings : goal.returns-in_err-entry_postings
-returns-in_err-entry_postings c = refused_so _ _ c.from_residual.result c.in_err-entry_postings.field-0.0 (search rules) (
-  c.in_err-entry_postings.ensures.0,
-  λ told. (c.entry-item.result, has_at _ _ _ c.entry-item.is c.loop-entry-test.true, c.in_err-entry_postings.ensures.1 told),
-)
+returns-in_err-entry_postings c = refused_so _ _ c.from_residual.result c.in_err-entry_postings.field-0.0 (search rules)
+    (λ told. (c.entry-item.result, has_at _ _ _ c.entry-item.is c.loop-entry-test.true, c.in_err-entry_postings.ensures told))
 
 pub loop-entry-preserved : goal.loop-entry-preserved
 loop-entry-preserved c =

@@ -10,16 +10,12 @@ pub loop-next-init : goal.loop-next-init
 loop-next-init c = record { leads = ([], 0, refl, refl, λ rest shows. shows); hides = λ bad. bad }
 
 pub returns-in_err-own : goal.returns-in_err-own
-returns-in_err-own c = refused_so _ _ c.from_residual.result c.in_err-own.field-0.0 (search rules) (
-  λ is. let e = c.in_err-own.ensures.refused.0 in absurd (cc),
-  λ told. c.loop-next.invariant.hides (keyless_step c.loop-next.from.term.now c.loop-next.from.block c.loop-next.next-index c.loop-next.row.now c.next-item.result c.args.behind.now c.loop-next-test.true c.next-item.is SaysNone c.in_err-own.ensures.refused.1),
-)
+returns-in_err-own c = refused_so _ _ c.from_residual.result c.in_err-own.field-0.0 (search rules)
+    (λ told. c.loop-next.invariant.hides (keyless_step c.loop-next.from.term.now c.loop-next.from.block c.loop-next.next-index c.loop-next.row.now c.next-item.result c.args.behind.now c.loop-next-test.true c.next-item.is SaysNone c.in_err-own.ensures.refused.1))
 
 pub returns-in_err-row_postings : goal.returns-in_err-row_postings
-returns-in_err-row_postings c = refused_so _ _ c.from_residual-in_err-row_postings.result c.in_err-row_postings.field-0.0 (search rules) (
-  c.in_err-row_postings.ensures.0,
-  λ told. c.loop-next.invariant.hides (hidden_step c.loop-next.from.term.now c.loop-next.from.block c.loop-next.next-index c.loop-next.row.now c.next-item.result c.args.behind.now c.loop-next-test.true c.next-item.is SaysNone c.in_ok-own.own.term.now c.in_ok-own.own.block c.in_ok-own.ensures.ok (inl (c.in_err-row_postings.ensures.1 told))),
-)
+returns-in_err-row_postings c = refused_so _ _ c.from_residual-in_err-row_postings.result c.in_err-row_postings.field-0.0 (search rules)
+    (λ told. c.loop-next.invariant.hides (hidden_step c.loop-next.from.term.now c.loop-next.from.block c.loop-next.next-index c.loop-next.row.now c.next-item.result c.args.behind.now c.loop-next-test.true c.next-item.is SaysNone c.in_ok-own.own.term.now c.in_ok-own.own.block c.in_ok-own.ensures.ok (inl (c.in_err-row_postings.ensures told))))
 
 pub loop-next-preserved : goal.loop-next-preserved
 loop-next-preserved c =
@@ -39,12 +35,9 @@ loop-next-preserved c =
     }
 
 pub returns-in_err-row_postings-2 : goal.returns-in_err-row_postings-2
-returns-in_err-row_postings-2 c = refused_so _ _ c.from_residual-in_err-row_postings-2.result c.in_err-row_postings-2.field-0.0 (search rules) (
-  c.in_err-row_postings-2.ensures.0,
-  λ told.
-      let none = drop_all c.loop-next.next-index c.args.behind.now (search rules) in
-      c.loop-next.invariant.hides (subst (λ rows. HideOwns SaysNone c.loop-next.from.term.now c.loop-next.from.block c.loop-next.row.now rows) (sym none) (c.in_err-row_postings-2.ensures.1 told)),
-)
+returns-in_err-row_postings-2 c = refused_so _ _ c.from_residual-in_err-row_postings-2.result c.in_err-row_postings-2.field-0.0 (search rules) (λ told.
+    let none = drop_all c.loop-next.next-index c.args.behind.now (search rules) in
+    c.loop-next.invariant.hides (subst (λ rows. HideOwns SaysNone c.loop-next.from.term.now c.loop-next.from.block c.loop-next.row.now rows) (sym none) (c.in_err-row_postings-2.ensures told)))
 
 pub returns : goal.returns
 returns c =

@@ -3,6 +3,7 @@ use Rattle.zeb_leaves.proofs.SpotsSaid.{sums_hidden, sums_told, terms_hidden}
 use Rattle.zeb_leaves.proofs.TermsTold.{uncovered_hides}
 use Rattle.zeb_leaves.specs.PrivateTermReads.{HideAllOwns, IsNoText, SaysNone, ShowAllOwns}
 use Rattle.zeb_register.proofs.Answered.{refused_so}
+use Rattle.zeb_register.proofs.RowFaults.{rows_told}
 use Rattle.zeb_leaves.proofs.term_totals.totals.Goals as goal
 
 pub returns-clause-units : goal.returns-clause-units
@@ -17,18 +18,14 @@ returns-clause-units g c clean store =
 pub returns-in_err-occurrences-clause-units : goal.returns-in_err-occurrences-clause-units
 returns-in_err-occurrences-clause-units g c clean store =
     let s0 = state g.S.Store c.args.conn.now in
-    refused_so _ _ c.from_residual-in_err-occurrences.result c.in_err-occurrences.field-0.0 (search rules) (
-      λ told. sums_hidden s0 store c.args.at c.in_ok-rows.rows.items (c.in_ok-rows.ensures.finds clean store) (subst (HideAllOwns SaysNone []) c.deref-2.ensures.value (c.in_err-occurrences.ensures.1 told)),
-      λ failed. absurd (c.in_err-occurrences.ensures.0 failed),
-    )
+    rows_told c.in_err-occurrences.field-0.0 c.from_residual-in_err-occurrences.result c.from_residual-in_err-occurrences.ensures.1 _ _ _
+    (λ told. sums_hidden s0 store c.args.at c.in_ok-rows.rows.items (c.in_ok-rows.ensures.finds clean store) (subst (HideAllOwns SaysNone []) c.deref-2.ensures.value (c.in_err-occurrences.ensures told)))
 
 pub returns-in_err-counts-clause-units : goal.returns-in_err-counts-clause-units
 returns-in_err-counts-clause-units g c clean store =
     let s0 = state g.S.Store c.args.conn.now in
-    refused_so _ _ c.from_residual-in_err-counts.result c.in_err-counts.field-0.0 (search rules) (
-      λ told. terms_hidden s0 store c.args.at c.in_ok-rows.rows.items (c.in_ok-rows.ensures.finds clean store) (subst (HideAllOwns IsNoText []) c.deref.ensures.value (c.in_err-counts.ensures.1 told)),
-      λ failed. absurd (c.in_err-counts.ensures.0 failed),
-    )
+    rows_told c.in_err-counts.field-0.0 c.from_residual-in_err-counts.result c.from_residual-in_err-counts.ensures.1 _ _ _
+    (λ told. terms_hidden s0 store c.args.at c.in_ok-rows.rows.items (c.in_ok-rows.ensures.finds clean store) (subst (HideAllOwns IsNoText []) c.deref.ensures.value (c.in_err-counts.ensures told)))
 
 pub returns-in_err-rows-clause-units : goal.returns-in_err-rows-clause-units
 returns-in_err-rows-clause-units g c clean store =

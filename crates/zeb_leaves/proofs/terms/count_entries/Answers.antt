@@ -5,10 +5,7 @@ use Rattle.zeb_register.proofs.ContentLemmas.{has_at}
 use Rattle.zeb_leaves.proofs.terms.count_entries.Goals as goal
 
 pub returns-in_err-count_entry : goal.returns-in_err-count_entry
-returns-in_err-count_entry c = refused_so _ _ c.from_residual.result c.in_err-count_entry.field-0.0 (search rules) (
-  c.in_err-count_entry.ensures.0,
-  λ told. (c.entry-item.result, has_at _ _ _ c.entry-item.is c.loop-entry-test.true, c.in_err-count_entry.ensures.1 told),
-)
+returns-in_err-count_entry c = refused_so _ _ c.from_residual.result c.in_err-count_entry.field-0.0 (search rules) (λ told. (c.entry-item.result, has_at _ _ _ c.entry-item.is c.loop-entry-test.true, c.in_err-count_entry.ensures told))
 
 pub loop-entry-preserved : goal.loop-entry-preserved
 loop-entry-preserved c =

@@ -1,17 +1,22 @@
-use Rattle.zeb_leaves.proofs.Cited.{Row, ◌≢◌, List, [], Err, ap, subst, rules, state, Entry}
-use Rattle.zeb_leaves.proofs.TermsTold.{answers_all, uncovered_hides}
-use Rattle.zeb_leaves.specs.PrivateTermReads.{CountAll, HideAllOwns, IsNoText, ShowAllOwns}
+use Rattle.zeb_leaves.proofs.Cited.{Row, List, [], Err, ap, subst, rules, state}
+use Rattle.zeb_leaves.proofs.TermsTold.{all_hidden, all_listed, uncovered_hides}
+use Rattle.zeb_leaves.specs.PrivateTermReads.{HideAllOwns, IsNoText, ShowAllOwns}
 use Rattle.zeb_register.proofs.Answered.{refused_so}
-use Rattle.zeb_register.specs.Answers.{Answers, IfDamaged}
-use Rattle.zeb_register.specs.declared.faults.RegFault.TheVariants.{Store}
+use Rattle.zeb_register.proofs.RowFaults.{rows_told}
 use Rattle.zeb_leaves.proofs.terms.terms_of.Goals as goal
 
 pub returns-clause-units : goal.returns-clause-units
 returns-clause-units g c clean store =
     let s0 = state g.S.Store c.args.conn.now in
     let rows = c.in_ok-rows.rows.items in
-    answers_all s0 store c.args.at rows (c.in_ok-rows.ensures.finds clean store) (state g.S.Store c.leaves_from.new.conn) c.counts_in.result
-    (subst (λ (l : List Row). Answers (λ fault. (fault ≢ Store) × IfDamaged (HideAllOwns IsNoText [] l) fault) (λ counts. (own : List Entry) × ShowAllOwns [] l own × CountAll own [] counts.items) c.counts_in.result) c.deref.ensures.value c.counts_in.ensures)
+    let counted = c.in_ok-counts_in.ensures in
+    all_listed s0 store c.args.at rows (c.in_ok-rows.ensures.finds clean store) counted.0 c.in_ok-counts_in.field-0.items (subst (λ (l : List Row). ShowAllOwns [] l counted.0) c.deref.ensures.value counted.1) counted.2
+
+pub returns-in_err-counts_in-clause-units : goal.returns-in_err-counts_in-clause-units
+returns-in_err-counts_in-clause-units g c clean store =
+    let s0 = state g.S.Store c.args.conn.now in
+    rows_told c.in_err-counts_in.field-0.0 c.from_residual-in_err-counts_in.result c.from_residual-in_err-counts_in.ensures.1 _ _ _
+    (λ told. all_hidden s0 store c.args.at c.in_ok-rows.rows.items (c.in_ok-rows.ensures.finds clean store) (subst (HideAllOwns IsNoText []) c.deref.ensures.value (c.in_err-counts_in.ensures told)))
 
 pub returns-in_err-rows-clause-units : goal.returns-in_err-rows-clause-units
 returns-in_err-rows-clause-units g c clean store =

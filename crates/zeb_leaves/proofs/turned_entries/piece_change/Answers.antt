@@ -14,19 +14,15 @@ postings_after-requires-clause-lies c =
 pub returns-in_err-old : goal.returns-in_err-old
 returns-in_err-old c =
     let piece = c.args.piece.now in
-    refused_so _ _ c.from_residual.result c.in_err-old.field-0.0 (search rules) (
-      c.in_err-old.ensures.0,
-      λ told part said. absurd (c.in_err-old.ensures.1 told part (subst (λ b. SayPart c.args.entries.now c.as_bytes.result.now b part) (sym c.first_block.ensures) (subst (λ t. SayPart c.args.entries.now t (block_of piece.changes.now) part) (sym (c.as_bytes.ensures.value ∙ c.as_str.ensures)) said))),
-    )
+    refused_so _ _ c.from_residual.result c.in_err-old.field-0.0 (search rules)
+    (λ told part said. absurd (c.in_err-old.ensures told part (subst (λ b. SayPart c.args.entries.now c.as_bytes.result.now b part) (sym c.first_block.ensures) (subst (λ t. SayPart c.args.entries.now t (block_of piece.changes.now) part) (sym (c.as_bytes.ensures.value ∙ c.as_str.ensures)) said))))
 
 pub returns-in_err-list : goal.returns-in_err-list
 returns-in_err-list c =
     let piece = c.args.piece.now in
     let said = said_at c.args.entries.now piece c.as_bytes.result.now c.first_block.result c.in_ok-old.old.items (c.as_bytes.ensures.value ∙ c.as_str.ensures) c.first_block.ensures c.in_ok-old.ensures in
-    refused_so _ _ c.from_residual-in_err-list.result c.in_err-list.field-0.0 (search rules) (
-      c.in_err-list.ensures.turned.0,
-      λ told. lacks_turn c.args.entries.now piece c.in_ok-old.old.items said (c.in_err-list.ensures.turned.1 told),
-    )
+    refused_so _ _ c.from_residual-in_err-list.result c.in_err-list.field-0.0 (search rules)
+    (λ told. lacks_turn c.args.entries.now piece c.in_ok-old.old.items said (c.in_err-list.ensures.turned told))
 
 pub returns : goal.returns
 returns c =

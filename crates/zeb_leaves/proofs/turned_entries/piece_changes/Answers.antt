@@ -10,10 +10,8 @@ use Rattle.zeb_leaves.proofs.TurnedEntries.{turn_next}
 use Rattle.zeb_leaves.proofs.turned_entries.piece_changes.Goals as goal
 
 pub returns-in_err-change : goal.returns-in_err-change
-returns-in_err-change c = refused_so _ _ c.from_residual.result c.in_err-change.field-0.0 (search rules) (
-  c.in_err-change.ensures.0,
-  λ told. (c.piece-item.result, has_at c.args.pieces.now c.loop-piece.piece-index c.piece-item.result c.piece-item.is c.loop-piece-test.true, c.in_err-change.ensures.1 told),
-)
+returns-in_err-change c = refused_so _ _ c.from_residual.result c.in_err-change.field-0.0 (search rules)
+    (λ told. (c.piece-item.result, has_at c.args.pieces.now c.loop-piece.piece-index c.piece-item.result c.piece-item.is c.loop-piece-test.true, c.in_err-change.ensures told))
 
 pub loop-piece-preserved : goal.loop-piece-preserved
 loop-piece-preserved c = λ more turn.

@@ -41,13 +41,10 @@ returns-clause-turned c =
     c.loop-change.invariant.turned held (subst (λ l. TurnsUnits packed_leaves l held held) (sym (none_left c.loop-change.change-index xs c.loop-change-test.false)) (λ n. refl, refl))
 
 pub returns-in_err-list-clause-turned : goal.returns-in_err-list-clause-turned
-returns-in_err-list-clause-turned c = refused_so _ _ c.from_residual.result c.in_err-list.field-0.0 (search rules) (
-  c.in_err-list.ensures.turned.0,
-  λ told are turns.
-      let xs = c.args.changes.now in
-      let i = c.loop-change.change-index in
-      let held = units_of c.loop-change.list.items 0 in
-      let rest = subst (λ l. CanTurn l held) (drop-cons xs i no_change c.loop-change-test.true) (c.loop-change.invariant.left (are, turns)) in
-      let x = get_or xs i no_change in
-      c.in_err-list.ensures.turned.1 told rest.1.1.found,
-)
+returns-in_err-list-clause-turned c = refused_so _ _ c.from_residual.result c.in_err-list.field-0.0 (search rules) (λ told are turns.
+    let xs = c.args.changes.now in
+    let i = c.loop-change.change-index in
+    let held = units_of c.loop-change.list.items 0 in
+    let rest = subst (λ l. CanTurn l held) (drop-cons xs i no_change c.loop-change-test.true) (c.loop-change.invariant.left (are, turns)) in
+    let x = get_or xs i no_change in
+    c.in_err-list.ensures.turned told rest.1.1.found)

@@ -1,9 +1,9 @@
-use Rattle.zeb_leaves.proofs.Cited.{arith, ◌+◌, ℕ, List, Option, true, subst, sym, rules, Entry, blocks_tree, entry_cmp, state}
+use Rattle.zeb_leaves.proofs.Cited.{arith, ◌+◌, ℕ, List, Option, true, subst, sym, Entry, blocks_tree, entry_cmp, state}
 use Rattle.std.proofs.Common.{take}
 use Rattle.std.specs.List.Sorted.{IsStrictlySortedBy}
 use Rattle.std.specs.Option.{option_map}
 use Rattle.zeb_leaf.specs.declared.spans.BlockKey.{BlockKey as KeyOfBlock}
-use Rattle.zeb_register.proofs.Answered.{refused_so}
+use Rattle.zeb_register.proofs.RowFaults.{refused_rows}
 use Rattle.zeb_register.specs.Store.{Changes}
 use Rattle.zeb_leaves.proofs.CountedLeaves.{front_counted}
 use Rattle.zeb_leaves.proofs.FrontPieces.{all_within, at_front, below_front, front_anywhere, hidden_lacks, key_shown, leaf_front_lacks, leaf_front_put, one_key}
@@ -25,8 +25,8 @@ pub returns-in_err-entries-clause-turned : goal.returns-in_err-entries-clause-tu
 returns-in_err-entries-clause-turned g c clean inside store ends covers =
     let s = state g.S.Store c.args.tx.now.conn.now in
     let front = at_front c.args.at c.args.pieces.now c.count_covered-count.result c.requires.some c.requires.pieces c.requires.first c.count_covered-count.ensures.register in
-    refused_so _ _ c.from_residual-in_err-entries.result c.in_err-entries.field-0.0 (search rules)
-    (λ told. hidden_lacks s.now.trees c.args.at c.args.leaf.now c.args.pieces.now c.count_covered-count.result front covers (c.in_err-entries.ensures.1 told))
+    refused_rows c.in_err-entries.field-0.0 c.from_residual-in_err-entries.result c.from_residual-in_err-entries.ensures.1 _ _
+    (λ told. hidden_lacks s.now.trees c.args.at c.args.leaf.now c.args.pieces.now c.count_covered-count.result front covers (c.in_err-entries.ensures told))
 
 pub piece_changes-requires-clause-rising : goal.piece_changes-requires-clause-rising
 piece_changes-requires-clause-rising g c =
@@ -37,9 +37,9 @@ returns-in_err-changes-clause-turned g c clean inside store ends covers =
     let s = state g.S.Store c.args.tx.now.conn.now in
     let n = c.count_covered-count.result in
     let front = at_front c.args.at c.args.pieces.now n c.requires.some c.requires.pieces c.requires.first c.count_covered-count.ensures.register in
-    refused_so _ _ c.from_residual-in_err-changes.result c.in_err-changes.field-0.0 (search rules)
+    refused_rows c.in_err-changes.field-0.0 c.from_residual-in_err-changes.result c.from_residual-in_err-changes.ensures.1 _ _
     (λ told. leaf_front_lacks s store c.args.at c.args.pieces.now n front c.args.leaf.now c.in_ok-own.own.term.now c.in_ok-own.own.block (end_of c.args.end) c.in_ok-entries.entries.items c.in_ok-own.ensures.ok c.in_ok-entries.ensures (below_front (end_of c.args.end) c.args.pieces.now n c.count_covered-count.ensures.below) ends covers
-    (subst (λ (own : List Entry). LackTurn own (take (1 + n) c.args.pieces.now)) c.deref.ensures.value (c.in_err-changes.ensures.1 told)))
+    (subst (λ (own : List Entry). LackTurn own (take (1 + n) c.args.pieces.now)) c.deref.ensures.value (c.in_err-changes.ensures told)))
 
 pub merge-requires-clause-rising : goal.merge-requires-clause-rising
 merge-requires-clause-rising g c =

@@ -1,8 +1,8 @@
-use Rattle.zeb_leaves.proofs.Cited.{arith, ◌+◌, List, [], false, subst, sym, rules, AllByRecursion, Entry, IsEntry, blocks_tree, entry_cmp, state}
+use Rattle.zeb_leaves.proofs.Cited.{arith, ◌+◌, List, [], false, subst, sym, AllByRecursion, Entry, IsEntry, blocks_tree, entry_cmp, state}
 use Rattle.std.proofs.Common.{take}
 use Rattle.std.specs.List.Sorted.{IsStrictlySortedBy}
 use Rattle.zeb_leaf.specs.Merging.{AreMerged}
-use Rattle.zeb_register.proofs.Answered.{refused_so}
+use Rattle.zeb_register.proofs.RowFaults.{refused_rows}
 use Rattle.zeb_register.specs.Store.{Changes}
 use Rattle.zeb_leaves.proofs.FrontPieces.{all_within, at_front, first_front_lacks, first_front_put, front_anywhere, one_key}
 use Rattle.zeb_leaves.proofs.CountedLeaves.{front_counted}
@@ -19,8 +19,8 @@ returns-in_err-changes-clause-turned g c clean inside store none =
     let s = state g.S.Store c.args.tx.now.conn.now in
     let n = c.count_covered-count.result in
     let front = at_front c.args.at c.args.pieces.now n c.requires.some c.requires.pieces c.requires.first c.count_covered-count.ensures.register in
-    refused_so _ _ c.from_residual.result c.in_err-changes.field-0.0 (search rules)
-    (λ told. first_front_lacks s store c.args.at c.args.pieces.now n front none (c.in_err-changes.ensures.1 told))
+    refused_rows c.in_err-changes.field-0.0 c.from_residual.result c.from_residual.ensures.1 _ _
+    (λ told. first_front_lacks s store c.args.at c.args.pieces.now n front none (c.in_err-changes.ensures told))
 
 pub merge-requires-clause-rising : goal.merge-requires-clause-rising
 unfolding IsStrictlySortedBy

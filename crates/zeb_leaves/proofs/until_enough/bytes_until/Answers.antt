@@ -19,10 +19,7 @@ pub loop-reader-init : goal.loop-reader-init
 loop-reader-init c = ([], rw c.new-reader.ensures (reaches_first c.args.bytes.now), (refl, refl), λ begun. absurd (let e : false ≡ true = begun in cc))
 
 pub returns-in_err-held : goal.returns-in_err-held
-returns-in_err-held c = refused_so _ _ c.from_residual.result c.in_err-held.field-0.0 (search rules) (
-  c.in_err-held.ensures.0,
-  λ told. stuck_none c.args.bytes.now c.loop-reader.invariant.0 c.loop-reader.reader c.loop-reader.invariant.1 (c.in_err-held.ensures.1 told),
-)
+returns-in_err-held c = refused_so _ _ c.from_residual.result c.in_err-held.field-0.0 (search rules) (λ told. stuck_none c.args.bytes.now c.loop-reader.invariant.0 c.loop-reader.reader c.loop-reader.invariant.1 (c.in_err-held.ensures told))
 
 pub is_own_entry-chosen-requires : goal.is_own_entry-chosen-requires
 is_own_entry-chosen-requires c = λ begun.
@@ -34,10 +31,7 @@ is_own_entry-chosen-requires c = λ begun.
 pub returns-in_err-enough : goal.returns-in_err-enough
 returns-in_err-enough c =
     let step = rw c.in-Some.is at c.in_ok-held.ensures in
-    refused_so _ _ c.from_residual-in_err-enough.result c.in_err-enough.field-0.0 (search rules) (
-      c.in_err-enough.ensures.0,
-      λ told. absurd (c.in_err-enough.ensures.1 told (subst IsUtf8 (sym c.term-then-not-enough.ensures) step.follows.sound.text)),
-    )
+    refused_so _ _ c.from_residual-in_err-enough.result c.in_err-enough.field-0.0 (search rules) (λ told. absurd (c.in_err-enough.ensures told (subst IsUtf8 (sym c.term-then-not-enough.ensures) step.follows.sound.text)))
 
 pub loop-reader-smaller-then-not-enough : goal.loop-reader-smaller-then-not-enough
 loop-reader-smaller-then-not-enough c =

@@ -17,10 +17,7 @@ returns-in_err-count_entry c =
     let items = c.loop-entry.counts.items in
     let e = c.entry-item.result in
     let less : ¬ AreEnough c.args.n items e.term = λ enough. let f : false ≡ true = sym c.if-are_enough.false ∙ c.are_enough.ensures.1 (subst (λ l. AreEnough c.args.n l c.as_slice.result.now) (sym c.deref.ensures.value) (subst (AreEnough c.args.n items) (sym c.as_slice.ensures) enough)) in cc in
-    refused_so _ _ c.from_residual.result c.in_err-count_entry.field-0.0 (search rules) (
-      c.in_err-count_entry.ensures.0,
-      λ told. c.loop-entry.invariant.hides (no_text_here c.args.n c.args.own.now c.loop-entry.entry-index e c.loop-entry-test.true c.entry-item.is items less (c.in_err-count_entry.ensures.1 told)),
-    )
+    refused_so _ _ c.from_residual.result c.in_err-count_entry.field-0.0 (search rules) (λ told. c.loop-entry.invariant.hides (no_text_here c.args.n c.args.own.now c.loop-entry.entry-index e c.loop-entry-test.true c.entry-item.is items less (c.in_err-count_entry.ensures told)))
 
 pub loop-entry-preserved : goal.loop-entry-preserved
 loop-entry-preserved c =

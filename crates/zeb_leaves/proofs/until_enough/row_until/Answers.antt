@@ -6,10 +6,7 @@ use Rattle.zeb_register.proofs.Answered.{refused_so}
 use Rattle.zeb_leaves.proofs.until_enough.row_until.Goals as goal
 
 pub returns-in_err-bytes : goal.returns-in_err-bytes
-returns-in_err-bytes c = refused_so _ _ c.from_residual.result c.in_err-bytes.field-0.0 (search rules) (
-  λ is. let e = c.in_err-bytes.ensures.refused.0 in absurd (cc),
-  λ told. inl (λ entries shows. c.in_err-bytes.ensures.refused.1 shows.0 shows.1 shows.3),
-)
+returns-in_err-bytes c = refused_so _ _ c.from_residual.result c.in_err-bytes.field-0.0 (search rules) (λ told. inl (λ entries shows. c.in_err-bytes.ensures.refused.1 shows.0 shows.1 shows.3))
 
 pub returns : goal.returns
 returns c =

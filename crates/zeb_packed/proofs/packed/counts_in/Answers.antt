@@ -14,15 +14,12 @@ loop-row-preserved c = record {
 }
 
 pub returns-in_err-count_of-clause-tells : goal.returns-in_err-count_of-clause-tells
-returns-in_err-count_of-clause-tells c = refused_so _ _ c.from_residual.result c.in_err-count_of.field-0.0 (search rules) (
-  λ is. c.in_err-count_of.ensures.unstored (ap Err is),
-  λ told. record {
-    at = c.loop-row.row-index;
-    within = c.loop-row-test.true;
-    row = c.row-item.result;
-    is = c.row-item.is;
-    bad = c.in_err-count_of.ensures.honest (ap Err told);
-    terms = c.loop-row.counts.items;
-    told = c.loop-row.invariant;
-  },
-)
+returns-in_err-count_of-clause-tells c = refused_so _ _ c.from_residual.result c.in_err-count_of.field-0.0 (search rules) (λ told. record {
+  at = c.loop-row.row-index;
+  within = c.loop-row-test.true;
+  row = c.row-item.result;
+  is = c.row-item.is;
+  bad = c.in_err-count_of.ensures.honest (ap Err told);
+  terms = c.loop-row.counts.items;
+  told = c.loop-row.invariant;
+})

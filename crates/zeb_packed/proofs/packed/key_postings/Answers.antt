@@ -1,4 +1,4 @@
-use Rattle.zeb_packed.proofs.Cited.{◌∙◌, arith, inl, rules, subst, state, Has, AreSpelled, Rises, key_listed, refused_so}
+use Rattle.zeb_packed.proofs.Cited.{◌∙◌, arith, inl, subst, state, Has, AreSpelled, Rises, key_listed, refused_rows}
 use Rattle.zeb_packed.proofs.UnitLists.{blocks_counted, units_listed}
 use Rattle.zeb_packed.proofs.packed.key_postings.Goals as goal
 
@@ -29,6 +29,6 @@ pub returns-in_err-list-clause-lists : goal.returns-in_err-list-clause-lists
 returns-in_err-list-clause-lists g c clean store =
     let items = c.in_ok-rows.rows.items in
     let are = key_listed (state g.S.Store c.args.conn.now).now.trees c.args.db.0 c.args.key.now c.as_str.result.now c.as_str.ensures items ((c.in_ok-rows.ensures.call.ok clean).1 store) in
-    refused_so _ _ c.from_residual-in_err-list.result c.in_err-list.field-0.0 (search rules) (λ told.
-    let bad = c.in_err-list.ensures.1 told in
+    refused_rows c.in_err-list.field-0.0 c.from_residual-in_err-list.result c.from_residual-in_err-list.ensures.1 _ _ (λ told.
+    let bad = c.in_err-list.ensures told in
     (bad.0, (are.each bad.0).0 (subst (λ rows. Has rows bad.0) c.deref.ensures.value bad.1), bad.2))

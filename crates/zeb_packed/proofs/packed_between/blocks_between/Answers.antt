@@ -1,4 +1,4 @@
-use Rattle.zeb_packed.proofs.Cited.{◌≡◌, ◌∙◌, List, inl, arith, length, map, rules, subst, sum_by, state, Row, IsRestBetween, two_behind, register_columns, blocks_of, AreSpelled, IsListOf, blocks_tree, Rises, blocks_many, refused_so}
+use Rattle.zeb_packed.proofs.Cited.{◌≡◌, ◌∙◌, List, inl, arith, length, map, subst, sum_by, state, Row, IsRestBetween, two_behind, register_columns, blocks_of, AreSpelled, IsListOf, blocks_tree, Rises, blocks_many, refused_rows}
 use Rattle.zeb_packed.specs.PrivatePackedRows.{SomeMalformed}
 use Rattle.zeb_packed.proofs.BetweenUnits.{blocks_listed, malformed_between}
 use Rattle.zeb_packed.proofs.packed_between.blocks_between.Goals as goal
@@ -17,8 +17,8 @@ returns-in_err-list-clause-lists g c clean store =
     let old = state g.S.Store c.args.conn.now in
     let items = c.in_ok-rows.rows.items in
     let are = subst (λ end. IsListOf (IsRestBetween blocks_tree (register_columns c.args.at) c.args.first.now end old.now.trees) items) (c.as_str.ensures.value ∙ c.in_ok-end.ensures) ((c.in_ok-rows.ensures.call.ok clean).1 store) in
-    refused_so _ _ c.from_residual-in_err-list.result c.in_err-list.field-0.0 (search rules) (λ told.
-    malformed_between old store c.args.at c.args.first.now c.args.last.now items are (subst (λ (rows : List Row). SomeMalformed (map two_behind rows)) c.deref.ensures.value (c.in_err-list.ensures.1 told)))
+    refused_rows c.in_err-list.field-0.0 c.from_residual-in_err-list.result c.from_residual-in_err-list.ensures.1 _ _ (λ told.
+    malformed_between old store c.args.at c.args.first.now c.args.last.now items are (subst (λ (rows : List Row). SomeMalformed (map two_behind rows)) c.deref.ensures.value (c.in_err-list.ensures told)))
 
 pub returns-clause-work : goal.returns-clause-work
 returns-clause-work g c clean store content holds keys known =

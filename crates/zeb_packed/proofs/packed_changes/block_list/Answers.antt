@@ -1,7 +1,7 @@
-use Rattle.zeb_packed.proofs.Cited.{◌≡◌, ◌∙◌, [], IsTrue, Some, None, ap, refl, slice_get, subst, sym, option_copied, state, HasCleanDisk, IsListOf, IsRest, IsStore, blocks_tree, LiesIn, first_is, BlockReads, column_is, numbered_rows}
+use Rattle.zeb_packed.proofs.Cited.{◌≡◌, ◌∙◌, [], IsTrue, Err, Some, None, ap, refl, slice_get, subst, sym, option_copied, state, HasCleanDisk, IsListOf, IsRest, IsStore, blocks_tree, LiesIn, first_is, BlockReads, column_is, numbered_rows, refused_rows}
 use Rattle.zeb_packed.proofs.KeyRows.{none_told}
 use Rattle.zeb_packed.proofs.PackedReads.{block_front, empty_lies}
-use Rattle.zeb_packed.proofs.UnitLists.{answers_shown, none_reads}
+use Rattle.zeb_packed.proofs.UnitLists.{none_reads, shown_malformed, shown_reads}
 use Rattle.zeb_packed.proofs.packed_changes.block_list.Given as given
 use Rattle.zeb_packed.proofs.packed_changes.block_list.Goals.{In_ok-rows}
 use Rattle.zeb_packed.proofs.packed_changes.block_list.Goals as goal
@@ -18,8 +18,16 @@ returns-in-Some-clause-reads g c clean inside store =
     let items = c.in_ok-rows.rows.items in
     let got : slice_get items 0 ≡ Some c.in-Some.row.now = sym (c.first.ensures.value ∙ ap (λ l. slice_get l 0) c.deref.ensures.value) ∙ ap option_copied c.in-Some.is in
     let held = rows_read g (goal.at.returns-in-Some-clause-reads g c).In_ok-rows clean inside store in
-    answers_shown (state g.S.Store c.args.tx.now.conn.now) store c.args.db.0 c.args.key.now c.args.block c.in-Some.row.now (first_is _ items c.in-Some.row.now held got) (λ list. list.items)
-    c.spelled_list.result c.spelled_list.ensures.ok c.spelled_list.ensures.honest
+    shown_reads (state g.S.Store c.args.tx.now.conn.now) store c.args.db.0 c.args.key.now c.args.block c.in-Some.row.now (first_is _ items c.in-Some.row.now held got)
+    c.in_ok-spelled_list-in-Some.field-0.items c.in_ok-spelled_list-in-Some.ensures.ok
+
+pub returns-in_err-spelled_list-in-Some-clause-reads : goal.returns-in_err-spelled_list-in-Some-clause-reads
+returns-in_err-spelled_list-in-Some-clause-reads g c clean inside store =
+    let items = c.in_ok-rows.rows.items in
+    let got : slice_get items 0 ≡ Some c.in-Some.row.now = sym (c.first.ensures.value ∙ ap (λ l. slice_get l 0) c.deref.ensures.value) ∙ ap option_copied c.in-Some.is in
+    let held = rows_read g (goal.at.returns-in_err-spelled_list-in-Some-clause-reads g c).In_ok-rows clean inside store in
+    refused_rows c.in_err-spelled_list-in-Some.field-0.0 c.from_residual-in_err-spelled_list-in-Some.result c.from_residual-in_err-spelled_list-in-Some.ensures.1 _ _
+    (λ told. shown_malformed (state g.S.Store c.args.tx.now.conn.now) store c.args.db.0 c.args.key.now c.args.block c.in-Some.row.now (first_is _ items c.in-Some.row.now held got) (c.in_err-spelled_list-in-Some.ensures.honest (ap Err told)))
 
 pub returns-clause-reads : goal.returns-clause-reads
 returns-clause-reads g c clean inside store =

@@ -1,4 +1,4 @@
-use Rattle.zeb_packed.proofs.Cited.{◌∙◌, rules, subst, state, key_in, AreSpelled, Rises, refused_so}
+use Rattle.zeb_packed.proofs.Cited.{◌∙◌, subst, state, key_in, AreSpelled, Rises, refused_rows}
 use Rattle.zeb_packed.specs.PrivatePackedRows.{SomeMalformed}
 use Rattle.zeb_packed.proofs.UnitLists.{rows_many, units_listed}
 use Rattle.zeb_packed.proofs.packed_totals.term_postings.Goals as goal
@@ -19,6 +19,6 @@ returns-clause-lists g c clean store =
 
 pub returns-in_err-count-clause-lists : goal.returns-in_err-count-clause-lists
 returns-in_err-count-clause-lists g c clean store =
-    refused_so _ _ c.from_residual-in_err-count.result c.in_err-count.field-0.0 (search rules) (λ told.
+    refused_rows c.in_err-count.field-0.0 c.from_residual-in_err-count.result c.from_residual-in_err-count.ensures.1 _ _ (λ told.
     let bad = subst SomeMalformed c.deref.ensures.value c.in_err-count.ensures.refused.1 in
     (bad.0, (((c.in_ok-rows.ensures.call.ok clean).1 store).each bad.0).0 bad.1, bad.2))

@@ -1,6 +1,6 @@
 use Rattle.std.proofs.Common.{◌≡◌, ◌⊎◌, ◌∙◌, ◌++◌, ◌∷◌, [], Err, Ok, Some, ap, map, refl, rules, string_bytes, subst, sym}
 use Rattle.std.specs.Prelude.{⊤, IfErr}
-use Rattle.zeb_paths.specs.Walks.{WalksOn, dues_left, paths_left, telling}
+use Rattle.zeb_paths.specs.Walks.{WalksOn, dues_left, paths_left, telling_of}
 use Rattle.zeb_paths.proofs.WalkLemmas.{walks_ended, walks_told, walks_untold}
 use Rattle.zeb_program.specs.Inputs.{AreShort}
 use Rattle.zeb_program.specs.PrivateFaults.{IsUnread, IsUnreadAt, fault_of}
@@ -15,7 +15,7 @@ loop-walk-init g c =
       paths = ap (λ p. p.now) c.in_ok-walk.ensures.paths;
       so_far = (
         [],
-        walk_start (telling (g.P.Paths.tells c.args.paths.now) (g.P.Paths.stands c.args.paths.now) (g.P.Paths.lists c.args.paths.now)) c.args.named.now _ c.in_ok-walk.ensures.levels,
+        walk_start (telling_of g.P.Paths c.args.paths.now) c.args.named.now _ c.in_ok-walk.ensures.levels,
         begins (g.P.Paths.tells c.args.paths.now) c.args.session.now.profile c.args.session.now.limits.records (map string_bytes c.args.named.now)
             c.begin_analysis-lines.result c.new-unmarked.result.items _ c.begin_analysis-lines.ensures c.new-unmarked.ensures.items c.in_ok-walk.ensures.left,
       );
@@ -23,11 +23,11 @@ loop-walk-init g c =
 
 pub loop-walk-preserved : goal.loop-walk-preserved
 loop-walk-preserved g c =
-    let at = telling (g.P.Paths.tells c.args.paths.now) (g.P.Paths.stands c.args.paths.now) (g.P.Paths.lists c.args.paths.now) in
+    let at = telling_of g.P.Paths c.args.paths.now in
     let steps = c.loop-walk.walk.steps.items in
     let after = c.next_file.new.self.steps.items in
     let on : WalksOn at (dues_left steps) (Ok c.in_ok-path.field-0) (dues_left after) =
-    subst (λ p. WalksOn (telling (g.P.Paths.tells p) (g.P.Paths.stands p) (g.P.Paths.lists p)) (dues_left steps) (Ok c.in_ok-path.field-0) (dues_left after)) c.loop-walk.invariant.paths c.in_ok-path.ensures.walks in
+    subst (λ p. WalksOn (telling_of g.P.Paths p) (dues_left steps) (Ok c.in_ok-path.field-0) (dues_left after)) c.loop-walk.invariant.paths c.in_ok-path.ensures.walks in
     let left = paths_left steps in
     let later = paths_left after in
     let tells = g.P.Paths.tells c.args.paths.now in
@@ -48,11 +48,11 @@ loop-walk-preserved g c =
 
 pub returns-in_err-path-clause-reason : goal.returns-in_err-path-clause-reason
 returns-in_err-path-clause-reason g c files told =
-    let at = telling (g.P.Paths.tells c.args.paths.now) (g.P.Paths.stands c.args.paths.now) (g.P.Paths.lists c.args.paths.now) in
+    let at = telling_of g.P.Paths c.args.paths.now in
     let steps = c.loop-walk.walk.steps.items in
     let after = c.next_file.new.self.steps.items in
     let on : WalksOn at (dues_left steps) (Err c.in_err-path.field-0.0) (dues_left after) =
-    subst (λ p. WalksOn (telling (g.P.Paths.tells p) (g.P.Paths.stands p) (g.P.Paths.lists p)) (dues_left steps) (Err c.in_err-path.field-0.0) (dues_left after)) c.loop-walk.invariant.paths c.in_err-path.ensures.walks in
+    subst (λ p. WalksOn (telling_of g.P.Paths p) (dues_left steps) (Err c.in_err-path.field-0.0) (dues_left after)) c.loop-walk.invariant.paths c.in_err-path.ensures.walks in
     let left = paths_left steps in
     let later = paths_left after in
     let why = c.in_err-path.field-0.0 in
@@ -61,11 +61,11 @@ returns-in_err-path-clause-reason g c files told =
 
 pub returns-in_err-path-clause-met : goal.returns-in_err-path-clause-met
 returns-in_err-path-clause-met g c =
-    let at = telling (g.P.Paths.tells c.args.paths.now) (g.P.Paths.stands c.args.paths.now) (g.P.Paths.lists c.args.paths.now) in
+    let at = telling_of g.P.Paths c.args.paths.now in
     let steps = c.loop-walk.walk.steps.items in
     let after = c.next_file.new.self.steps.items in
     let on : WalksOn at (dues_left steps) (Err c.in_err-path.field-0.0) (dues_left after) =
-    subst (λ p. WalksOn (telling (g.P.Paths.tells p) (g.P.Paths.stands p) (g.P.Paths.lists p)) (dues_left steps) (Err c.in_err-path.field-0.0) (dues_left after)) c.loop-walk.invariant.paths c.in_err-path.ensures.walks in
+    subst (λ p. WalksOn (telling_of g.P.Paths p) (dues_left steps) (Err c.in_err-path.field-0.0) (dues_left after)) c.loop-walk.invariant.paths c.in_err-path.ensures.walks in
     let why = c.in_err-path.field-0.0 in
     let from : IfErr c.from_residual-in_err-path.result (λ given. IsUnread given × (given ≡ fault_of why)) = search rules in
     let far = c.loop-walk.invariant.so_far in
@@ -73,22 +73,22 @@ returns-in_err-path-clause-met g c =
 
 pub returns-in_err-path-clause-unread : goal.returns-in_err-path-clause-unread
 returns-in_err-path-clause-unread g c =
-    let at = telling (g.P.Paths.tells c.args.paths.now) (g.P.Paths.stands c.args.paths.now) (g.P.Paths.lists c.args.paths.now) in
+    let at = telling_of g.P.Paths c.args.paths.now in
     let steps = c.loop-walk.walk.steps.items in
     let after = c.next_file.new.self.steps.items in
     let on : WalksOn at (dues_left steps) (Err c.in_err-path.field-0.0) (dues_left after) =
-    subst (λ p. WalksOn (telling (g.P.Paths.tells p) (g.P.Paths.stands p) (g.P.Paths.lists p)) (dues_left steps) (Err c.in_err-path.field-0.0) (dues_left after)) c.loop-walk.invariant.paths c.in_err-path.ensures.walks in
+    subst (λ p. WalksOn (telling_of g.P.Paths p) (dues_left steps) (Err c.in_err-path.field-0.0) (dues_left after)) c.loop-walk.invariant.paths c.in_err-path.ensures.walks in
     let why = c.in_err-path.field-0.0 in
     let from : IfErr c.from_residual-in_err-path.result (λ given. IsUnread given × (given ≡ fault_of why)) = search rules in
     unread_faults (g.P.Paths.tells c.args.paths.now) why c.from_residual-in_err-path.result from (walks_untold at (dues_left steps) (Err c.in_err-path.field-0.0) (dues_left after) on)
 
 pub returns-in_err-bytes-clause-met : goal.returns-in_err-bytes-clause-met
 returns-in_err-bytes-clause-met g c =
-    let at = telling (g.P.Paths.tells c.args.paths.now) (g.P.Paths.stands c.args.paths.now) (g.P.Paths.lists c.args.paths.now) in
+    let at = telling_of g.P.Paths c.args.paths.now in
     let steps = c.loop-walk.walk.steps.items in
     let after = c.next_file.new.self.steps.items in
     let on : WalksOn at (dues_left steps) (Ok c.in_ok-path.field-0) (dues_left after) =
-    subst (λ p. WalksOn (telling (g.P.Paths.tells p) (g.P.Paths.stands p) (g.P.Paths.lists p)) (dues_left steps) (Ok c.in_ok-path.field-0) (dues_left after)) c.loop-walk.invariant.paths c.in_ok-path.ensures.walks in
+    subst (λ p. WalksOn (telling_of g.P.Paths p) (dues_left steps) (Ok c.in_ok-path.field-0) (dues_left after)) c.loop-walk.invariant.paths c.in_ok-path.ensures.walks in
     let why = c.in_err-bytes.field-0.0 in
     let is : c.from_residual-in_err-bytes.result ≡ Err why = search rules in
     let far = c.loop-walk.invariant.so_far in
@@ -104,11 +104,11 @@ returns-in_err-bytes-clause-unread g c =
 -- a file that is told isn't given only where it is too long
 pub returns-in_err-bytes-clause-reason : goal.returns-in_err-bytes-clause-reason
 returns-in_err-bytes-clause-reason g c files told =
-    let at = telling (g.P.Paths.tells c.args.paths.now) (g.P.Paths.stands c.args.paths.now) (g.P.Paths.lists c.args.paths.now) in
+    let at = telling_of g.P.Paths c.args.paths.now in
     let steps = c.loop-walk.walk.steps.items in
     let after = c.next_file.new.self.steps.items in
     let on : WalksOn at (dues_left steps) (Ok c.in_ok-path.field-0) (dues_left after) =
-    subst (λ p. WalksOn (telling (g.P.Paths.tells p) (g.P.Paths.stands p) (g.P.Paths.lists p)) (dues_left steps) (Ok c.in_ok-path.field-0) (dues_left after)) c.loop-walk.invariant.paths c.in_ok-path.ensures.walks in
+    subst (λ p. WalksOn (telling_of g.P.Paths p) (dues_left steps) (Ok c.in_ok-path.field-0) (dues_left after)) c.loop-walk.invariant.paths c.in_ok-path.ensures.walks in
     let left = paths_left c.loop-walk.walk.steps.items in
     let later = paths_left c.next_file.new.self.steps.items in
     let tells = g.P.Paths.tells c.args.paths.now in
@@ -122,11 +122,11 @@ returns-in_err-bytes-clause-reason g c files told =
 
 pub returns-clause-reads : goal.returns-clause-reads
 returns-clause-reads g c =
-    let at = telling (g.P.Paths.tells c.args.paths.now) (g.P.Paths.stands c.args.paths.now) (g.P.Paths.lists c.args.paths.now) in
+    let at = telling_of g.P.Paths c.args.paths.now in
     let steps = c.loop-walk.walk.steps.items in
     let after = c.next_file.new.self.steps.items in
     let on : WalksOn at (dues_left steps) (Ok c.in_ok-path.field-0) (dues_left after) =
-    subst (λ p. WalksOn (telling (g.P.Paths.tells p) (g.P.Paths.stands p) (g.P.Paths.lists p)) (dues_left steps) (Ok c.in_ok-path.field-0) (dues_left after)) c.loop-walk.invariant.paths c.in_ok-path.ensures.walks in
+    subst (λ p. WalksOn (telling_of g.P.Paths p) (dues_left steps) (Ok c.in_ok-path.field-0) (dues_left after)) c.loop-walk.invariant.paths c.in_ok-path.ensures.walks in
     let left = paths_left steps in
     let later = paths_left after in
     let tells = g.P.Paths.tells c.args.paths.now in

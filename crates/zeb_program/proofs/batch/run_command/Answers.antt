@@ -1,8 +1,9 @@
-use Rattle.zeb_program.proofs.Cited.{◌∙◌, refl, Err, Ok, state, HasCleanDisk, conditions, version_of}
+use Rattle.zeb_program.proofs.Cited.{◌∙◌, refl, Err, Ok, state, HasCleanDisk}
 use Rattle.zeb_program.proofs.LineStopLemmas.{same_err}
 use Rattle.zeb_program.proofs.OverLemmas.{refused_over, replied_over}
 use Rattle.zeb_program.proofs.ServingLemmas.{refused_command, replied_command}
 use Rattle.zeb_program.proofs.batch.run_command.Goals as goal
+use Rattle.zeb_engine.specs.Sessions.{conditions_in}
 
 pub returns-in_ok-render-in-Ok-clause-answer : goal.returns-in_ok-render-in-Ok-clause-answer
 returns-in_ok-render-in-Ok-clause-answer g c =
@@ -15,14 +16,14 @@ pub returns-in_ok-render-in-Ok-clause-over : goal.returns-in_ok-render-in-Ok-cla
 returns-in_ok-render-in-Ok-clause-over g c =
     let old = state g.S.Store c.args.session.now.connection in
     let new = state g.S.Store c.command.new.self.connection in
-    replied_over g.L.Layout.format (conditions (version_of g.L.Layout.format) c.args.session.now.profile c.args.session.now.limits) c.args.command.now old new _ _ _ (HasCleanDisk new) c.in-Ok.reply c.as_slice.result.now
+    replied_over g.L.Layout.format (conditions_in g.L.Layout.format c.args.session.now) c.args.command.now old new _ _ _ (HasCleanDisk new) c.in-Ok.reply c.as_slice.result.now
     c.in-Ok.ensures.step c.in-Ok.ensures.tables c.in-Ok.ensures.lasts c.in-Ok.ensures.holds.0.durable (c.as_slice.ensures.value ∙ c.in_ok-render-in-Ok.ensures) c.write.ensures.bytes
 
 pub returns-in-Err-clause-over : goal.returns-in-Err-clause-over
 returns-in-Err-clause-over g c =
     let old = state g.S.Store c.args.session.now.connection in
     let new = state g.S.Store c.command.new.self.connection in
-    refused_over g.L.Layout.format (conditions (version_of g.L.Layout.format) c.args.session.now.profile c.args.session.now.limits) c.args.command.now old new _ _ _ (HasCleanDisk new) c.in-Err.refusal c.refuse.result
+    refused_over g.L.Layout.format (conditions_in g.L.Layout.format c.args.session.now) c.args.command.now old new _ _ _ (HasCleanDisk new) c.in-Err.refusal c.refuse.result
     c.in-Err.ensures.step c.in-Err.ensures.tables c.in-Err.ensures.lasts c.in-Err.ensures.holds.0.durable c.refuse.ensures.answer
 
 pub returns-in_ok-render-in-Ok-clause-does : goal.returns-in_ok-render-in-Ok-clause-does

@@ -1,5 +1,5 @@
 use Rattle.zeb_program.proofs.Cited.{refl, codes, HasCleanDisk, file_state, conditions}
-use Rattle.zeb_paths.specs.Walks.{telling}
+use Rattle.zeb_paths.specs.Walks.{telling_of}
 use Rattle.zeb_program.proofs.MemoryLemmas.{always_clean}
 use Rattle.zeb_program.proofs.ScriptAnswerLemmas.{refused_opening, opened_batch, run_from_nothing, stopped_batch, silent_refusal}
 use Rattle.zeb_program.proofs.batch.run_in_memory.Goals as goal
@@ -8,7 +8,7 @@ pub returns-in-Ok-clause-answer : goal.returns-in-Ok-clause-answer
 returns-in-Ok-clause-answer g c =
     let last = c.run_lines.new.session.connection in
     let k = conditions (codes "2") c.in-Ok.session.profile c.in-Ok.session.limits in
-    let at = telling (g.P.Paths.tells c.args.paths.now) (g.P.Paths.stands c.args.paths.now) (g.P.Paths.lists c.args.paths.now) in
+    let at = telling_of g.P.Paths c.args.paths.now in
     let old = g.W.Write.contents c.args.output.now.writer in
     let new = g.W.Write.contents c.run_lines.new.output.writer in
     let n = c.args.batch.lines_before in
@@ -22,13 +22,13 @@ returns-in-Ok-clause-stopped g c =
     let session = c.in-Ok.session in
     let last = c.run_lines.new.session.connection in
     let k = conditions (codes "2") session.profile session.limits in
-    stopped_batch (telling (g.P.Paths.tells c.args.paths.now) (g.P.Paths.stands c.args.paths.now) (g.P.Paths.lists c.args.paths.now)) k c.args.profile session.connection last (g.W.Write.contents c.args.output.now.writer) (g.W.Write.contents c.run_lines.new.output.writer)
+    stopped_batch (telling_of g.P.Paths c.args.paths.now) k c.args.profile session.connection last (g.W.Write.contents c.args.output.now.writer) (g.W.Write.contents c.run_lines.new.output.writer)
     c.args.batch.lines_before c.args.batch.text.now c.run_lines.new.output.failed (HasCleanDisk (file_state last)) c.run_lines.result c.in-Ok.ensures.under c.in-Ok.ensures.empty (always_clean (λ _. refl) last) c.run_lines.ensures.stopped
 
 pub returns-in-Err-clause-answer : goal.returns-in-Err-clause-answer
-returns-in-Err-clause-answer g c = refused_opening (telling (g.P.Paths.tells c.args.paths.now) (g.P.Paths.stands c.args.paths.now) (g.P.Paths.lists c.args.paths.now)) _ _ _ _ _ _ c.in-Err.refusal c.refuse.result c.in-Err.ensures.failed c.refuse.ensures.answer
+returns-in-Err-clause-answer g c = refused_opening (telling_of g.P.Paths c.args.paths.now) _ _ _ _ _ _ c.in-Err.refusal c.refuse.result c.in-Err.ensures.failed c.refuse.ensures.answer
 
 pub returns-in-Err-clause-stopped : goal.returns-in-Err-clause-stopped
 returns-in-Err-clause-stopped g c =
-    silent_refusal (telling (g.P.Paths.tells c.args.paths.now) (g.P.Paths.stands c.args.paths.now) (g.P.Paths.lists c.args.paths.now)) (λ sink. g.W.Write.contents sink.writer) c.refuse.new.output.failed c.args.output.now c.refuse.new.output c.args.profile c.args.batch.lines_before c.args.batch.text.now
+    silent_refusal (telling_of g.P.Paths c.args.paths.now) (λ sink. g.W.Write.contents sink.writer) c.refuse.new.output.failed c.args.output.now c.refuse.new.output c.args.profile c.args.batch.lines_before c.args.batch.text.now
     c.refuse.result c.refuse.ensures.stopped

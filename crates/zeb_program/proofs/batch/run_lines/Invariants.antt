@@ -1,9 +1,10 @@
-use Rattle.zeb_program.proofs.Cited.{◌≡◌, ◌+◌, ◌<◌, ◌^◌, false, length, state, HasCleanDisk, conditions, LineOver, Utf8, shadow, version_of}
-use Rattle.zeb_paths.specs.Walks.{telling}
+use Rattle.zeb_program.proofs.Cited.{◌≡◌, ◌+◌, ◌<◌, ◌^◌, false, length, state, HasCleanDisk, LineOver, Utf8, shadow}
+use Rattle.zeb_paths.specs.Walks.{telling_of}
 use Rattle.zeb_program.proofs.AnswerLemmas.{IsAnswered}
 use Rattle.zeb_program.proofs.DoneLemmas.{HasDone}
 use Rattle.zeb_program.proofs.ServingLemmas.{Reaches}
 use Rattle.zeb_program.proofs.batch.run_lines.Given as goal
+use Rattle.zeb_engine.specs.Sessions.{conditions_in}
 
 -- Each line takes a byte at least, so their numbers fit. What was written answers the lines so far.
 abbrev pub invariant-loop-rest : goal.invariant-loop-rest
@@ -16,13 +17,13 @@ invariant-loop-rest g l =
       under : (l.session.profile ≡ before.profile) × (l.session.limits ≡ before.limits);
       clean : HasCleanDisk (state g.S.Store l.session.connection) → HasCleanDisk (state g.S.Store before.connection);
       done : HasCleanDisk (state g.S.Store l.session.connection)
-          → HasDone g.S.Store (telling (g.P.Paths.tells l.paths) (g.P.Paths.stands l.paths) (g.P.Paths.lists l.paths)) g.L.Layout.format (conditions (version_of g.L.Layout.format) before.profile before.limits)
+          → HasDone g.S.Store (telling_of g.P.Paths l.paths) g.L.Layout.format (conditions_in g.L.Layout.format before)
           l.batch.lines_before l.batch.text.now before.connection l.number l.rest l.session.connection;
       over : l.output.failed ≡ false → HasCleanDisk (state g.S.Store l.session.connection)
-          → IsAnswered (LineOver g.S.Store (telling (g.P.Paths.tells l.paths) (g.P.Paths.stands l.paths) (g.P.Paths.lists l.paths)) g.L.Layout.format (conditions (version_of g.L.Layout.format) before.profile before.limits))
+          → IsAnswered (LineOver g.S.Store (telling_of g.P.Paths l.paths) g.L.Layout.format (conditions_in g.L.Layout.format before))
           (g.W.Write.contents l.initial.output.writer) (g.W.Write.contents l.output.writer) l.batch.lines_before l.batch.text.now before.connection l.number l.rest l.greatest l.session.connection;
       answers : l.output.failed ≡ false → HasCleanDisk (state g.S.Store l.session.connection)
-          → Reaches (g.P.Paths.tells l.paths) (conditions (version_of g.L.Layout.format) before.profile before.limits) (state g.S.Store before.connection) (state g.S.Store l.session.connection)
+          → Reaches (g.P.Paths.tells l.paths) (conditions_in g.L.Layout.format before) (state g.S.Store before.connection) (state g.S.Store l.session.connection)
           (g.W.Write.contents l.initial.output.writer) (g.W.Write.contents l.output.writer) l.batch.lines_before l.batch.text.now l.number l.rest l.greatest;
     }
 

@@ -1,5 +1,5 @@
 use Rattle.zeb_program.proofs.Cited.{refl, codes, HasCleanDisk, file_state, conditions}
-use Rattle.zeb_paths.specs.Walks.{telling}
+use Rattle.zeb_paths.specs.Walks.{telling_of}
 use Rattle.zeb_program.proofs.MemoryLemmas.{always_clean}
 use Rattle.zeb_program.proofs.ScriptAnswerLemmas.{run_from_nothing, stopped_batch}
 use Rattle.zeb_program.proofs.WordRunLemmas.{ran_on_nothing, refused_on_nothing, stopped_on_nothing}
@@ -9,7 +9,7 @@ pub returns-in-Ok-clause-answer : goal.returns-in-Ok-clause-answer
 returns-in-Ok-clause-answer g c =
     let last = c.run_lines.new.session.connection in
     let k = conditions (codes "2") c.in-Ok.session.profile c.in-Ok.session.limits in
-    let at = telling (g.P.Paths.tells c.args.paths.now) (g.P.Paths.stands c.args.paths.now) (g.P.Paths.lists c.args.paths.now) in
+    let at = telling_of g.P.Paths c.args.paths.now in
     let old = g.W.Write.contents c.args.output.now.writer in
     let new = g.W.Write.contents c.run_lines.new.output.writer in
     let n = c.args.batch.lines_before in
@@ -23,14 +23,14 @@ returns-in-Ok-clause-stopped g c =
     let session = c.in-Ok.session in
     let last = c.run_lines.new.session.connection in
     let k = conditions (codes "2") session.profile session.limits in
-    stopped_batch (telling (g.P.Paths.tells c.args.paths.now) (g.P.Paths.stands c.args.paths.now) (g.P.Paths.lists c.args.paths.now)) k c.args.profile session.connection last (g.W.Write.contents c.args.output.now.writer) (g.W.Write.contents c.run_lines.new.output.writer)
+    stopped_batch (telling_of g.P.Paths c.args.paths.now) k c.args.profile session.connection last (g.W.Write.contents c.args.output.now.writer) (g.W.Write.contents c.run_lines.new.output.writer)
     c.args.batch.lines_before c.args.batch.text.now c.run_lines.new.output.failed (HasCleanDisk (file_state last)) c.run_lines.result c.in-Ok.ensures.under c.in-Ok.ensures.empty (always_clean (λ _. refl) last) c.run_lines.ensures.stopped
 
 pub returns-in-Err-clause-answer : goal.returns-in-Err-clause-answer
 returns-in-Err-clause-answer g c =
-    refused_on_nothing (telling (g.P.Paths.tells c.args.paths.now) (g.P.Paths.stands c.args.paths.now) (g.P.Paths.lists c.args.paths.now)) c.args.profile c.args.batch.lines_before c.args.batch.text.now (g.W.Write.contents c.args.output.now.writer) _ _ c.in-Err.refusal c.from.result _ _ c.tell_failure.result
+    refused_on_nothing (telling_of g.P.Paths c.args.paths.now) c.args.profile c.args.batch.lines_before c.args.batch.text.now (g.W.Write.contents c.args.output.now.writer) _ _ c.in-Err.refusal c.from.result _ _ c.tell_failure.result
     c.in-Err.ensures.failed c.from.ensures c.tell_failure.ensures.told
 
 pub returns-in-Err-clause-stopped : goal.returns-in-Err-clause-stopped
 returns-in-Err-clause-stopped g c =
-    stopped_on_nothing (telling (g.P.Paths.tells c.args.paths.now) (g.P.Paths.stands c.args.paths.now) (g.P.Paths.lists c.args.paths.now)) c.args.profile c.args.batch.lines_before c.args.batch.text.now (g.W.Write.contents c.args.output.now.writer) _ c.tell_failure.result
+    stopped_on_nothing (telling_of g.P.Paths c.args.paths.now) c.args.profile c.args.batch.lines_before c.args.batch.text.now (g.W.Write.contents c.args.output.now.writer) _ c.tell_failure.result

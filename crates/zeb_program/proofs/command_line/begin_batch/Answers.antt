@@ -1,6 +1,6 @@
 use Rattle.std.proofs.Common.{◌≡◌, ◌∙◌, ap, inr, refl, rules}
 use Rattle.std.specs.Prelude.{Err}
-use Rattle.zeb_program.specs.Registers.{places}
+use Rattle.zeb_program.specs.Registers.{places_of}
 use Rattle.zeb_program.specs.WordRuns.{StopsReading}
 use Rattle.zeb_program.proofs.ScriptAnswerLemmas.{text_input}
 use Rattle.zeb_program.proofs.ResultValues.{passed_failure}
@@ -13,7 +13,7 @@ returns-in-Ok-clause-begun g c = (c.in_ok-profile.ensures.read, (text_input c.in
 pub returns-in_err-profile-clause-refused : goal.returns-in_err-profile-clause-refused
 returns-in_err-profile-clause-refused g c =
     let is : c.from_residual.result ≡ Err c.in_err-profile.field-0.0 = search rules in
-    let at = places g.P.Store.Store g.P.Paths.tells g.P.Paths.stands g.P.Paths.lists g.P.Paths.explains g.P.Paths.opens g.P.Paths.refuses g.P.Paths.lacks g.P.Paths.has g.P.Paths.lets_go g.P.Paths.leaves c.args.paths.now c.args.paths.now in
+    let at = places_of g.P.Store.Store g.P.Paths c.args.paths.now c.args.paths.now in
     let given = g.R.Source.remaining c.args.input.now in
     let failed = g.R.Source.has_failed c.args.input.now in
     passed_failure (λ failure. StopsReading at c.args.config given failed failure.fault failure.cause) c.from_residual.result c.in_err-profile.field-0.0 is

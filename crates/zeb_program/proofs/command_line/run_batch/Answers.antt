@@ -2,7 +2,7 @@ use Rattle.std.proofs.Common.{◌≡◌, inl, inr, refl, rules, subst, sym}
 use Rattle.std.specs.Prelude.{Err}
 use Rattle.std.proofs.KnownBytes.{Keeps-refl}
 use Rattle.zeb_register.proofs.Calls.{on_err}
-use Rattle.zeb_program.specs.Registers.{places}
+use Rattle.zeb_program.specs.Registers.{places_of}
 use Rattle.zeb_program.specs.Unanswered.{IsToldSince}
 use Rattle.zeb_program.specs.WordRuns.{IsText, batch_silent}
 use Rattle.zeb_program.proofs.LeftLemmas.{left_unread, starved}
@@ -13,25 +13,25 @@ use Rattle.zeb_program.proofs.command_line.run_batch.Goals as goal
 
 pub returns-in-Ok-clause-answer : goal.returns-in-Ok-clause-answer
 returns-in-Ok-clause-answer g c =
-    batch_run (places g.P.Store.Store g.P.Paths.tells g.P.Paths.stands g.P.Paths.lists g.P.Paths.explains g.P.Paths.opens g.P.Paths.refuses g.P.Paths.lacks g.P.Paths.has g.P.Paths.lets_go g.P.Paths.leaves c.args.paths.now c.serve_batch.new.paths) c.args.config c.in_ok-named.named (g.R.Source.remaining c.args.input.now) _ c.in-Ok.profile c.as_str.result.now _ _ _ _ _ _ c.serve_batch.result
+    batch_run (places_of g.P.Store.Store g.P.Paths c.args.paths.now c.serve_batch.new.paths) c.args.config c.in_ok-named.named (g.R.Source.remaining c.args.input.now) _ c.in-Ok.profile c.as_str.result.now _ _ _ _ _ _ c.serve_batch.result
     c.in_ok-named.ensures.cases c.in-Ok.ensures.begun.0 (subst (IsText (g.R.Source.remaining c.args.input.now)) (sym c.as_str.ensures.value) c.in-Ok.ensures.begun.1) (c.serve_batch.ensures.answer refl)
 
 pub returns-in-Err-clause-answer : goal.returns-in-Err-clause-answer
 returns-in-Err-clause-answer g c =
-    batch_refused (places g.P.Store.Store g.P.Paths.tells g.P.Paths.stands g.P.Paths.lists g.P.Paths.explains g.P.Paths.opens g.P.Paths.refuses g.P.Paths.lacks g.P.Paths.has g.P.Paths.lets_go g.P.Paths.leaves c.args.paths.now c.args.paths.now) c.args.config (g.R.Source.remaining c.args.input.now) _ _ _ _ c.in-Err.failure.fault c.in-Err.failure.cause _ _ c.tell_failure.result
+    batch_refused (places_of g.P.Store.Store g.P.Paths c.args.paths.now c.args.paths.now) c.args.config (g.R.Source.remaining c.args.input.now) _ _ _ _ c.in-Err.failure.fault c.in-Err.failure.cause _ _ c.tell_failure.result
     refl c.in-Err.ensures.refused c.tell_failure.ensures.told
 
 pub returns-in-Ok-clause-stopped : goal.returns-in-Ok-clause-stopped
 returns-in-Ok-clause-stopped g c = (
   c.serve_batch.ensures.grows,
-  stop_batch (places g.P.Store.Store g.P.Paths.tells g.P.Paths.stands g.P.Paths.lists g.P.Paths.explains g.P.Paths.opens g.P.Paths.refuses g.P.Paths.lacks g.P.Paths.has g.P.Paths.lets_go g.P.Paths.leaves c.args.paths.now c.serve_batch.new.paths) c.args.config (g.R.Source.remaining c.args.input.now) c.in-Ok.profile c.as_str.result.now _ _ _ _ _ _ c.serve_batch.result
+  stop_batch (places_of g.P.Store.Store g.P.Paths c.args.paths.now c.serve_batch.new.paths) c.args.config (g.R.Source.remaining c.args.input.now) c.in-Ok.profile c.as_str.result.now _ _ _ _ _ _ c.serve_batch.result
       c.in-Ok.ensures.begun.0 (subst (IsText (g.R.Source.remaining c.args.input.now)) (sym c.as_str.ensures.value) c.in-Ok.ensures.begun.1) (c.serve_batch.ensures.stopped refl),
 )
 
 pub returns-in-Err-clause-stopped : goal.returns-in-Err-clause-stopped
 returns-in-Err-clause-stopped g c = (
   silent_grows (λ sink. g.V.Write.contents sink.writer) c.args.fault_output.now c.tell_failure.new.output c.tell_failure.result c.tell_failure.new.output.failed c.tell_failure.ensures.silent,
-  stop_unread (places g.P.Store.Store g.P.Paths.tells g.P.Paths.stands g.P.Paths.lists g.P.Paths.explains g.P.Paths.opens g.P.Paths.refuses g.P.Paths.lacks g.P.Paths.has g.P.Paths.lets_go g.P.Paths.leaves c.args.paths.now c.args.paths.now) c.args.config _ _ (λ sink. g.V.Write.contents sink.writer) c.args.fault_output.now c.tell_failure.new.output _ _ c.tell_failure.result refl c.tell_failure.ensures.silent,
+  stop_unread (places_of g.P.Store.Store g.P.Paths c.args.paths.now c.args.paths.now) c.args.config _ _ (λ sink. g.V.Write.contents sink.writer) c.args.fault_output.now c.tell_failure.new.output _ _ c.tell_failure.result refl c.tell_failure.ensures.silent,
 )
 
 -- there is no memory for the name of the profile's file
@@ -47,7 +47,7 @@ returns-in-Ok-clause-store g c =
 
 pub returns-in-Err-clause-store : goal.returns-in-Err-clause-store
 returns-in-Err-clause-store g c =
-    left_unread (places g.P.Store.Store g.P.Paths.tells g.P.Paths.stands g.P.Paths.lists g.P.Paths.explains g.P.Paths.opens g.P.Paths.refuses g.P.Paths.lacks g.P.Paths.has g.P.Paths.lets_go g.P.Paths.leaves c.args.paths.now c.args.paths.now) c.args.config (g.R.Source.remaining c.args.input.now) (g.R.Source.has_failed c.begin_batch.new.input) c.in-Err.failure.fault c.in-Err.failure.cause c.tell_failure.result
+    left_unread (places_of g.P.Store.Store g.P.Paths c.args.paths.now c.args.paths.now) c.args.config (g.R.Source.remaining c.args.input.now) (g.R.Source.has_failed c.begin_batch.new.input) c.in-Err.failure.fault c.in-Err.failure.cause c.tell_failure.result
     (IsToldSince c.tell_failure.new.output.failed (g.V.Write.contents c.args.fault_output.now.writer) (g.V.Write.contents c.tell_failure.new.output.writer)) refl c.in-Err.ensures.refused
     (told_caused c.tell_failure.new.output.failed c.in-Err.failure.fault c.in-Err.failure.cause c.tell_failure.result (g.V.Write.contents c.args.fault_output.now.writer) (g.V.Write.contents c.tell_failure.new.output.writer) c.tell_failure.ensures.status.0 c.tell_failure.ensures.told)
 

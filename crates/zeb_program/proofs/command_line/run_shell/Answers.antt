@@ -1,10 +1,8 @@
 use Rattle.std.proofs.Common.{◌≡◌, inl, refl, rules}
 use Rattle.std.specs.Prelude.{Err, string_bytes}
-use Rattle.zeb_change.specs.Conditions.{conditions}
 use Rattle.zeb_register.proofs.Calls.{on_err}
-use Rattle.zeb_register.specs.Formats.{version_of}
 use Rattle.zeb_program.specs.PrivateWordRuns.{format_of}
-use Rattle.zeb_program.specs.Registers.{places}
+use Rattle.zeb_program.specs.Registers.{places_of}
 use Rattle.zeb_program.specs.Unanswered.{IsToldSince}
 use Rattle.zeb_program.proofs.LeftLemmas.{left_served, left_unserved, starved}
 use Rattle.zeb_program.proofs.StopLemmas.{stop_serving, stop_unnamed, stop_unserved}
@@ -12,6 +10,7 @@ use Rattle.zeb_program.proofs.ToldLemmas.{told_unanswered, unbegun_grows, unopen
 use Rattle.zeb_program.proofs.WordAnswerLemmas.{shell_read, shell_refused}
 use Rattle.zeb_program.proofs.WordRunLemmas.{shell_served, shell_unopened}
 use Rattle.zeb_program.proofs.command_line.run_shell.Goals as goal
+use Rattle.zeb_engine.specs.Sessions.{conditions_in}
 
 pub returns-in-Ok-clause-whole : goal.returns-in-Ok-clause-whole
 returns-in-Ok-clause-whole g c = shell_read c.serve_on.result _ _ c.serve_on.ensures.read.1
@@ -23,12 +22,12 @@ pub returns-in-Ok-clause-answer : goal.returns-in-Ok-clause-answer
 returns-in-Ok-clause-answer g c =
     let register = c.in-Ok.register in
     let format = format_of register.1 in
-    shell_served (places g.P.Store.Store g.P.Paths.tells g.P.Paths.stands g.P.Paths.lists g.P.Paths.explains g.P.Paths.opens g.P.Paths.refuses g.P.Paths.lacks g.P.Paths.has g.P.Paths.lets_go g.P.Paths.leaves c.args.paths.now c.open.new.paths) c.args.config format (conditions (version_of format) register.0.profile register.0.limits) register.0.connection
+    shell_served (places_of g.P.Store.Store g.P.Paths c.args.paths.now c.open.new.paths) c.args.config format (conditions_in format register.0) register.0.connection
     _ _ _ _ _ _ _ _ _ c.serve_on.result c.in-Ok.ensures.opened c.serve_on.ensures.answer
 
 pub returns-in-Err-clause-answer : goal.returns-in-Err-clause-answer
 returns-in-Err-clause-answer g c =
-    shell_unopened (places g.P.Store.Store g.P.Paths.tells g.P.Paths.stands g.P.Paths.lists g.P.Paths.explains g.P.Paths.opens g.P.Paths.refuses g.P.Paths.lacks g.P.Paths.has g.P.Paths.lets_go g.P.Paths.leaves c.args.paths.now c.open.new.paths) c.args.config c.in_ok-named.named _ _ _ _ _ c.in-Err.refused.failure.fault c.in-Err.refused.failure.cause c.in-Err.refused.closed _ _ c.tell_unanswered.result
+    shell_unopened (places_of g.P.Store.Store g.P.Paths c.args.paths.now c.open.new.paths) c.args.config c.in_ok-named.named _ _ _ _ _ c.in-Err.refused.failure.fault c.in-Err.refused.failure.cause c.in-Err.refused.closed _ _ c.tell_unanswered.result
     c.in_ok-named.ensures.cases c.in-Err.ensures.failed c.tell_unanswered.ensures.told
 
 pub returns-in-Ok-clause-stopped : goal.returns-in-Ok-clause-stopped
@@ -36,33 +35,33 @@ returns-in-Ok-clause-stopped g c =
     let register = c.in-Ok.register in
     let format = format_of register.1 in (
       c.serve_on.ensures.stopped.0,
-      stop_serving (places g.P.Store.Store g.P.Paths.tells g.P.Paths.stands g.P.Paths.lists g.P.Paths.explains g.P.Paths.opens g.P.Paths.refuses g.P.Paths.lacks g.P.Paths.has g.P.Paths.lets_go g.P.Paths.leaves c.args.paths.now c.open.new.paths) c.args.config format (conditions (version_of format) register.0.profile register.0.limits) register.0.connection
+      stop_serving (places_of g.P.Store.Store g.P.Paths c.args.paths.now c.open.new.paths) c.args.config format (conditions_in format register.0) register.0.connection
           _ _ _ _ _ _ _ _ c.serve_on.result c.in-Ok.ensures.opened c.serve_on.ensures.stopped.1,
     )
 
 pub returns-in-Err-clause-stopped : goal.returns-in-Err-clause-stopped
 returns-in-Err-clause-stopped g c = (
   unopened_grows c.in-Err.refused.closed (g.V.Write.contents c.args.fault_output.now.writer) (g.V.Write.contents c.tell_unanswered.new.output.writer) c.tell_unanswered.result c.tell_unanswered.new.output.failed c.tell_unanswered.ensures.stopped,
-  stop_unserved (places g.P.Store.Store g.P.Paths.tells g.P.Paths.stands g.P.Paths.lists g.P.Paths.explains g.P.Paths.opens g.P.Paths.refuses g.P.Paths.lacks g.P.Paths.has g.P.Paths.lets_go g.P.Paths.leaves c.args.paths.now c.open.new.paths) c.args.config _ _ _ _ c.in-Err.refused.failure.fault c.in-Err.refused.failure.cause c.in-Err.refused.closed _ _ c.tell_unanswered.result c.in-Err.ensures.failed c.tell_unanswered.ensures.stopped,
+  stop_unserved (places_of g.P.Store.Store g.P.Paths c.args.paths.now c.open.new.paths) c.args.config _ _ _ _ c.in-Err.refused.failure.fault c.in-Err.refused.failure.cause c.in-Err.refused.closed _ _ c.tell_unanswered.result c.in-Err.ensures.failed c.tell_unanswered.ensures.stopped,
 )
 
 -- there is no memory for the name of the profile's file
 pub returns-in_err-named-clause-stopped : goal.returns-in_err-named-clause-stopped
 returns-in_err-named-clause-stopped g c = (
   unbegun_grows c.from_residual.result c.args.fault_output.now.failed (g.V.Write.contents c.args.fault_output.now.writer),
-  on_err c.from_residual.result _ (λ _ _. stop_unnamed (places g.P.Store.Store g.P.Paths.tells g.P.Paths.stands g.P.Paths.lists g.P.Paths.explains g.P.Paths.opens g.P.Paths.refuses g.P.Paths.lacks g.P.Paths.has g.P.Paths.lets_go g.P.Paths.leaves c.args.paths.now c.args.paths.now) c.args.config _ (g.W.Write.contents c.args.output.now.writer) (g.V.Write.contents c.args.fault_output.now.writer) refl),
+  on_err c.from_residual.result _ (λ _ _. stop_unnamed (places_of g.P.Store.Store g.P.Paths c.args.paths.now c.args.paths.now) c.args.config _ (g.W.Write.contents c.args.output.now.writer) (g.V.Write.contents c.args.fault_output.now.writer) refl),
 )
 
 pub returns-in-Ok-clause-store : goal.returns-in-Ok-clause-store
 returns-in-Ok-clause-store g c =
     let register = c.in-Ok.register in
     let format = format_of register.1 in
-    left_served (places g.P.Store.Store g.P.Paths.tells g.P.Paths.stands g.P.Paths.lists g.P.Paths.explains g.P.Paths.opens g.P.Paths.refuses g.P.Paths.lacks g.P.Paths.has g.P.Paths.lets_go g.P.Paths.leaves c.args.paths.now c.open.new.paths) c.args.config format (conditions (version_of format) register.0.profile register.0.limits) register.0.connection
+    left_served (places_of g.P.Store.Store g.P.Paths c.args.paths.now c.open.new.paths) c.args.config format (conditions_in format register.0) register.0.connection
     (g.R.Source.remaining c.args.input.now) c.serve_on.result (IsToldSince c.serve_on.new.fault_output.failed (g.V.Write.contents c.args.fault_output.now.writer) (g.V.Write.contents c.serve_on.new.fault_output.writer)) c.in-Ok.ensures.opened c.serve_on.ensures.store
 
 pub returns-in-Err-clause-store : goal.returns-in-Err-clause-store
 returns-in-Err-clause-store g c =
-    left_unserved (places g.P.Store.Store g.P.Paths.tells g.P.Paths.stands g.P.Paths.lists g.P.Paths.explains g.P.Paths.opens g.P.Paths.refuses g.P.Paths.lacks g.P.Paths.has g.P.Paths.lets_go g.P.Paths.leaves c.args.paths.now c.open.new.paths) c.args.config (g.R.Source.remaining c.args.input.now) c.in-Err.refused.failure.fault c.in-Err.refused.failure.cause c.in-Err.refused.closed c.tell_unanswered.result
+    left_unserved (places_of g.P.Store.Store g.P.Paths c.args.paths.now c.open.new.paths) c.args.config (g.R.Source.remaining c.args.input.now) c.in-Err.refused.failure.fault c.in-Err.refused.failure.cause c.in-Err.refused.closed c.tell_unanswered.result
     (IsToldSince c.tell_unanswered.new.output.failed (g.V.Write.contents c.args.fault_output.now.writer) (g.V.Write.contents c.tell_unanswered.new.output.writer)) c.in-Err.ensures.failed
     (told_unanswered c.tell_unanswered.new.output.failed (g.P.Paths.tells c.open.new.paths (string_bytes c.in_ok-named.named)) c.in_ok-named.named c.in-Err.refused.failure.fault c.in-Err.refused.failure.cause c.in-Err.refused.closed c.tell_unanswered.result (g.V.Write.contents c.args.fault_output.now.writer) (g.V.Write.contents c.tell_unanswered.new.output.writer) c.tell_unanswered.ensures.memory c.tell_unanswered.ensures.told)
 

@@ -2,7 +2,7 @@ use Rattle.std.proofs.Common.{[], map, string_bytes, inl, inr, arith, refl, subs
 use Rattle.std.proofs.KnownBytes.{Consumes-nil}
 use Rattle.zeb_program.specs.FixedLines.{starved_line}
 use Rattle.zeb_program.specs.LeftStores.{LeavesByTask, left_alone, left_by_batch, left_by_shell, left_by_task}
-use Rattle.zeb_program.specs.Registers.{places}
+use Rattle.zeb_program.specs.Registers.{places_of}
 use Rattle.zeb_program.specs.Unanswered.{IsToldSince}
 use Rattle.zeb_program.specs.WordAnswers.{misused}
 use Rattle.zeb_program.proofs.ToldLemmas.{stopped_grows, told_alone}
@@ -21,13 +21,13 @@ returns-in-Task-clause-input g c = (λ other. ([], omega (arith), Consumes-nil (
 
 pub returns-in-Task-clause-answer : goal.returns-in-Task-clause-answer
 returns-in-Task-clause-answer g c =
-    task_words (places g.P.Store.Store g.P.Paths.tells g.P.Paths.stands g.P.Paths.lists g.P.Paths.explains g.P.Paths.opens g.P.Paths.refuses g.P.Paths.lacks g.P.Paths.has g.P.Paths.lets_go g.P.Paths.leaves c.args.paths.now c.run_task.new.paths) (map string_bytes c.args.words.now) _ _ _ _ _ _ _ c.in-Ok.words c.layout_asked-choice.result c.in-Task.task _ _ c.run_task.result
+    task_words (places_of g.P.Store.Store g.P.Paths c.args.paths.now c.run_task.new.paths) (map string_bytes c.args.words.now) _ _ _ _ _ _ _ c.in-Ok.words c.layout_asked-choice.result c.in-Task.task _ _ c.run_task.result
     c.in-Ok.ensures.named c.in-Task.ensures c.layout_asked-choice.ensures c.run_task.ensures.apart
 
 pub returns-in-Task-clause-stopped : goal.returns-in-Task-clause-stopped
 returns-in-Task-clause-stopped g c = (
-  stopped_grows (places g.P.Store.Store g.P.Paths.tells g.P.Paths.stands g.P.Paths.lists g.P.Paths.explains g.P.Paths.opens g.P.Paths.refuses g.P.Paths.lacks g.P.Paths.has g.P.Paths.lets_go g.P.Paths.leaves c.args.paths.now c.run_task.new.paths) c.layout_asked-choice.result c.in-Ok.words.config c.in-Task.task (g.V.Write.contents c.args.fault_output.now.writer) (g.V.Write.contents c.run_task.new.fault_output.writer) c.run_task.result c.run_task.new.fault_output.failed _ c.run_task.ensures.stopped,
-  stopped_task_words (places g.P.Store.Store g.P.Paths.tells g.P.Paths.stands g.P.Paths.lists g.P.Paths.explains g.P.Paths.opens g.P.Paths.refuses g.P.Paths.lacks g.P.Paths.has g.P.Paths.lets_go g.P.Paths.leaves c.args.paths.now c.run_task.new.paths) (λ sink. g.W.Write.contents sink.writer) (map string_bytes c.args.words.now) _ _ c.args.output.now c.run_task.new.output
+  stopped_grows (places_of g.P.Store.Store g.P.Paths c.args.paths.now c.run_task.new.paths) c.layout_asked-choice.result c.in-Ok.words.config c.in-Task.task (g.V.Write.contents c.args.fault_output.now.writer) (g.V.Write.contents c.run_task.new.fault_output.writer) c.run_task.result c.run_task.new.fault_output.failed _ c.run_task.ensures.stopped,
+  stopped_task_words (places_of g.P.Store.Store g.P.Paths c.args.paths.now c.run_task.new.paths) (λ sink. g.W.Write.contents sink.writer) (map string_bytes c.args.words.now) _ _ c.args.output.now c.run_task.new.output
       _ _ c.in-Ok.words c.layout_asked-choice.result c.in-Task.task _ _ c.run_task.result c.in-Ok.ensures.named c.in-Task.ensures c.layout_asked-choice.ensures c.run_task.ensures.stopped,
 )
 
@@ -36,13 +36,13 @@ returns-in-Batch-clause-input g c = (λ other. c.run_batch.ensures.bounded, λ o
 
 pub returns-in-Batch-clause-answer : goal.returns-in-Batch-clause-answer
 returns-in-Batch-clause-answer g c =
-    batch_words (places g.P.Store.Store g.P.Paths.tells g.P.Paths.stands g.P.Paths.lists g.P.Paths.explains g.P.Paths.opens g.P.Paths.refuses g.P.Paths.lacks g.P.Paths.has g.P.Paths.lets_go g.P.Paths.leaves c.args.paths.now c.run_batch.new.paths) (map string_bytes c.args.words.now) _ _ _ _ _ _ _ c.in-Ok.words _ _ c.run_batch.result
+    batch_words (places_of g.P.Store.Store g.P.Paths c.args.paths.now c.run_batch.new.paths) (map string_bytes c.args.words.now) _ _ _ _ _ _ _ c.in-Ok.words _ _ c.run_batch.result
     c.in-Ok.ensures.named c.in-Batch.ensures c.run_batch.ensures.answer
 
 pub returns-in-Batch-clause-stopped : goal.returns-in-Batch-clause-stopped
 returns-in-Batch-clause-stopped g c = (
   c.run_batch.ensures.stopped.0,
-  stopped_batch_words (places g.P.Store.Store g.P.Paths.tells g.P.Paths.stands g.P.Paths.lists g.P.Paths.explains g.P.Paths.opens g.P.Paths.refuses g.P.Paths.lacks g.P.Paths.has g.P.Paths.lets_go g.P.Paths.leaves c.args.paths.now c.run_batch.new.paths) (map string_bytes c.args.words.now) _ _ _ _ _ _ c.in-Ok.words _ _ c.run_batch.result c.in-Ok.ensures.named c.in-Batch.ensures c.run_batch.ensures.stopped.1,
+  stopped_batch_words (places_of g.P.Store.Store g.P.Paths c.args.paths.now c.run_batch.new.paths) (map string_bytes c.args.words.now) _ _ _ _ _ _ c.in-Ok.words _ _ c.run_batch.result c.in-Ok.ensures.named c.in-Batch.ensures c.run_batch.ensures.stopped.1,
 )
 
 pub returns-in-Shell-clause-input : goal.returns-in-Shell-clause-input
@@ -53,14 +53,14 @@ returns-in-Shell-clause-input g c = (
 
 pub returns-in-Shell-clause-answer : goal.returns-in-Shell-clause-answer
 returns-in-Shell-clause-answer g c =
-    shell_words (places g.P.Store.Store g.P.Paths.tells g.P.Paths.stands g.P.Paths.lists g.P.Paths.explains g.P.Paths.opens g.P.Paths.refuses g.P.Paths.lacks g.P.Paths.has g.P.Paths.lets_go g.P.Paths.leaves c.args.paths.now c.run_shell.new.paths) (map string_bytes c.args.words.now) _ _ _ _ _ _ _ c.in-Ok.words _ _ c.run_shell.result
+    shell_words (places_of g.P.Store.Store g.P.Paths c.args.paths.now c.run_shell.new.paths) (map string_bytes c.args.words.now) _ _ _ _ _ _ _ c.in-Ok.words _ _ c.run_shell.result
     c.in-Ok.ensures.named c.in-Shell.ensures
     (shell_kept (λ sink. g.W.Write.contents sink.writer) c.args.output.now c.run_shell.new.output c.run_shell.result _ c.run_shell.ensures.whole) c.run_shell.ensures.answer
 
 pub returns-in-Shell-clause-stopped : goal.returns-in-Shell-clause-stopped
 returns-in-Shell-clause-stopped g c = (
   c.run_shell.ensures.stopped.0,
-  stopped_shell_words (places g.P.Store.Store g.P.Paths.tells g.P.Paths.stands g.P.Paths.lists g.P.Paths.explains g.P.Paths.opens g.P.Paths.refuses g.P.Paths.lacks g.P.Paths.has g.P.Paths.lets_go g.P.Paths.leaves c.args.paths.now c.run_shell.new.paths) (map string_bytes c.args.words.now) _ _ _ _ _ _ c.in-Ok.words _ _ c.run_shell.result c.in-Ok.ensures.named c.in-Shell.ensures c.run_shell.ensures.stopped.1,
+  stopped_shell_words (places_of g.P.Store.Store g.P.Paths c.args.paths.now c.run_shell.new.paths) (map string_bytes c.args.words.now) _ _ _ _ _ _ c.in-Ok.words _ _ c.run_shell.result c.in-Ok.ensures.named c.in-Shell.ensures c.run_shell.ensures.stopped.1,
 )
 
 pub returns-in-Err-clause-store : goal.returns-in-Err-clause-store
@@ -71,7 +71,7 @@ returns-in-Err-clause-store g c =
 pub returns-in-Task-clause-store : goal.returns-in-Task-clause-store
 returns-in-Task-clause-store g c =
     left_by_task c.in-Ok.words c.in-Task.task c.in-Ok.ensures.named c.in-Task.ensures
-    (subst (λ choice. LeavesByTask (places g.P.Store.Store g.P.Paths.tells g.P.Paths.stands g.P.Paths.lists g.P.Paths.explains g.P.Paths.opens g.P.Paths.refuses g.P.Paths.lacks g.P.Paths.has g.P.Paths.lets_go g.P.Paths.leaves c.args.paths.now c.run_task.new.paths) choice c.in-Ok.words.config c.in-Task.task c.run_task.result
+    (subst (λ choice. LeavesByTask (places_of g.P.Store.Store g.P.Paths c.args.paths.now c.run_task.new.paths) choice c.in-Ok.words.config c.in-Task.task c.run_task.result
     (IsToldSince c.run_task.new.fault_output.failed (g.V.Write.contents c.args.fault_output.now.writer) (g.V.Write.contents c.run_task.new.fault_output.writer))) c.layout_asked-choice.ensures c.run_task.ensures.store)
 
 pub returns-in-Batch-clause-store : goal.returns-in-Batch-clause-store

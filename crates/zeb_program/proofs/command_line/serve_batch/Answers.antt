@@ -1,10 +1,8 @@
 use Rattle.std.proofs.Common.{◌≡◌, false, true, refl, rules}
 use Rattle.std.specs.Prelude.{string_bytes}
-use Rattle.zeb_change.specs.Conditions.{conditions}
-use Rattle.zeb_register.specs.Formats.{version_of}
 use Rattle.zeb_program.specs.PrivateWordRuns.{format_of}
 use Rattle.zeb_program.specs.LeftStores.{unused as none_used}
-use Rattle.zeb_program.specs.Registers.{places}
+use Rattle.zeb_program.specs.Registers.{places_of}
 use Rattle.zeb_program.specs.Scripts.{BeginsRegister}
 use Rattle.zeb_program.specs.Unanswered.{IsToldSince}
 use Rattle.zeb_words.specs.declared.words.LayoutChoice.TheVariants.{Unsaid}
@@ -13,12 +11,13 @@ use Rattle.zeb_program.proofs.StopLemmas.{stop_kept, stop_none, stop_unopened}
 use Rattle.zeb_program.proofs.ToldLemmas.{silent_grows, told_unanswered, unopened_grows}
 use Rattle.zeb_program.proofs.WordRunLemmas.{begun_or, run_kept, run_none, run_unopened}
 use Rattle.zeb_program.proofs.command_line.serve_batch.Goals as goal
+use Rattle.zeb_engine.specs.Sessions.{conditions_in}
 
 pub returns-then-not-uses_store-clause-answer : goal.returns-then-not-uses_store-clause-answer
 returns-then-not-uses_store-clause-answer g c = λ first.
     let unused : c.uses_store.result ≡ false = search rules in
     let no = c.uses_store.ensures.unused unused in
-    run_none (places g.P.Store.Store g.P.Paths.tells g.P.Paths.stands g.P.Paths.lists g.P.Paths.explains g.P.Paths.opens g.P.Paths.refuses g.P.Paths.lacks g.P.Paths.has g.P.Paths.lets_go g.P.Paths.leaves c.args.paths.now c.args.paths.now) c.args.config c.args.profile c.args.batch.text.now c.args.batch.lines_before _ _ _ _ _ _ c.run_on_nothing.result first
+    run_none (places_of g.P.Store.Store g.P.Paths c.args.paths.now c.args.paths.now) c.args.config c.args.profile c.args.batch.text.now c.args.batch.lines_before _ _ _ _ _ _ c.run_on_nothing.result first
     no.0 (c.begins.ensures.none no.1) refl c.run_on_nothing.ensures.answer
 
 pub returns-in-Ok-clause-answer : goal.returns-in-Ok-clause-answer
@@ -27,20 +26,20 @@ returns-in-Ok-clause-answer g c = λ first.
     let may = begun_or _ _ c.begins.result (c.uses_store.ensures.used uses) c.begins.ensures.some in
     let register = c.in-Ok.register in
     let format = format_of register.1 in
-    run_kept (places g.P.Store.Store g.P.Paths.tells g.P.Paths.stands g.P.Paths.lists g.P.Paths.explains g.P.Paths.opens g.P.Paths.refuses g.P.Paths.lacks g.P.Paths.has g.P.Paths.lets_go g.P.Paths.leaves c.args.paths.now c.open_register.new.paths) c.args.config format c.args.profile c.args.batch.text.now (conditions (version_of format) register.0.profile register.0.limits) register.0.connection c.args.batch.lines_before
+    run_kept (places_of g.P.Store.Store g.P.Paths c.args.paths.now c.open_register.new.paths) c.args.config format c.args.profile c.args.batch.text.now (conditions_in format register.0) register.0.connection c.args.batch.lines_before
     _ _ _ _ _ _ c.run_on.result first may c.in-Ok.ensures.under c.in-Ok.ensures.opened c.run_on.ensures.answer
 
 pub returns-in-Err-clause-answer : goal.returns-in-Err-clause-answer
 returns-in-Err-clause-answer g c = λ first.
     let uses : c.uses_store.result ≡ true = search rules in
     let may = begun_or _ _ c.begins.result (c.uses_store.ensures.used uses) c.begins.ensures.some in
-    run_unopened (places g.P.Store.Store g.P.Paths.tells g.P.Paths.stands g.P.Paths.lists g.P.Paths.explains g.P.Paths.opens g.P.Paths.refuses g.P.Paths.lacks g.P.Paths.has g.P.Paths.lets_go g.P.Paths.leaves c.args.paths.now c.open_register.new.paths) c.args.config c.args.profile c.args.batch.text.now _ _ _ c.in-Err.refused.failure.fault c.in-Err.refused.failure.cause c.in-Err.refused.closed _ _ c.tell_unanswered.result may c.in-Err.ensures.failed c.tell_unanswered.ensures.told
+    run_unopened (places_of g.P.Store.Store g.P.Paths c.args.paths.now c.open_register.new.paths) c.args.config c.args.profile c.args.batch.text.now _ _ _ c.in-Err.refused.failure.fault c.in-Err.refused.failure.cause c.in-Err.refused.closed _ _ c.tell_unanswered.result may c.in-Err.ensures.failed c.tell_unanswered.ensures.told
 
 pub returns-then-not-uses_store-clause-stopped : goal.returns-then-not-uses_store-clause-stopped
 returns-then-not-uses_store-clause-stopped g c = λ first.
     let unused : c.uses_store.result ≡ false = search rules in
     let no = c.uses_store.ensures.unused unused in
-    stop_none (places g.P.Store.Store g.P.Paths.tells g.P.Paths.stands g.P.Paths.lists g.P.Paths.explains g.P.Paths.opens g.P.Paths.refuses g.P.Paths.lacks g.P.Paths.has g.P.Paths.lets_go g.P.Paths.leaves c.args.paths.now c.args.paths.now) c.args.profile c.args.batch.text.now c.args.batch.lines_before _ _ (λ sink. g.V.Write.contents sink.writer) c.args.fault_output.now c.run_on_nothing.new.fault_output _ _ c.run_on_nothing.result first
+    stop_none (places_of g.P.Store.Store g.P.Paths c.args.paths.now c.args.paths.now) c.args.profile c.args.batch.text.now c.args.batch.lines_before _ _ (λ sink. g.V.Write.contents sink.writer) c.args.fault_output.now c.run_on_nothing.new.fault_output _ _ c.run_on_nothing.result first
     no.0 (c.begins.ensures.none no.1) refl c.run_on_nothing.ensures.silent c.run_on_nothing.ensures.stopped
 
 pub returns-in-Ok-clause-stopped : goal.returns-in-Ok-clause-stopped
@@ -49,14 +48,14 @@ returns-in-Ok-clause-stopped g c = λ first.
     let may = begun_or _ _ c.begins.result (c.uses_store.ensures.used uses) c.begins.ensures.some in
     let register = c.in-Ok.register in
     let format = format_of register.1 in
-    stop_kept (places g.P.Store.Store g.P.Paths.tells g.P.Paths.stands g.P.Paths.lists g.P.Paths.explains g.P.Paths.opens g.P.Paths.refuses g.P.Paths.lacks g.P.Paths.has g.P.Paths.lets_go g.P.Paths.leaves c.args.paths.now c.open_register.new.paths) format c.args.profile c.args.batch.text.now (conditions (version_of format) register.0.profile register.0.limits) register.0.connection c.args.batch.lines_before
+    stop_kept (places_of g.P.Store.Store g.P.Paths c.args.paths.now c.open_register.new.paths) format c.args.profile c.args.batch.text.now (conditions_in format register.0) register.0.connection c.args.batch.lines_before
     _ _ _ _ _ _ c.run_on.result first may c.in-Ok.ensures.under c.in-Ok.ensures.opened c.run_on.ensures.stopped.1
 
 pub returns-in-Err-clause-stopped : goal.returns-in-Err-clause-stopped
 returns-in-Err-clause-stopped g c = λ first.
     let uses : c.uses_store.result ≡ true = search rules in
     let may = begun_or _ _ c.begins.result (c.uses_store.ensures.used uses) c.begins.ensures.some in
-    stop_unopened (places g.P.Store.Store g.P.Paths.tells g.P.Paths.stands g.P.Paths.lists g.P.Paths.explains g.P.Paths.opens g.P.Paths.refuses g.P.Paths.lacks g.P.Paths.has g.P.Paths.lets_go g.P.Paths.leaves c.args.paths.now c.open_register.new.paths) c.args.profile c.args.batch.text.now _ _ _ c.in-Err.refused.failure.fault c.in-Err.refused.failure.cause c.in-Err.refused.closed _ _ c.tell_unanswered.result may c.in-Err.ensures.failed c.tell_unanswered.ensures.stopped
+    stop_unopened (places_of g.P.Store.Store g.P.Paths c.args.paths.now c.open_register.new.paths) c.args.profile c.args.batch.text.now _ _ _ c.in-Err.refused.failure.fault c.in-Err.refused.failure.cause c.in-Err.refused.closed _ _ c.tell_unanswered.result may c.in-Err.ensures.failed c.tell_unanswered.ensures.stopped
 
 pub returns-then-not-uses_store-clause-store : goal.returns-then-not-uses_store-clause-store
 returns-then-not-uses_store-clause-store g c = λ first.
@@ -70,14 +69,14 @@ returns-in-Ok-clause-store g c = λ first.
     let may = begun_or _ _ c.begins.result (c.uses_store.ensures.used uses) c.begins.ensures.some in
     let register = c.in-Ok.register in
     let format = format_of register.1 in
-    left_lines (places g.P.Store.Store g.P.Paths.tells g.P.Paths.stands g.P.Paths.lists g.P.Paths.explains g.P.Paths.opens g.P.Paths.refuses g.P.Paths.lacks g.P.Paths.has g.P.Paths.lets_go g.P.Paths.leaves c.args.paths.now c.open_register.new.paths) c.args.profile format (conditions (version_of format) register.0.profile register.0.limits) register.0.connection c.args.batch.lines_before c.args.batch.text.now
+    left_lines (places_of g.P.Store.Store g.P.Paths c.args.paths.now c.open_register.new.paths) c.args.profile format (conditions_in format register.0) register.0.connection c.args.batch.lines_before c.args.batch.text.now
     c.run_on.result (IsToldSince c.run_on.new.fault_output.failed (g.V.Write.contents c.args.fault_output.now.writer) (g.V.Write.contents c.run_on.new.fault_output.writer)) first may c.in-Ok.ensures.under c.in-Ok.ensures.opened c.run_on.ensures.store
 
 pub returns-in-Err-clause-store : goal.returns-in-Err-clause-store
 returns-in-Err-clause-store g c = λ first.
     let uses : c.uses_store.result ≡ true = search rules in
     let may = begun_or _ _ c.begins.result (c.uses_store.ensures.used uses) c.begins.ensures.some in
-    left_unopened (places g.P.Store.Store g.P.Paths.tells g.P.Paths.stands g.P.Paths.lists g.P.Paths.explains g.P.Paths.opens g.P.Paths.refuses g.P.Paths.lacks g.P.Paths.has g.P.Paths.lets_go g.P.Paths.leaves c.args.paths.now c.open_register.new.paths) Unsaid c.args.profile c.tell_unanswered.result (IsToldSince c.tell_unanswered.new.output.failed (g.V.Write.contents c.args.fault_output.now.writer) (g.V.Write.contents c.tell_unanswered.new.output.writer)) (BeginsRegister c.args.batch.text.now) _
+    left_unopened (places_of g.P.Store.Store g.P.Paths c.args.paths.now c.open_register.new.paths) Unsaid c.args.profile c.tell_unanswered.result (IsToldSince c.tell_unanswered.new.output.failed (g.V.Write.contents c.args.fault_output.now.writer) (g.V.Write.contents c.tell_unanswered.new.output.writer)) (BeginsRegister c.args.batch.text.now) _
     c.in-Err.refused.failure.fault c.in-Err.refused.failure.cause c.in-Err.refused.closed may c.in-Err.ensures.failed
     (told_unanswered c.tell_unanswered.new.output.failed (g.P.Paths.tells c.open_register.new.paths (string_bytes c.args.config)) c.args.config c.in-Err.refused.failure.fault c.in-Err.refused.failure.cause c.in-Err.refused.closed c.tell_unanswered.result (g.V.Write.contents c.args.fault_output.now.writer) (g.V.Write.contents c.tell_unanswered.new.output.writer) c.tell_unanswered.ensures.memory c.tell_unanswered.ensures.told)
 

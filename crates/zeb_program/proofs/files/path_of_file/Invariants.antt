@@ -1,6 +1,6 @@
 use Rattle.std.proofs.Common.{◌≡◌, ◌≤◌, ◌+◌, ℕ, List, length, map, string_bytes}
 use Rattle.std.specs.Prelude.{◌⊎◌}
-use Rattle.zeb_paths.specs.Walks.{dues_left, telling}
+use Rattle.zeb_paths.specs.Walks.{dues_left, telling_of}
 use Rattle.zeb_program.specs.WalkedFiles.{WalksFrom}
 use Rattle.zeb_program.proofs.files.path_of_file.Given as goal
 
@@ -10,6 +10,6 @@ invariant-loop-nth g l =
     record {
       paths : l.walk.paths.now ≡ l.paths;
       walked : (files : List (List ℕ)) × (length files + 1 ≡ l._nth)
-          × WalksFrom (telling (g.P.Paths.tells l.paths) (g.P.Paths.stands l.paths) (g.P.Paths.lists l.paths)) (map string_bytes l.named) files (dues_left l.walk.steps.items);
+          × WalksFrom (telling_of g.P.Paths l.paths) (map string_bytes l.named) files (dues_left l.walk.steps.items);
       early : (l._nth ≤ 1) ⊎ (l._nth ≤ l.number);
     }

@@ -1,5 +1,5 @@
 use Rattle.std.proofs.Common.{◌≡◌, List, ℕ, map, string_bytes}
-use Rattle.zeb_paths.specs.Walks.{dues_left, paths_left, telling, walk_weight}
+use Rattle.zeb_paths.specs.Walks.{dues_left, paths_left, telling_of, walk_weight}
 use Rattle.zeb_program.specs.PrivateFiles.{sure_bytes}
 use Rattle.zeb_program.specs.TaskAnswers.{AreTold}
 use Rattle.zeb_program.proofs.ReaderLemmas.{IsMet, ReadsSoFar}
@@ -12,7 +12,7 @@ invariant-loop-walk g l =
       paths : l.walk.paths.now ≡ l.paths;
       met : (files : List (List ℕ)) → AreTold (g.P.Paths.tells l.paths) (map string_bytes l.named) files
           → IsMet (sure_bytes g.P.Reader.Source.remaining g.P.Reader.Source.may_fail g.P.Reader.Source.has_failed) (g.P.Paths.tells l.paths) files l.readers.items (paths_left l.walk.steps.items);
-      so_far : ReadsSoFar (sure_bytes g.P.Reader.Source.remaining g.P.Reader.Source.may_fail g.P.Reader.Source.has_failed) (telling (g.P.Paths.tells l.paths) (g.P.Paths.stands l.paths) (g.P.Paths.lists l.paths)) (map string_bytes l.named) l.readers.items (dues_left l.walk.steps.items);
+      so_far : ReadsSoFar (sure_bytes g.P.Reader.Source.remaining g.P.Reader.Source.may_fail g.P.Reader.Source.has_failed) (telling_of g.P.Paths l.paths) (map string_bytes l.named) l.readers.items (dues_left l.walk.steps.items);
     }
 
 abbrev pub decreases-loop-walk : goal.decreases-loop-walk

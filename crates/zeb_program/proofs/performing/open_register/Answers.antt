@@ -4,7 +4,7 @@ use Rattle.zeb_change.specs.Conditions.{conditions}
 use Rattle.zeb_register.specs.Formats.{packed_blocks, version_of}
 use Rattle.zeb_program.specs.PrivateFaults.{IsOpeningFault}
 use Rattle.zeb_program.specs.PrivateWordRuns.{format_of}
-use Rattle.zeb_program.specs.Registers.{places, untold}
+use Rattle.zeb_program.specs.Registers.{places_of, untold}
 use Rattle.zeb_program.specs.ScriptAnswers.{AreScriptConditions}
 use Rattle.zeb_program.proofs.LayoutLemmas.{conditions_in, looked_at, looked_over}
 use Rattle.zeb_program.proofs.OpeningLemmas.{opening_fault}
@@ -13,7 +13,7 @@ use Rattle.zeb_program.proofs.performing.open_register.Goals as goal
 pub returns-in_err-session-clause-failed : goal.returns-in_err-session-clause-failed
 returns-in_err-session-clause-failed g c =
     let is : c.from_residual.result ≡ Err c.in_err-session.field-0.0 = search rules in
-    let at = places g.P.Store.Store g.P.Paths.tells g.P.Paths.stands g.P.Paths.lists g.P.Paths.explains g.P.Paths.opens g.P.Paths.refuses g.P.Paths.lacks g.P.Paths.has g.P.Paths.lets_go g.P.Paths.leaves c.args.paths.now c.take_register.new.paths in
+    let at = places_of g.P.Store.Store g.P.Paths c.args.paths.now c.take_register.new.paths in
     subst (λ r. IfErr r (λ it. IsOpeningFault at c.args.profile it.failure.fault it.failure.cause it.closed)) (sym is) c.in_err-session.ensures.failed
 
 pub returns-in-Ok-clause-under : goal.returns-in-Ok-clause-under
@@ -31,7 +31,7 @@ returns-in-Ok-clause-opened g c =
 
 pub returns-in-Err-clause-failed : goal.returns-in-Err-clause-failed
 returns-in-Err-clause-failed g c =
-    let at = places g.P.Store.Store g.P.Paths.tells g.P.Paths.stands g.P.Paths.lists g.P.Paths.explains g.P.Paths.opens g.P.Paths.refuses g.P.Paths.lacks g.P.Paths.has g.P.Paths.lets_go g.P.Paths.leaves c.args.paths.now c.take_register.new.paths in
+    let at = places_of g.P.Store.Store g.P.Paths c.args.paths.now c.take_register.new.paths in
     let takes = c.in_ok-session.ensures.opened in
     let last = c.layout_of.new.session.connection in
     opening_fault at c.args.profile c.in-Err.refusal c.close_register.result c.refused_opening.result

@@ -1,23 +1,23 @@
 use Rattle.std.proofs.Common.{refl}
 use Rattle.sqlite.specs.Files.{file_state}
-use Rattle.zeb_change.specs.Conditions.{conditions}
-use Rattle.zeb_paths.specs.Walks.{telling}
-use Rattle.zeb_register.specs.Formats.{packed_blocks, version_of}
+use Rattle.zeb_paths.specs.Walks.{telling_of}
+use Rattle.zeb_register.specs.Formats.{packed_blocks}
 use Rattle.zeb_program.specs.PrivateWordRuns.{ServesOnNothing}
 use Rattle.zeb_program.specs.WordRuns.{IsOwnOr}
 use Rattle.zeb_program.proofs.MemoryLemmas.{always_clean}
 use Rattle.zeb_program.proofs.WarningLemmas.{warns_of}
 use Rattle.zeb_program.proofs.WordRunLemmas.{gives_for, served_nothing}
 use Rattle.zeb_program.proofs.performing.perform_on_nothing.Goals as goal
+use Rattle.zeb_engine.specs.Sessions.{conditions_in}
 
 pub returns-clause-serves : goal.returns-clause-serves
 returns-clause-serves g c =
     let session = c.in_ok-session.session in
     let done = c.carry_out-served.ensures.done in
     let own = done.0 in
-    let k = conditions (version_of packed_blocks) session.profile session.limits in
+    let k = conditions_in packed_blocks session in
     let last = c.carry_out-served.new.session.connection in
-    let at = telling (g.P.Paths.tells c.args.paths.now) (g.P.Paths.stands c.args.paths.now) (g.P.Paths.lists c.args.paths.now) in
+    let at = telling_of g.P.Paths c.args.paths.now in
     gives_for c.told_of.result (λ answer. IsOwnOr answer own) (ServesOnNothing (g.P.Paths.tells c.args.paths.now) at c.args.profile c.args.task.now)
     (λ answer. served_nothing (g.P.Paths.tells c.args.paths.now) at c.args.profile c.args.task.now k (file_state session.connection) (file_state last) own answer
     c.in_ok-session.ensures.under c.in_ok-session.ensures.empty (always_clean (λ _. refl) last) done.2) (c.told_of.ensures.gives own done.1)
@@ -25,5 +25,5 @@ returns-clause-serves g c =
 pub returns-clause-warns : goal.returns-clause-warns
 returns-clause-warns g c =
     let tells = g.P.Paths.tells c.args.paths.now in
-    let at = telling tells (g.P.Paths.stands c.args.paths.now) (g.P.Paths.lists c.args.paths.now) in
+    let at = telling_of g.P.Paths c.args.paths.now in
     warns_of tells at c.args.task.now c.carry_out-served.result c.told_of.result c.told_of.ensures.warns c.told_of.ensures.warned c.carry_out-served.ensures.unmarked c.carry_out-served.ensures.below

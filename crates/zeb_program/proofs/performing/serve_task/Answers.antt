@@ -1,4 +1,4 @@
-use Rattle.zeb_paths.specs.Walks.{telling}
+use Rattle.zeb_paths.specs.Walks.{telling_of}
 use Rattle.zeb_program.specs.PrivateWordRuns.{ExplainsFailure, GivesClosed, ServesHeld}
 use Rattle.zeb_program.specs.TaskAnswers.{paths_of}
 use Rattle.zeb_program.proofs.LayoutLemmas.{in_blocks, in_leaves}
@@ -7,7 +7,7 @@ use Rattle.zeb_program.proofs.performing.serve_task.Goals as goal
 pub returns-in-Blocks-clause-serves : goal.returns-in-Blocks-clause-serves
 returns-in-Blocks-clause-serves g c =
     let tells = g.P.Paths.tells c.args.paths.now in
-    let at = telling tells (g.P.Paths.stands c.args.paths.now) (g.P.Paths.lists c.args.paths.now) in
+    let at = telling_of g.P.Paths c.args.paths.now in
     let session = c.args.register.0 in
     in_blocks (λ format k held. GivesClosed c.serve_task_in.result (ServesHeld g.P.Store.Store (g.P.Paths.leaves c.args.paths.now) tells at format k c.args.task.now held)
     (ExplainsFailure at (g.P.Paths.explains c.args.paths.now) (paths_of c.args.task.now)))
@@ -16,7 +16,7 @@ returns-in-Blocks-clause-serves g c =
 pub returns-in-Leaves-clause-serves : goal.returns-in-Leaves-clause-serves
 returns-in-Leaves-clause-serves g c =
     let tells = g.P.Paths.tells c.args.paths.now in
-    let at = telling tells (g.P.Paths.stands c.args.paths.now) (g.P.Paths.lists c.args.paths.now) in
+    let at = telling_of g.P.Paths c.args.paths.now in
     let session = c.args.register.0 in
     let moved = c.to_layout.result in
     in_leaves (λ format k held. GivesClosed c.serve_task_in-in-Leaves.result (ServesHeld g.P.Store.Store (g.P.Paths.leaves c.args.paths.now) tells at format k c.args.task.now held)

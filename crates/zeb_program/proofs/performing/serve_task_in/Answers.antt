@@ -1,21 +1,20 @@
-use Rattle.zeb_change.specs.Conditions.{conditions}
-use Rattle.zeb_paths.specs.Walks.{telling}
-use Rattle.zeb_register.specs.Formats.{version_of}
+use Rattle.zeb_paths.specs.Walks.{telling_of}
 use Rattle.zeb_program.specs.PrivateWordRuns.{ServesHeld}
 use Rattle.zeb_program.specs.WordRuns.{IsOwnOr}
 use Rattle.zeb_program.proofs.WarningLemmas.{warns_of}
 use Rattle.zeb_program.proofs.WordRunLemmas.{gives_for, served_held}
 use Rattle.zeb_program.proofs.performing.serve_task_in.Goals as goal
+use Rattle.zeb_engine.specs.Sessions.{conditions_in}
 
 pub returns-clause-serves : goal.returns-clause-serves
 returns-clause-serves g c =
     let store = g.P.Store.Store in
     let leaves = g.P.Paths.leaves c.args.paths.now in
     let tells = g.P.Paths.tells c.args.paths.now in
-    let at = telling tells (g.P.Paths.stands c.args.paths.now) (g.P.Paths.lists c.args.paths.now) in
+    let at = telling_of g.P.Paths c.args.paths.now in
     let task = c.args.task.now in
     let format = g.L.Layout.format in
-    let k = conditions (version_of format) c.args.session.profile c.args.session.limits in
+    let k = conditions_in format c.args.session in
     let held = c.args.session.connection in
     let done = c.carry_out-served.ensures.done in
     let closed = c.close_register-closed.result in (
@@ -28,5 +27,5 @@ returns-clause-serves g c =
 pub returns-clause-warns : goal.returns-clause-warns
 returns-clause-warns g c =
     let tells = g.P.Paths.tells c.args.paths.now in
-    let at = telling tells (g.P.Paths.stands c.args.paths.now) (g.P.Paths.lists c.args.paths.now) in
+    let at = telling_of g.P.Paths c.args.paths.now in
     warns_of tells at c.args.task.now c.carry_out-served.result c.told_of.result c.told_of.ensures.warns c.told_of.ensures.warned c.carry_out-served.ensures.unmarked c.carry_out-served.ensures.below

@@ -1,6 +1,6 @@
 use Rattle.std.specs.Prelude.{None}
 use Rattle.std.proofs.Math.Path.{fun_ext}
-use Rattle.zeb_program.specs.Registers.{places, whole_but}
+use Rattle.zeb_program.specs.Registers.{places_of, whole_but}
 use Rattle.zeb_program.specs.FaultAnswers.{unopened_refusal}
 use Rattle.zeb_program.proofs.ResultValues.{ok_is_no_err}
 use Rattle.zeb_program.proofs.OpeningLemmas.{fails_opening, opening_fault, taken_store}
@@ -8,12 +8,12 @@ use Rattle.zeb_program.proofs.performing.take_register.Goals as goal
 
 pub returns-in-Ok-clause-opened : goal.returns-in-Ok-clause-opened
 returns-in-Ok-clause-opened g c =
-    taken_store (places g.P.Store.Store g.P.Paths.tells g.P.Paths.stands g.P.Paths.lists g.P.Paths.explains g.P.Paths.opens g.P.Paths.refuses g.P.Paths.lacks g.P.Paths.has g.P.Paths.lets_go g.P.Paths.leaves c.args.paths.now c.store-opened.new.self) c.args.profile c.store_path.result.now c.store-opened.result c.in-Ok.session.connection _
+    taken_store (places_of g.P.Store.Store g.P.Paths c.args.paths.now c.store-opened.new.self) c.args.profile c.store_path.result.now c.store-opened.result c.in-Ok.session.connection _
     c.store_path.ensures c.store-opened.ensures.given c.in-Ok.ensures.keeps c.in-Ok.ensures.unopened (λ failed. ok_is_no_err c.in-Ok.session (None, unopened_refusal failed.cause) _)
 
 pub returns-in-Err-clause-failed : goal.returns-in-Err-clause-failed
 returns-in-Err-clause-failed g c =
-    let at = places g.P.Store.Store g.P.Paths.tells g.P.Paths.stands g.P.Paths.lists g.P.Paths.explains g.P.Paths.opens g.P.Paths.refuses g.P.Paths.lacks g.P.Paths.has g.P.Paths.lets_go g.P.Paths.leaves c.args.paths.now c.store-opened.new.self in
+    let at = places_of g.P.Store.Store g.P.Paths c.args.paths.now c.store-opened.new.self in
     opening_fault at c.args.profile c.in-Err.refusal (whole_but c.or-cause.result) c.refused_opening.result
     (fails_opening _ at c.args.profile c.store_path.result.now c.store-opened.result c.in-Err.back c.in-Err.refusal c.opening_cause-cause.result c.let_go.result c.or-cause.result c.store_path.ensures c.store-opened.ensures.given c.store-opened.ensures.refused c.in-Err.ensures.unopened
     c.opening_cause-cause.ensures.other c.opening_cause-cause.ensures.failed c.or-cause.ensures c.in-Err.ensures.refused c.let_go.ensures.told c.let_go.ensures.none)

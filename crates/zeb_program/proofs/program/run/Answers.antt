@@ -2,8 +2,8 @@ use Rattle.std.proofs.Common.{◌≢◌, [], length, map, refl, rules, string_by
 use Rattle.std.proofs.lemmas.Bool.{eqb-true}
 use Rattle.std.proofs.lemmas.List.{nil_from_length}
 use Rattle.std.specs.Prelude.{IfSome}
-use Rattle.zeb_paths.specs.Walks.{telling}
-use Rattle.zeb_program.specs.Registers.{places}
+use Rattle.zeb_paths.specs.Walks.{telling_of}
+use Rattle.zeb_program.specs.Registers.{places_of}
 use Rattle.zeb_program.specs.ScriptAnswers.{EndsScript}
 use Rattle.zeb_program.specs.WordAnswers.{EndsWords}
 use Rattle.zeb_program.proofs.LeftLemmas.{ends_leaving}
@@ -20,7 +20,7 @@ returns-then-is_empty-clause-script g c = λ none quiet.
     let fault_kept = (c.finish.ensures.passed_fault quiet).2 in (
       tells_at_most fault_old fault_mid fault_new c.tell_script-status.result c.run_script-ended.result _ c.tell_script-status.ensures.answered c.tell_script-status.ensures.starved still fault_kept,
       λ read sound.
-          let at = telling (g.P.Paths.tells c.args.files.now) (g.P.Paths.stands c.args.files.now) (g.P.Paths.lists c.args.files.now) in
+          let at = telling_of g.P.Paths c.args.files.now in
           let left = g.R.Source.remaining c.args.input.now in
           let old = g.W.Write.contents c.args.output.now.writer in
           let written = g.W.Write.contents c.run_script-ended.new.output.writer in
@@ -43,7 +43,7 @@ pub returns-clause-store : goal.returns-clause-store
 returns-clause-store g c =
     let some : c.args.words.now ≢ [] = search rules in (
       λ none. absurd (some none),
-      λ _. ends_leaving (places g.P.Store.Store g.P.Paths.tells g.P.Paths.stands g.P.Paths.lists g.P.Paths.explains g.P.Paths.opens g.P.Paths.refuses g.P.Paths.lacks g.P.Paths.has g.P.Paths.lets_go g.P.Paths.leaves c.args.files.now c.run_words-ended.new.paths) (map string_bytes c.args.words.now) (g.R.Source.remaining c.args.input.now)
+      λ _. ends_leaving (places_of g.P.Store.Store g.P.Paths c.args.files.now c.run_words-ended.new.paths) (map string_bytes c.args.words.now) (g.R.Source.remaining c.args.input.now)
           (g.V.Write.contents c.args.fault_output.now.writer) (λ sink. g.V.Write.contents sink.writer) (λ sink. sink.failed) c.run_words-ended.new.fault_output c.tell_starved-status.new.fault_output (g.V.Write.contents c.finish-2.new.fault_output.writer) c.finish-2.new.fault_output.failed
           c.run_words-ended.result c.tell_starved-status.result c.finish-2.result _ c.run_words-ended.ensures.store c.run_words-ended.ensures.stopped.0 c.tell_starved-status.ensures.answered c.tell_starved-status.ensures.starved
           c.tell_starved-status.ensures.sound (λ quiet. (c.finish-2.ensures.passed_fault quiet).0) (λ quiet. (c.finish-2.ensures.passed_fault quiet).2) c.finish-2.ensures.status.0 c.code-2.ensures,
@@ -51,7 +51,7 @@ returns-clause-store g c =
 
 pub returns-clause-words : goal.returns-clause-words
 returns-clause-words g c = λ some sound quiet.
-    let at = places g.P.Store.Store g.P.Paths.tells g.P.Paths.stands g.P.Paths.lists g.P.Paths.explains g.P.Paths.opens g.P.Paths.refuses g.P.Paths.lacks g.P.Paths.has g.P.Paths.lets_go g.P.Paths.leaves c.args.files.now c.run_words-ended.new.paths in
+    let at = places_of g.P.Store.Store g.P.Paths c.args.files.now c.run_words-ended.new.paths in
     let words = map string_bytes c.args.words.now in
     let given = g.R.Source.remaining c.args.input.now in
     let left = g.R.Source.remaining c.run_words-ended.new.input in

@@ -1,9 +1,7 @@
 use Rattle.std.proofs.Common.{◌≡◌, false, refl}
 use Rattle.sqlite.specs.Held.{state}
 use Rattle.sqlite.specs.State.{HasCleanDisk}
-use Rattle.zeb_change.specs.Conditions.{conditions}
-use Rattle.zeb_paths.specs.Walks.{telling}
-use Rattle.zeb_register.specs.Formats.{version_of}
+use Rattle.zeb_paths.specs.Walks.{telling_of}
 use Rattle.zeb_program.specs.Answers.{AnswersBatch, Writes}
 use Rattle.zeb_program.specs.Doing.{StopsPart}
 use Rattle.zeb_program.specs.OverTables.{LinesOver}
@@ -14,14 +12,15 @@ use Rattle.zeb_register.proofs.Calls.{on_err}
 use Rattle.zeb_program.proofs.ToldLemmas.{session_grows}
 use Rattle.zeb_program.proofs.SessionLemmas.{both_ok, ended_err, ended_ok, left_batch}
 use Rattle.zeb_program.proofs.register_lines.run_in.Goals as goal
+use Rattle.zeb_engine.specs.Sessions.{conditions_in}
 
 pub returns-clause-answer : goal.returns-clause-answer
 returns-clause-answer g c =
     let store = g.P.Store.Store in
     let tells = g.P.Paths.tells c.args.paths.now in
-    let at = telling tells (g.P.Paths.stands c.args.paths.now) (g.P.Paths.lists c.args.paths.now) in
+    let at = telling_of g.P.Paths c.args.paths.now in
     let leaves = g.P.Paths.leaves c.args.paths.now in
-    let k = conditions (version_of g.L.Layout.format) c.args.session.profile c.args.session.limits in
+    let k = conditions_in g.L.Layout.format c.args.session in
     let n = c.args.batch.lines_before in
     let text = c.args.batch.text.now in
     let held = c.args.session.connection in
@@ -54,9 +53,9 @@ returns-clause-answer g c =
 pub returns-clause-stopped : goal.returns-clause-stopped
 returns-clause-stopped g c =
     let store = g.P.Store.Store in
-    let at = telling (g.P.Paths.tells c.args.paths.now) (g.P.Paths.stands c.args.paths.now) (g.P.Paths.lists c.args.paths.now) in
+    let at = telling_of g.P.Paths c.args.paths.now in
     let leaves = g.P.Paths.leaves c.args.paths.now in
-    let k = conditions (version_of g.L.Layout.format) c.args.session.profile c.args.session.limits in
+    let k = conditions_in g.L.Layout.format c.args.session in
     let n = c.args.batch.lines_before in
     let text = c.args.batch.text.now in
     let held = c.args.session.connection in
@@ -77,7 +76,7 @@ returns-clause-stopped g c =
 pub returns-clause-store : goal.returns-clause-store
 returns-clause-store g c =
     let store = g.P.Store.Store in
-    let at = telling (g.P.Paths.tells c.args.paths.now) (g.P.Paths.stands c.args.paths.now) (g.P.Paths.lists c.args.paths.now) in
-    let k = conditions (version_of g.L.Layout.format) c.args.session.profile c.args.session.limits in
+    let at = telling_of g.P.Paths c.args.paths.now in
+    let k = conditions_in g.L.Layout.format c.args.session in
     left_batch store (g.P.Paths.leaves c.args.paths.now) at g.L.Layout.format k c.args.batch.lines_before c.args.batch.text.now c.args.session.connection c.run_lines-answered.new.session.connection
     _ _ _ c.run_lines-answered.result c.end_session.result c.end_session.ensures.ends c.run_lines-answered.ensures.does

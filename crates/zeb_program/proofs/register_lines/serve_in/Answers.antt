@@ -3,9 +3,7 @@ use Rattle.std.specs.Prelude.{IfSome}
 use Rattle.std.specs.Io.KnownBytes.{IsAtEnd}
 use Rattle.sqlite.specs.Held.{state}
 use Rattle.sqlite.specs.State.{HasCleanDisk}
-use Rattle.zeb_change.specs.Conditions.{conditions}
-use Rattle.zeb_paths.specs.Walks.{telling}
-use Rattle.zeb_register.specs.Formats.{version_of}
+use Rattle.zeb_paths.specs.Walks.{telling_of}
 use Rattle.zeb_program.specs.Closings.{TellsClosed}
 use Rattle.zeb_program.specs.Doing.{DoesShell, ServesText, StopsText}
 use Rattle.zeb_program.specs.declared.line_input.LineFault.TheVariants.{Memory}
@@ -13,6 +11,7 @@ use Rattle.zeb_program.specs.PrivateWordRuns.{ClosesAloud, ServesIn, StopsServin
 use Rattle.zeb_program.proofs.ToldLemmas.{session_grows}
 use Rattle.zeb_program.proofs.SessionLemmas.{both_err, ended_err, ended_ok, ended_failed, ended_whole, left_shell}
 use Rattle.zeb_program.proofs.register_lines.serve_in.Goals as goal
+use Rattle.zeb_engine.specs.Sessions.{conditions_in}
 
 pub returns-clause-read : goal.returns-clause-read
 returns-clause-read g c = (
@@ -23,9 +22,9 @@ returns-clause-read g c = (
 pub returns-clause-answer : goal.returns-clause-answer
 returns-clause-answer g c =
     let store = g.P.Store.Store in
-    let at = telling (g.P.Paths.tells c.args.paths.now) (g.P.Paths.stands c.args.paths.now) (g.P.Paths.lists c.args.paths.now) in
+    let at = telling_of g.P.Paths c.args.paths.now in
     let leaves = g.P.Paths.leaves c.args.paths.now in
-    let k = conditions (version_of g.L.Layout.format) c.args.session.profile c.args.session.limits in
+    let k = conditions_in g.L.Layout.format c.args.session in
     let given = g.R.Source.remaining c.args.input.now in
     let left = g.R.Source.remaining c.serve_lines-answered.new.input in
     let failed = g.R.Source.has_failed c.serve_lines-answered.new.input in
@@ -58,9 +57,9 @@ returns-clause-answer g c =
 pub returns-clause-stopped : goal.returns-clause-stopped
 returns-clause-stopped g c =
     let store = g.P.Store.Store in
-    let at = telling (g.P.Paths.tells c.args.paths.now) (g.P.Paths.stands c.args.paths.now) (g.P.Paths.lists c.args.paths.now) in
+    let at = telling_of g.P.Paths c.args.paths.now in
     let leaves = g.P.Paths.leaves c.args.paths.now in
-    let k = conditions (version_of g.L.Layout.format) c.args.session.profile c.args.session.limits in
+    let k = conditions_in g.L.Layout.format c.args.session in
     let given = g.R.Source.remaining c.args.input.now in
     let left = g.R.Source.remaining c.serve_lines-answered.new.input in
     let held = c.args.session.connection in
@@ -93,7 +92,7 @@ returns-clause-stopped g c =
 pub returns-clause-store : goal.returns-clause-store
 returns-clause-store g c =
     let store = g.P.Store.Store in
-    let at = telling (g.P.Paths.tells c.args.paths.now) (g.P.Paths.stands c.args.paths.now) (g.P.Paths.lists c.args.paths.now) in
-    let k = conditions (version_of g.L.Layout.format) c.args.session.profile c.args.session.limits in
+    let at = telling_of g.P.Paths c.args.paths.now in
+    let k = conditions_in g.L.Layout.format c.args.session in
     left_shell store (g.P.Paths.leaves c.args.paths.now) c.args.session.connection c.serve_lines-answered.new.session.connection
     _ _ _ (DoesShell store at g.L.Layout.format k (g.R.Source.remaining c.args.input.now)) c.serve_lines-answered.result c.end_session.result c.end_session.ensures.ends c.serve_lines-answered.ensures.does

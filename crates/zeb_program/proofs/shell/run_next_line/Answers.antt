@@ -1,5 +1,5 @@
-use Rattle.zeb_program.proofs.Cited.{◌≡◌, Err, refl, rules, state, conditions, version_of, LineOver, Memory}
-use Rattle.zeb_paths.specs.Walks.{telling}
+use Rattle.zeb_program.proofs.Cited.{◌≡◌, Err, refl, rules, state, LineOver, Memory}
+use Rattle.zeb_paths.specs.Walks.{telling_of}
 use Rattle.zeb_program.proofs.DoneLemmas.{done_next}
 use Rattle.zeb_program.proofs.LineStopLemmas.{stopped_next, stopped_still}
 use Rattle.zeb_program.proofs.LineInputLemmas.{ends_read}
@@ -7,10 +7,11 @@ use Rattle.zeb_program.proofs.ShellLemmas.{next_answer, next_none, next_some, ne
 use Rattle.zeb_program.proofs.ShellOverLemmas.{next_over}
 use Rattle.zeb_program.proofs.ShellTextLemmas.{stops_line}
 use Rattle.zeb_program.proofs.shell.run_next_line.Goals as goal
+use Rattle.zeb_engine.specs.Sessions.{conditions_in}
 
 pub returns-clause-line : goal.returns-clause-line
 returns-clause-line g c =
-    let k = conditions (version_of g.L.Layout.format) c.args.session.now.profile c.args.session.now.limits in
+    let k = conditions_in g.L.Layout.format c.args.session.now in
     let left = g.R.Source.remaining c.args.input.now in
     record {
       some = next_some c.in_ok-bytes.bytes.items left c.in_ok-bytes.ensures.read.0 (search rules);
@@ -19,10 +20,10 @@ returns-clause-line g c =
       answer = λ sound clean. next_answer (g.P.Paths.tells c.args.paths.now) k c.args.number c.in_ok-status.status c.in_ok-bytes.bytes.items left (state g.S.Store c.args.session.now.connection)
           (state g.S.Store c.run_bytes.new.session.connection) (g.W.Write.contents c.args.output.now.writer) (g.W.Write.contents c.run_bytes.new.output.writer) (g.W.Write.contents c.flush.new.self.writer)
           c.in_ok-bytes.ensures.read.0 (c.in_ok-status.ensures.answer (c.flush.ensures.sound sound) clean) (c.flush.ensures.bytes sound);
-      over = λ sound clean. next_over (LineOver g.S.Store (telling (g.P.Paths.tells c.args.paths.now) (g.P.Paths.stands c.args.paths.now) (g.P.Paths.lists c.args.paths.now)) g.L.Layout.format k) c.args.number c.in_ok-status.status c.in_ok-bytes.bytes.items left
+      over = λ sound clean. next_over (LineOver g.S.Store (telling_of g.P.Paths c.args.paths.now) g.L.Layout.format k) c.args.number c.in_ok-status.status c.in_ok-bytes.bytes.items left
           c.args.session.now.connection c.run_bytes.new.session.connection (g.W.Write.contents c.args.output.now.writer) (g.W.Write.contents c.run_bytes.new.output.writer) (g.W.Write.contents c.flush.new.self.writer)
           c.in_ok-bytes.ensures.read.0 (c.in_ok-status.ensures.over (c.flush.ensures.sound sound) clean) (c.flush.ensures.bytes sound);
-      does = λ clean. done_next g.S.Store (telling (g.P.Paths.tells c.args.paths.now) (g.P.Paths.stands c.args.paths.now) (g.P.Paths.lists c.args.paths.now)) g.L.Layout.format k c.args.session.now.connection c.run_bytes.new.session.connection c.args.number c.in_ok-bytes.bytes.items left
+      does = λ clean. done_next g.S.Store (telling_of g.P.Paths c.args.paths.now) g.L.Layout.format k c.args.session.now.connection c.run_bytes.new.session.connection c.args.number c.in_ok-bytes.bytes.items left
           c.in_ok-bytes.ensures.read.0 (c.in_ok-status.ensures.does clean);
     }
 
@@ -36,16 +37,16 @@ pub returns-in_err-bytes-clause-line : goal.returns-in_err-bytes-clause-line
 returns-in_err-bytes-clause-line g c =
     let why = c.in_err-bytes.field-0.0 in
     let is : c.from_residual.result ≡ Err why = search rules in
-    let k = conditions (version_of g.L.Layout.format) c.args.session.now.profile c.args.session.now.limits in
+    let k = conditions_in g.L.Layout.format c.args.session.now in
     stops_line _ _ _ c.from_residual.result why is
-    (((λ clean. stopped_still g.S.Store (telling (g.P.Paths.tells c.args.paths.now) (g.P.Paths.stands c.args.paths.now) (g.P.Paths.lists c.args.paths.now)) g.L.Layout.format k why (g.R.Source.remaining c.args.input.now) c.args.session.now.connection), c.in_err-bytes.ensures.stops), refl)
+    (((λ clean. stopped_still g.S.Store (telling_of g.P.Paths c.args.paths.now) g.L.Layout.format k why (g.R.Source.remaining c.args.input.now) c.args.session.now.connection), c.in_err-bytes.ensures.stops), refl)
 
 -- The line was read, and there was no memory for its answer.
 pub returns-in_err-status-clause-line : goal.returns-in_err-status-clause-line
 returns-in_err-status-clause-line g c =
     let is : c.from_residual-in_err-status.result ≡ Err Memory = search rules in
-    let k = conditions (version_of g.L.Layout.format) c.args.session.now.profile c.args.session.now.limits in
+    let k = conditions_in g.L.Layout.format c.args.session.now in
     stops_line _ _ _ c.from_residual-in_err-status.result Memory is (
-      (λ clean. stopped_next g.S.Store (telling (g.P.Paths.tells c.args.paths.now) (g.P.Paths.stands c.args.paths.now) (g.P.Paths.lists c.args.paths.now)) g.L.Layout.format k c.args.session.now.connection c.run_bytes.new.session.connection c.in_ok-bytes.bytes.items (g.R.Source.remaining c.args.input.now) c.in_ok-bytes.ensures.read.0 (c.in_err-status.ensures.does.1 clean), ends_read (g.R.Source.remaining c.args.input.now) (g.R.Source.remaining c.read_line.new.source) c.in_ok-bytes.bytes.items c.in_ok-bytes.ensures.read.0 c.in_ok-bytes.ensures.read.1 c.read_line.ensures.bounded),
+      (λ clean. stopped_next g.S.Store (telling_of g.P.Paths c.args.paths.now) g.L.Layout.format k c.args.session.now.connection c.run_bytes.new.session.connection c.in_ok-bytes.bytes.items (g.R.Source.remaining c.args.input.now) c.in_ok-bytes.ensures.read.0 (c.in_err-status.ensures.does.1 clean), ends_read (g.R.Source.remaining c.args.input.now) (g.R.Source.remaining c.read_line.new.source) c.in_ok-bytes.bytes.items c.in_ok-bytes.ensures.read.0 c.in_ok-bytes.ensures.read.1 c.read_line.ensures.bounded),
       c.in_err-status.ensures.does.0,
     )

@@ -1,5 +1,5 @@
 use Rattle.zeb_program.proofs.Cited.{◌≡◌, ◌∙◌, ◌+◌, inr, refl, rules, subst₂, IfErr, IfSome, state, HasCleanDisk, conditions, version_of, Writes, first_line, LineOver, Memory}
-use Rattle.zeb_paths.specs.Walks.{telling}
+use Rattle.zeb_paths.specs.Walks.{telling_of}
 use Rattle.zeb_program.specs.Doing.{DoesLine, KeepsUnread}
 use Rattle.zeb_program.proofs.DoneLemmas.{done_unread, none_next, served_line, served_part, served_start}
 use Rattle.zeb_program.proofs.LineStopLemmas.{stopped_still}
@@ -9,26 +9,27 @@ use Rattle.zeb_program.proofs.ShellLemmas.{AnswersNext, serves_line, serves_star
 use Rattle.zeb_program.proofs.ShellTextLemmas.{found_end, found_line, read_sound, text_done, text_failure, text_stopped}
 use Rattle.zeb_program.proofs.shell.run_shell_lines.Goals as goal
 use Rattle.zeb_program.proofs.StatusLemmas.{max_greater}
+use Rattle.zeb_engine.specs.Sessions.{conditions_in}
 
 pub loop-lines_before-init : goal.loop-lines_before-init
 loop-lines_before-init g c =
-    let k = conditions (version_of g.L.Layout.format) c.args.session.now.profile c.args.session.now.limits in
+    let k = conditions_in g.L.Layout.format c.args.session.now in
     let old = state g.S.Store c.args.session.now.connection in
     record {
       read = search rules;
       sound = λ sound. sound;
       under = (refl, refl);
       clean = λ clean. clean;
-      done = λ _. served_start g.S.Store (telling (g.P.Paths.tells c.args.paths.now) (g.P.Paths.stands c.args.paths.now) (g.P.Paths.lists c.args.paths.now)) g.L.Layout.format k (g.R.Source.remaining c.args.input.now) c.args.session.now.connection;
-      over = λ _ _. goes_start (LineOver g.S.Store (telling (g.P.Paths.tells c.args.paths.now) (g.P.Paths.stands c.args.paths.now) (g.P.Paths.lists c.args.paths.now)) g.L.Layout.format k) (g.W.Write.contents c.args.output.now.writer) (g.R.Source.remaining c.args.input.now) c.args.session.now.connection;
+      done = λ _. served_start g.S.Store (telling_of g.P.Paths c.args.paths.now) g.L.Layout.format k (g.R.Source.remaining c.args.input.now) c.args.session.now.connection;
+      over = λ _ _. goes_start (LineOver g.S.Store (telling_of g.P.Paths c.args.paths.now) g.L.Layout.format k) (g.W.Write.contents c.args.output.now.writer) (g.R.Source.remaining c.args.input.now) c.args.session.now.connection;
       answers = λ _ _. serves_start (g.P.Paths.tells c.args.paths.now) k old (g.W.Write.contents c.args.output.now.writer) (g.R.Source.remaining c.args.input.now);
     }
 
 pub loop-lines_before-preserved : goal.loop-lines_before-preserved
 loop-lines_before-preserved g c =
     let tells = g.P.Paths.tells c.args.paths.now in
-    let at = telling tells (g.P.Paths.stands c.args.paths.now) (g.P.Paths.lists c.args.paths.now) in
-    let k = conditions (version_of g.L.Layout.format) c.args.session.now.profile c.args.session.now.limits in
+    let at = telling_of g.P.Paths c.args.paths.now in
+    let k = conditions_in g.L.Layout.format c.args.session.now in
     let old = state g.S.Store c.args.session.now.connection in
     let now = state g.S.Store c.loop-lines_before.session.connection in
     let next = state g.S.Store c.run_next_line.new.session.connection in
@@ -41,35 +42,35 @@ loop-lines_before-preserved g c =
     record {
       read = read_sound (g.R.Source.has_failed c.run_next_line.new.input) c.run_next_line.result c.in_ok-status.field-0 c.run_next_line.ensures.failed (search rules);
       sound = λ sound. c.loop-lines_before.invariant.sound (c.run_next_line.ensures.sound sound);
-      under = (c.run_next_line.ensures.stays.0 ∙ same.0, c.run_next_line.ensures.stays.1 ∙ same.1);
-      clean = λ clean. c.loop-lines_before.invariant.clean (c.run_next_line.ensures.stays.2 clean);
+      under = (c.run_next_line.ensures.stays.0.0 ∙ same.0, c.run_next_line.ensures.stays.0.1 ∙ same.1);
+      clean = λ clean. c.loop-lines_before.invariant.clean (c.run_next_line.ensures.stays.1 clean);
       done = λ clean.
           let step = subst₂ (λ p l. IfSome left (λ text. DoesLine g.S.Store at g.L.Layout.format (conditions (version_of g.L.Layout.format) p l) (n + 1) (first_line text)
           c.loop-lines_before.session.connection c.run_next_line.new.session.connection)) same.0 same.1 (line.does clean) in
           served_line g.S.Store at g.L.Layout.format k (g.R.Source.remaining c.args.input.now) left (g.R.Source.remaining c.run_next_line.new.input) n c.args.session.now.connection
-          c.loop-lines_before.session.connection c.run_next_line.new.session.connection line.some line.taken step (c.loop-lines_before.invariant.done (c.run_next_line.ensures.stays.2 clean));
+          c.loop-lines_before.session.connection c.run_next_line.new.session.connection line.some line.taken step (c.loop-lines_before.invariant.done (c.run_next_line.ensures.stays.1 clean));
       over = λ sound clean.
           let step = subst₂ (λ p l. IfSome left (λ text. Writes mid writes (λ bytes. LineOver g.S.Store at g.L.Layout.format (conditions (version_of g.L.Layout.format) p l)
           (n + 1) (first_line text) c.loop-lines_before.session.connection bytes c.in-Some.status c.run_next_line.new.session.connection))) same.0 same.1 (line.over sound clean) in
           goes_line (LineOver g.S.Store at g.L.Layout.format k) (g.W.Write.contents c.args.output.now.writer) mid writes (g.R.Source.remaining c.args.input.now) left (g.R.Source.remaining c.run_next_line.new.input)
           n c.loop-lines_before.greatest c.in-Some.status c.max-greatest.result c.args.session.now.connection c.loop-lines_before.session.connection c.run_next_line.new.session.connection
           (c.max-greatest.ensures ∙ max_greater c.loop-lines_before.greatest c.in-Some.status) line.some line.taken step
-          (c.loop-lines_before.invariant.over (c.run_next_line.ensures.sound sound) (c.run_next_line.ensures.stays.2 clean));
+          (c.loop-lines_before.invariant.over (c.run_next_line.ensures.sound sound) (c.run_next_line.ensures.stays.1 clean));
       answers = λ sound clean.
           let step = subst₂ (λ p l. IfSome left (AnswersNext tells (conditions (version_of g.L.Layout.format) p l) now next mid writes (n + 1) c.in-Some.status))
           same.0 same.1 (line.answer sound clean) in
           serves_line tells k old now next (g.W.Write.contents c.args.output.now.writer) mid writes (g.R.Source.remaining c.args.input.now) left (g.R.Source.remaining c.run_next_line.new.input)
           n c.loop-lines_before.greatest c.in-Some.status c.max-greatest.result
           (c.max-greatest.ensures ∙ max_greater c.loop-lines_before.greatest c.in-Some.status) line.some line.taken step
-          (c.loop-lines_before.invariant.answers (c.run_next_line.ensures.sound sound) (c.run_next_line.ensures.stays.2 clean));
+          (c.loop-lines_before.invariant.answers (c.run_next_line.ensures.sound sound) (c.run_next_line.ensures.stays.1 clean));
     }
 
 -- The line before which it ended is the one that couldn't be read, or for which memory ran out.
 pub returns-in_err-status-clause-stopped : goal.returns-in_err-status-clause-stopped
 returns-in_err-status-clause-stopped g c =
-    let k = conditions (version_of g.L.Layout.format) c.args.session.now.profile c.args.session.now.limits in
+    let k = conditions_in g.L.Layout.format c.args.session.now in
     let why = c.in_err-status.field-0.0 in
-    let at = telling (g.P.Paths.tells c.args.paths.now) (g.P.Paths.stands c.args.paths.now) (g.P.Paths.lists c.args.paths.now) in
+    let at = telling_of g.P.Paths c.args.paths.now in
     let same = c.loop-lines_before.invariant.under in
     let given : IfErr c.from_residual.result (λ given. given ≡ why) = search rules in
     rw c.in_err-status.ensures.line.1
@@ -78,14 +79,14 @@ returns-in_err-status-clause-stopped g c =
     c.args.session.now.connection c.loop-lines_before.session.connection c.run_next_line.new.session.connection c.loop-lines_before.output.failed (HasCleanDisk (state g.S.Store c.run_next_line.new.session.connection)) given
     (λ clean. subst₂ (λ p l. IfSome (g.R.Source.remaining c.loop-lines_before.input) (λ text. KeepsUnread g.S.Store at g.L.Layout.format (conditions (version_of g.L.Layout.format) p l) why text c.loop-lines_before.session.connection c.run_next_line.new.session.connection))
     same.0 same.1 (c.in_err-status.ensures.line.0.0 clean)) c.in_err-status.ensures.line.0.1
-    (λ sound clean. c.loop-lines_before.invariant.over sound (c.run_next_line.ensures.stays.2 clean)) (λ sound clean. c.loop-lines_before.invariant.answers sound (c.run_next_line.ensures.stays.2 clean)))
+    (λ sound clean. c.loop-lines_before.invariant.over sound (c.run_next_line.ensures.stays.1 clean)) (λ sound clean. c.loop-lines_before.invariant.answers sound (c.run_next_line.ensures.stays.1 clean)))
 
 pub returns-in-None-clause-answer : goal.returns-in-None-clause-answer
 returns-in-None-clause-answer g c =
-    let k = conditions (version_of g.L.Layout.format) c.args.session.now.profile c.args.session.now.limits in
+    let k = conditions_in g.L.Layout.format c.args.session.now in
     let idle = found_end _ _ c.in_ok-status.field-0 c.in-None.is c.in_ok-status.ensures.line in
     rw (idle.2, idle.3)
-    (λ sound clean. text_done g.S.Store (telling (g.P.Paths.tells c.args.paths.now) (g.P.Paths.stands c.args.paths.now) (g.P.Paths.lists c.args.paths.now)) g.L.Layout.format k (g.W.Write.contents c.args.output.now.writer)
+    (λ sound clean. text_done g.S.Store (telling_of g.P.Paths c.args.paths.now) g.L.Layout.format k (g.W.Write.contents c.args.output.now.writer)
     (g.W.Write.contents c.loop-lines_before.output.writer) (g.R.Source.remaining c.args.input.now) (g.R.Source.remaining c.loop-lines_before.input) c.loop-lines_before.lines_before c.loop-lines_before.greatest
     c.args.session.now.connection c.loop-lines_before.session.connection idle.0 (c.loop-lines_before.invariant.over sound clean) (c.loop-lines_before.invariant.answers sound clean))
 
@@ -96,17 +97,17 @@ returns-in-None-clause-ends g c =
 
 pub returns-clause-stopped : goal.returns-clause-stopped
 returns-clause-stopped g c = λ sound clean.
-    let k = conditions (version_of g.L.Layout.format) c.args.session.now.profile c.args.session.now.limits in
+    let k = conditions_in g.L.Layout.format c.args.session.now in
     let left = g.R.Source.remaining c.loop-lines_before.input in
-    text_stopped g.S.Store (telling (g.P.Paths.tells c.args.paths.now) (g.P.Paths.stands c.args.paths.now) (g.P.Paths.lists c.args.paths.now)) g.L.Layout.format k Memory (g.W.Write.contents c.args.output.now.writer) (g.W.Write.contents c.loop-lines_before.output.writer)
-    (g.R.Source.remaining c.args.input.now) left left c.loop-lines_before.lines_before c.loop-lines_before.greatest c.args.session.now.connection c.loop-lines_before.session.connection c.loop-lines_before.session.connection (stopped_still g.S.Store (telling (g.P.Paths.tells c.args.paths.now) (g.P.Paths.stands c.args.paths.now) (g.P.Paths.lists c.args.paths.now)) g.L.Layout.format k Memory left c.loop-lines_before.session.connection)
+    text_stopped g.S.Store (telling_of g.P.Paths c.args.paths.now) g.L.Layout.format k Memory (g.W.Write.contents c.args.output.now.writer) (g.W.Write.contents c.loop-lines_before.output.writer)
+    (g.R.Source.remaining c.args.input.now) left left c.loop-lines_before.lines_before c.loop-lines_before.greatest c.args.session.now.connection c.loop-lines_before.session.connection c.loop-lines_before.session.connection (stopped_still g.S.Store (telling_of g.P.Paths c.args.paths.now) g.L.Layout.format k Memory left c.loop-lines_before.session.connection)
     (ends_before left) (c.loop-lines_before.invariant.over sound clean) (c.loop-lines_before.invariant.answers sound clean)
 
 -- A write failed: no further line is run.
 pub returns-then-has_failed-clause-does : goal.returns-then-has_failed-clause-does
 returns-then-has_failed-clause-does g c = λ clean.
-    let at = (telling (g.P.Paths.tells c.args.paths.now) (g.P.Paths.stands c.args.paths.now) (g.P.Paths.lists c.args.paths.now)) in
-    let k = conditions (version_of g.L.Layout.format) c.args.session.now.profile c.args.session.now.limits in
+    let at = (telling_of g.P.Paths c.args.paths.now) in
+    let k = conditions_in g.L.Layout.format c.args.session.now in
     let given = g.R.Source.remaining c.args.input.now in
     let left = g.R.Source.remaining c.loop-lines_before.input in
     let held = c.loop-lines_before.session.connection in (
@@ -117,8 +118,8 @@ returns-then-has_failed-clause-does g c = λ clean.
 pub returns-in-None-clause-does : goal.returns-in-None-clause-does
 returns-in-None-clause-does g c =
     let idle = found_end _ _ c.in_ok-status.field-0 c.in-None.is c.in_ok-status.ensures.line in
-    let at = (telling (g.P.Paths.tells c.args.paths.now) (g.P.Paths.stands c.args.paths.now) (g.P.Paths.lists c.args.paths.now)) in
-    let k = conditions (version_of g.L.Layout.format) c.args.session.now.profile c.args.session.now.limits in
+    let at = (telling_of g.P.Paths c.args.paths.now) in
+    let k = conditions_in g.L.Layout.format c.args.session.now in
     let given = g.R.Source.remaining c.args.input.now in
     let left = g.R.Source.remaining c.loop-lines_before.input in
     let held = c.loop-lines_before.session.connection in
@@ -130,15 +131,15 @@ returns-in-None-clause-does g c =
 
 pub returns-in_err-status-clause-does : goal.returns-in_err-status-clause-does
 returns-in_err-status-clause-does g c = λ clean.
-    let at = (telling (g.P.Paths.tells c.args.paths.now) (g.P.Paths.stands c.args.paths.now) (g.P.Paths.lists c.args.paths.now)) in
-    let k = conditions (version_of g.L.Layout.format) c.args.session.now.profile c.args.session.now.limits in
+    let at = (telling_of g.P.Paths c.args.paths.now) in
+    let k = conditions_in g.L.Layout.format c.args.session.now in
     let given = g.R.Source.remaining c.args.input.now in
     let left = g.R.Source.remaining c.loop-lines_before.input in
     let held = c.loop-lines_before.session.connection in
     let new = c.run_next_line.new.session.connection in
     let why = c.in_err-status.field-0.0 in
     let same = c.loop-lines_before.invariant.under in
-    let before = c.run_next_line.ensures.stays.2 clean in (
+    let before = c.run_next_line.ensures.stays.1 clean in (
       c.loop-lines_before.invariant.clean before,
       served_part g.S.Store at g.L.Layout.format k given left c.loop-lines_before.lines_before c.args.session.now.connection held new
           (done_unread g.S.Store at g.L.Layout.format k held new why left
@@ -148,8 +149,8 @@ returns-in_err-status-clause-does g c = λ clean.
 
 pub returns-clause-does : goal.returns-clause-does
 returns-clause-does g c = λ clean.
-    let at = (telling (g.P.Paths.tells c.args.paths.now) (g.P.Paths.stands c.args.paths.now) (g.P.Paths.lists c.args.paths.now)) in
-    let k = conditions (version_of g.L.Layout.format) c.args.session.now.profile c.args.session.now.limits in
+    let at = (telling_of g.P.Paths c.args.paths.now) in
+    let k = conditions_in g.L.Layout.format c.args.session.now in
     let given = g.R.Source.remaining c.args.input.now in
     let left = g.R.Source.remaining c.loop-lines_before.input in
     let held = c.loop-lines_before.session.connection in (

@@ -1,9 +1,10 @@
-use Rattle.zeb_program.proofs.Cited.{◌≡◌, false, state, HasCleanDisk, conditions, version_of, LineOver}
-use Rattle.zeb_paths.specs.Walks.{telling}
+use Rattle.zeb_program.proofs.Cited.{◌≡◌, false, state, HasCleanDisk, LineOver}
+use Rattle.zeb_paths.specs.Walks.{telling_of}
 use Rattle.zeb_program.proofs.DoneLemmas.{HasServed}
 use Rattle.zeb_program.proofs.ShellLemmas.{Serves}
 use Rattle.zeb_program.proofs.ShellOverLemmas.{Goes}
 use Rattle.zeb_program.proofs.shell.run_shell_lines.Given as goal
+use Rattle.zeb_engine.specs.Sessions.{conditions_in}
 
 -- What was written answers the lines so far, of an input that tells its bytes.
 abbrev pub invariant-loop-lines_before : goal.invariant-loop-lines_before
@@ -15,14 +16,14 @@ invariant-loop-lines_before g l =
       under : (l.session.profile ≡ before.profile) × (l.session.limits ≡ before.limits);
       clean : HasCleanDisk (state g.S.Store l.session.connection) → HasCleanDisk (state g.S.Store before.connection);
       done : HasCleanDisk (state g.S.Store l.session.connection)
-          → HasServed g.S.Store (telling (g.P.Paths.tells l.paths) (g.P.Paths.stands l.paths) (g.P.Paths.lists l.paths)) g.L.Layout.format (conditions (version_of g.L.Layout.format) before.profile before.limits)
+          → HasServed g.S.Store (telling_of g.P.Paths l.paths) g.L.Layout.format (conditions_in g.L.Layout.format before)
           (g.R.Source.remaining l.initial.input) (g.R.Source.remaining l.input) l.lines_before before.connection l.session.connection;
       over : l.output.failed ≡ false → HasCleanDisk (state g.S.Store l.session.connection)
-          → Goes (LineOver g.S.Store (telling (g.P.Paths.tells l.paths) (g.P.Paths.stands l.paths) (g.P.Paths.lists l.paths)) g.L.Layout.format (conditions (version_of g.L.Layout.format) before.profile before.limits))
+          → Goes (LineOver g.S.Store (telling_of g.P.Paths l.paths) g.L.Layout.format (conditions_in g.L.Layout.format before))
           (g.W.Write.contents l.initial.output.writer) (g.W.Write.contents l.output.writer) (g.R.Source.remaining l.initial.input) (g.R.Source.remaining l.input) l.lines_before l.greatest
           before.connection l.session.connection;
       answers : l.output.failed ≡ false → HasCleanDisk (state g.S.Store l.session.connection)
-          → Serves (g.P.Paths.tells l.paths) (conditions (version_of g.L.Layout.format) before.profile before.limits) (state g.S.Store before.connection)
+          → Serves (g.P.Paths.tells l.paths) (conditions_in g.L.Layout.format before) (state g.S.Store before.connection)
           (state g.S.Store l.session.connection) (g.W.Write.contents l.initial.output.writer) (g.W.Write.contents l.output.writer)
           (g.R.Source.remaining l.initial.input) (g.R.Source.remaining l.input) l.lines_before l.greatest;
     }

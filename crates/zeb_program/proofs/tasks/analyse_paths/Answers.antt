@@ -1,7 +1,7 @@
 use Rattle.std.proofs.Common.{◌≡◌, ◌∙◌, ◌<◌, ◌^◌, Err, Ok, ap, arith, map, refl, rules, string_bytes, subst, sym}
 use Rattle.zeb_engine.specs.Analysed.{HasLines}
 use Rattle.zeb_engine.proofs.AnalysedReplies.{is_analysed, is_counted, is_printed, shown_reply}
-use Rattle.zeb_paths.specs.Walks.{telling}
+use Rattle.zeb_paths.specs.Walks.{telling_of}
 use Rattle.zeb_program.specs.PrivateServing.{StandsFor}
 use Rattle.zeb_program.specs.Warnings.{records_in, unmarked_of, warning_of}
 use Rattle.zeb_program.specs.declared.faults.Fault.TheVariants.{Refused}
@@ -16,7 +16,7 @@ returns-in_err-lines-clause-over g c =
     let is : c.from_residual.result ≡ Err why = search rules in (
       Err why,
       subst (λ r. StandsFor r (Err why)) (sym is) refl,
-      unanalysed_over (telling (g.P.Paths.tells c.args.paths.now) (g.P.Paths.stands c.args.paths.now) (g.P.Paths.lists c.args.paths.now)) c.args.session.now.profile c.args.session.now.limits.records (map string_bytes c.args.named.now) why c.in_err-lines.ensures.unread,
+      unanalysed_over (telling_of g.P.Paths c.args.paths.now) c.args.session.now.profile c.args.session.now.limits.records (map string_bytes c.args.named.now) why c.in_err-lines.ensures.unread,
     )
 
 pub returns-in-Ok-clause-over : goal.returns-in-Ok-clause-over
@@ -29,7 +29,7 @@ returns-in-Ok-clause-over g c =
     let reply = shown_reply profile limit small read.texts c.in-Ok.lines are in (
       Ok reply,
       (reply, refl, is_printed profile limit small read.texts c.in-Ok.lines are, is_counted profile limit small read.texts c.in-Ok.lines are),
-      analysed_over (telling (g.P.Paths.tells c.args.paths.now) (g.P.Paths.stands c.args.paths.now) (g.P.Paths.lists c.args.paths.now)) profile limit (map string_bytes c.args.named.now) _ read reply (is_analysed profile limit small read.texts c.in-Ok.lines are),
+      analysed_over (telling_of g.P.Paths c.args.paths.now) profile limit (map string_bytes c.args.named.now) _ read reply (is_analysed profile limit small read.texts c.in-Ok.lines are),
     )
 
 pub returns-in-Err-clause-over : goal.returns-in-Err-clause-over
@@ -40,7 +40,7 @@ returns-in-Err-clause-over g c =
     let why = c.in-Err.refusal in (
       Err (Refused why),
       refl,
-      unshown_over (telling (g.P.Paths.tells c.args.paths.now) (g.P.Paths.stands c.args.paths.now) (g.P.Paths.lists c.args.paths.now)) profile limit (map string_bytes c.args.named.now) _ read why (subst (HasLines profile limit read.texts) c.in-Err.is read.lines),
+      unshown_over (telling_of g.P.Paths c.args.paths.now) profile limit (map string_bytes c.args.named.now) _ read why (subst (HasLines profile limit read.texts) c.in-Err.is read.lines),
     )
 
 pub returns-in-Ok-clause-unmarked : goal.returns-in-Ok-clause-unmarked

@@ -1,8 +1,6 @@
 use Rattle.std.specs.Prelude.{IfErr, OnErr}
 use Rattle.sqlite.specs.Held.{state}
-use Rattle.zeb_change.specs.Conditions.{conditions}
 use Rattle.zeb_register.specs.Calls.{ChangesNothing}
-use Rattle.zeb_register.specs.Formats.{version_of}
 use Rattle.zeb_program.specs.FaultAnswers.{GivesAnswer}
 use Rattle.zeb_program.specs.OverTables.{ServesOver}
 use Rattle.zeb_program.specs.PrivateFaults.{IsUnread}
@@ -11,10 +9,11 @@ use Rattle.zeb_program.specs.TaskAnswers.{AnswersCommand}
 use Rattle.zeb_program.proofs.OverLemmas.{as_given, given_read, given_refused, gives}
 use Rattle.zeb_program.proofs.TaskLemmas.{given_command}
 use Rattle.zeb_program.proofs.tasks.ask.Goals as goal
+use Rattle.zeb_engine.specs.Sessions.{conditions_in}
 
 pub returns-clause-answer : goal.returns-clause-answer
 returns-clause-answer g c = λ clean.
-    let k = conditions (version_of g.L.Layout.format) c.args.session.now.profile c.args.session.now.limits in
+    let k = conditions_in g.L.Layout.format c.args.session.now in
     let old = state g.S.Store c.args.session.now.connection in
     let new = state g.S.Store c.command.new.self.connection in
     as_given (λ it. AnswersFrom old new it (AnswersCommand k c.args.command.now)) c.command.result c.as_told.result c.as_told.ensures
@@ -22,7 +21,7 @@ returns-clause-answer g c = λ clean.
 
 pub returns-clause-over : goal.returns-clause-over
 returns-clause-over g c = λ clean.
-    let k = conditions (version_of g.L.Layout.format) c.args.session.now.profile c.args.session.now.limits in
+    let k = conditions_in g.L.Layout.format c.args.session.now in
     let Over = ServesOver g.L.Layout.format k c.args.command.now (state g.S.Store c.args.session.now.connection) (state g.S.Store c.command.new.self.connection) in
     as_given (GivesAnswer Over) c.command.result c.as_told.result c.as_told.ensures
     (gives Over c.command.result (c.command.ensures.step clean, c.command.ensures.tables clean, c.command.ensures.lasts, c.command.ensures.holds.0.durable clean))

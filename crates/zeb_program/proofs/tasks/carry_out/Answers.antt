@@ -1,20 +1,19 @@
 use Rattle.std.proofs.Common.{inl, refl, subst, sym}
 use Rattle.sqlite.specs.Held.{state}
-use Rattle.zeb_change.specs.Conditions.{conditions}
-use Rattle.zeb_paths.specs.Walks.{telling}
-use Rattle.zeb_register.specs.Formats.{version_of}
+use Rattle.zeb_paths.specs.Walks.{telling_of}
 use Rattle.zeb_program.specs.TaskAnswers.{ReadsWhole, paths_of}
 use Rattle.zeb_program.proofs.OverLemmas.{analysed_task_over, asked_task_over, changed_task_over}
 use Rattle.zeb_program.proofs.TaskLemmas.{analysed_files, analysed_task, analysis_reaches, asked_reaches, asked_task, change_reaches, changed_task}
 use Rattle.zeb_program.proofs.WarningLemmas.{below_task, served_whole}
 use Rattle.zeb_program.proofs.WordRunLemmas.{replied_reaches}
 use Rattle.zeb_program.proofs.tasks.carry_out.Goals as goal
+use Rattle.zeb_engine.specs.Sessions.{conditions_in}
 
 pub returns-in-Ask-clause-done : goal.returns-in-Ask-clause-done
 returns-in-Ask-clause-done g c =
     let told = g.P.Paths.tells c.args.paths.now in
-    let at = telling told (g.P.Paths.stands c.args.paths.now) (g.P.Paths.lists c.args.paths.now) in
-    let k = conditions (version_of g.L.Layout.format) c.args.session.now.profile c.args.session.now.limits in
+    let at = telling_of g.P.Paths c.args.paths.now in
+    let k = conditions_in g.L.Layout.format c.args.session.now in
     let old = state g.S.Store c.args.session.now.connection in
     let new = state g.S.Store c.ask.new.session.connection in (
       c.ask.result,
@@ -29,8 +28,8 @@ returns-in-Ask-clause-done g c =
 pub returns-in-Change-clause-done : goal.returns-in-Change-clause-done
 returns-in-Change-clause-done g c =
     let told = g.P.Paths.tells c.args.paths.now in
-    let at = telling told (g.P.Paths.stands c.args.paths.now) (g.P.Paths.lists c.args.paths.now) in
-    let k = conditions (version_of g.L.Layout.format) c.args.session.now.profile c.args.session.now.limits in
+    let at = telling_of g.P.Paths c.args.paths.now in
+    let k = conditions_in g.L.Layout.format c.args.session.now in
     let old = state g.S.Store c.args.session.now.connection in
     let new = state g.S.Store c.change_by_paths.new.session.connection in
     let own = c.change_by_paths.result in (
@@ -50,8 +49,8 @@ returns-in-Change-clause-done g c =
 pub returns-in-Analyse-clause-done : goal.returns-in-Analyse-clause-done
 returns-in-Analyse-clause-done g c =
     let told = g.P.Paths.tells c.args.paths.now in
-    let at = telling told (g.P.Paths.stands c.args.paths.now) (g.P.Paths.lists c.args.paths.now) in
-    let k = conditions (version_of g.L.Layout.format) c.args.session.now.profile c.args.session.now.limits in
+    let at = telling_of g.P.Paths c.args.paths.now in
+    let k = conditions_in g.L.Layout.format c.args.session.now in
     let held = state g.S.Store c.args.session.now.connection in
     let done = c.analyse_paths.ensures.over in (
       done.0,
@@ -84,5 +83,5 @@ returns-in-Change-clause-below g c = λ reads. absurd (subst ReadsWhole c.in-Cha
 
 pub returns-in-Analyse-clause-below : goal.returns-in-Analyse-clause-below
 returns-in-Analyse-clause-below g c = λ reads.
-    let at = telling (g.P.Paths.tells c.args.paths.now) (g.P.Paths.stands c.args.paths.now) (g.P.Paths.lists c.args.paths.now) in
+    let at = telling_of g.P.Paths c.args.paths.now in
     below_task at c.args.task.now c.in-Analyse.named c.deref-in-Analyse.result.now c.analyse_paths.result c.in-Analyse.is c.deref-in-Analyse.ensures.value c.analyse_paths.ensures.below

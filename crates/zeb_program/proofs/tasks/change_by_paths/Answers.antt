@@ -3,7 +3,7 @@ use Rattle.std.specs.Prelude.{IfErr}
 use Rattle.sqlite.specs.Held.{state}
 use Rattle.zeb_change.specs.Conditions.{conditions}
 use Rattle.zeb_image.specs.NameOf.{name_bytes}
-use Rattle.zeb_paths.specs.Walks.{telling}
+use Rattle.zeb_paths.specs.Walks.{telling_of}
 use Rattle.zeb_register.specs.Formats.{version_of}
 use Rattle.zeb_program.specs.PrivateFiles.{sure_bytes}
 use Rattle.zeb_program.specs.FaultAnswers.{Reaches}
@@ -12,6 +12,7 @@ use Rattle.zeb_program.specs.PrivateFaults.{IsUnread}
 use Rattle.zeb_program.proofs.OverLemmas.{as_given, changed_last, changed_leaves, changed_over, changed_paths, given_reaches, given_still, unread_paths}
 use Rattle.zeb_program.proofs.ReaderLemmas.{blamed_untold, sure_files, sure_given}
 use Rattle.zeb_program.proofs.tasks.change_by_paths.Goals as goal
+use Rattle.zeb_engine.specs.Sessions.{conditions_in}
 
 pub returns-clause-changes : goal.returns-clause-changes
 returns-clause-changes g c = λ clean.
@@ -21,7 +22,7 @@ returns-clause-changes g c = λ clean.
     let k = conditions (version_of format) profile limits in
     let old = state g.S.Store c.args.session.now.connection in
     let new = state g.S.Store c.update_from.new.self.connection in
-    let at = telling (g.P.Paths.tells c.args.paths.now) (g.P.Paths.stands c.args.paths.now) (g.P.Paths.lists c.args.paths.now) in
+    let at = telling_of g.P.Paths c.args.paths.now in
     let name = name_bytes c.args.database.now in
     let paths = map string_bytes c.args.named.now in
     let remaining = g.P.Reader.Source.remaining in
@@ -51,9 +52,9 @@ returns-clause-unread g c =
 pub returns-in_err-readers-clause-changes : goal.returns-in_err-readers-clause-changes
 returns-in_err-readers-clause-changes g c = λ clean.
     let format = g.L.Layout.format in
-    let k = conditions (version_of format) c.args.session.now.profile c.args.session.now.limits in
+    let k = conditions_in format c.args.session.now in
     let held = state g.S.Store c.args.session.now.connection in
-    let at = telling (g.P.Paths.tells c.args.paths.now) (g.P.Paths.stands c.args.paths.now) (g.P.Paths.lists c.args.paths.now) in
+    let at = telling_of g.P.Paths c.args.paths.now in
     let name = name_bytes c.args.database.now in
     let paths = map string_bytes c.args.named.now in
     let why = c.in_err-readers.field-0.0 in
@@ -63,7 +64,7 @@ returns-in_err-readers-clause-changes g c = λ clean.
 
 pub returns-clause-reaches : goal.returns-clause-reaches
 returns-clause-reaches g c =
-    let at = telling (g.P.Paths.tells c.args.paths.now) (g.P.Paths.stands c.args.paths.now) (g.P.Paths.lists c.args.paths.now) in
+    let at = telling_of g.P.Paths c.args.paths.now in
     let named = map string_bytes c.args.named.now in
     let read = c.in_ok-readers.ensures.given in
     as_given (Reaches at ⊥ named) c.update_from.result c.as_told.result c.as_told.ensures (given_reaches at ⊥ named c.update_from.result (read.files, read.found))

@@ -1,7 +1,7 @@
 use Rattle.zeb_register.proofs.Cited.{state, subst, sym, IsListOf, key_in}
 use Rattle.zeb_register.specs.PlainUnits.{IsUnderKey}
-use Rattle.zeb_register.proofs.Answered.{never_stored}
-use Rattle.zeb_register.proofs.RowUnits.{read_told}
+use Rattle.zeb_register.proofs.RowFaults.{refused_rows}
+use Rattle.zeb_register.proofs.RowUnits.{rows_listed, shown_none}
 use Rattle.zeb_register.proofs.plain.postings_under.Goals as goal
 
 pub returns-clause-lists : goal.returns-clause-lists
@@ -10,7 +10,13 @@ returns-clause-lists g c clean store =
     let db = c.args.at.db.0 in
     let key = key_in c.args.at.index c.args.at.register c.args.term.now in
     let listed : IsListOf (IsUnderKey old.now.trees db key) c.in_ok-rows.rows.items = (c.in_ok-rows.ensures.call.ok clean).1 store in
-    read_told old store db key c.deref.result.now (subst (IsListOf (IsUnderKey old.now.trees db key)) (sym c.deref.ensures.value) listed) c.postings_of.result c.postings_of.ensures
+    rows_listed old store db key c.deref.result.now c.in_ok-postings_of.field-0.items (subst (IsListOf (IsUnderKey old.now.trees db key)) (sym c.deref.ensures.value) listed) c.in_ok-postings_of.ensures
 
-pub returns-clause-refused : goal.returns-clause-refused
-returns-clause-refused g c clean store is = absurd (never_stored _ _ c.postings_of.result c.postings_of.ensures is)
+pub returns-in_err-postings_of-clause-lists : goal.returns-in_err-postings_of-clause-lists
+returns-in_err-postings_of-clause-lists g c clean store =
+    let old = state g.S.Store c.args.conn.now in
+    let db = c.args.at.db.0 in
+    let key = key_in c.args.at.index c.args.at.register c.args.term.now in
+    let listed : IsListOf (IsUnderKey old.now.trees db key) c.in_ok-rows.rows.items = (c.in_ok-rows.ensures.call.ok clean).1 store in
+    refused_rows c.in_err-postings_of.field-0.0 c.from_residual-in_err-postings_of.result c.from_residual-in_err-postings_of.ensures.1 _ _
+    (λ told. shown_none old store db key c.deref.result.now (subst (IsListOf (IsUnderKey old.now.trees db key)) (sym c.deref.ensures.value) listed) (c.in_err-postings_of.ensures told))

@@ -15,10 +15,7 @@ loop-row-init c =
     }
 
 pub returns-in_err-term-clause-occur : goal.returns-in_err-term-clause-occur
-returns-in_err-term-clause-occur c = refused_so _ _ c.from_residual.result c.in_err-term.field-0.0 (search rules) (
-  λ is. c.in_err-term.ensures.unstored (ap Err is),
-  λ told. (c.row-item.result, has_at _ _ _ c.row-item.is c.loop-row-test.true, c.in_err-term.ensures.honest (ap Err told)),
-)
+returns-in_err-term-clause-occur c = refused_so _ _ c.from_residual.result c.in_err-term.field-0.0 (search rules) (λ told. (c.row-item.result, has_at _ _ _ c.row-item.is c.loop-row-test.true, c.in_err-term.ensures.honest (ap Err told)))
 
 pub count_occurrence-requires : goal.count_occurrence-requires
 count_occurrence-requires c = record { room = λ t h. omega (arith, c.loop-row.invariant.upto t h, c.loop-row-test.true) }

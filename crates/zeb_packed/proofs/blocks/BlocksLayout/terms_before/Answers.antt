@@ -1,4 +1,4 @@
-use Rattle.zeb_packed.proofs.Cited.{rules, List, subst, sym, state, Row, TermCount, packed_blocks, refused_so}
+use Rattle.zeb_packed.proofs.Cited.{List, subst, sym, state, Row, TermCount, packed_blocks, rows_told}
 use Rattle.zeb_packed.specs.PrivatePackedRows.{EndsCounting, TellTerms}
 use Rattle.zeb_register.specs.Terms.{ListsBefore}
 use Rattle.zeb_packed.proofs.DictTerms.{before_hide, before_listed, first_taken}
@@ -19,7 +19,5 @@ returns-in_err-counts-clause-units g c clean store =
     let at = c.args.at in
     let raw = (c.in_ok-rows.ensures.call.ok clean).1 store in
     let first = first_taken c.args.n c.limit_of-limit.result c.in_ok-rows.rows.items c.deref.result.now raw.0 c.limit_of-limit.ensures.fits c.limit_of-limit.ensures.limit raw.2 c.deref.ensures.value c.counts_in.ensures.few in
-    refused_so _ _ c.from_residual-in_err-counts.result c.in_err-counts.field-0.0 (search rules) (
-      λ told. before_hide old store at.db.0 at.index at.register c.args.start.now c.args.n raw.0 raw.1 (subst EndsCounting first (c.in_err-counts.ensures.tells.1 told)),
-      λ is. absurd (c.in_err-counts.ensures.tells.0 is),
-    )
+    rows_told c.in_err-counts.field-0.0 c.from_residual-in_err-counts.result c.from_residual-in_err-counts.ensures.1 _ _ _
+    (λ told. before_hide old store at.db.0 at.index at.register c.args.start.now c.args.n raw.0 raw.1 (subst EndsCounting first (c.in_err-counts.ensures.tells told)))

@@ -1,5 +1,5 @@
 use Rattle.zeb_packed.proofs.Cited.{rules, sym, subst, LiesIn}
-use Rattle.zeb_register.proofs.Answered.{refused_so}
+use Rattle.zeb_register.proofs.RowFaults.{refused_rows}
 use Rattle.zeb_packed.proofs.HeldTurns.{not_counted, not_followed, not_found, not_left, unit_turned}
 use Rattle.zeb_packed.proofs.packed_parts.Held.changed.Goals as goal
 
@@ -13,9 +13,9 @@ returns-then-lacks_records-clause-turned c told are =
     not_counted c.args.change.now held.block held.list.items held.records c.requires.inside c.requires.lies c.requires.stored none.0 none.1 are
 
 pub returns-in_err-list-clause-turned : goal.returns-in_err-list-clause-turned
-returns-in_err-list-clause-turned c = refused_so _ _ c.from_residual.result c.in_err-list.field-0.0 (search rules) (λ told.
+returns-in_err-list-clause-turned c = refused_rows c.in_err-list.field-0.0 c.from_residual.result c.from_residual.ensures.1 _ _ (λ told.
     let held = c.args.self in
-    not_found c.args.change.now held.block held.list.items held.records c.requires.inside c.requires.lies c.requires.stored (c.in_err-list.ensures.turned.1 told))
+    not_found c.args.change.now held.block held.list.items held.records c.requires.inside c.requires.lies c.requires.stored (c.in_err-list.ensures.turned told))
 
 pub returns-in_default-clause-turned : goal.returns-in_default-clause-turned
 returns-in_default-clause-turned c told =

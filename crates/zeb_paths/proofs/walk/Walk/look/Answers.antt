@@ -1,6 +1,6 @@
 use Rattle.std.proofs.Common.{◌≡◌, ◌∷◌, ◌++◌, [], Err, Ok, arith, refl, rules, string_bytes, subst, sym}
 use Rattle.zeb_paths.specs.PrivateWalks.{Sees}
-use Rattle.zeb_paths.specs.Walks.{MayStand, due_of, dues_left, not_given, not_there, telling, too_deep}
+use Rattle.zeb_paths.specs.Walks.{MayStand, due_of, dues_left, not_given, not_there, telling_of, too_deep}
 use Rattle.zeb_paths.specs.declared.causes.PathCause.TheVariants.{TooDeep}
 use Rattle.zeb_paths.specs.declared.paths.PathKind.TheVariants as kind
 use Rattle.zeb_paths.proofs.WalkLemmas.{may_stand, sees_popped, weighs, weight_last}
@@ -13,7 +13,7 @@ returns-in-Ok-File-clause-lighter g c =
 
 pub returns-in_err-enter-in-Ok-Folder-clause-sees : goal.returns-in_err-enter-in-Ok-Folder-clause-sees
 returns-in_err-enter-in-Ok-Folder-clause-sees g c =
-    let at = telling (g.P.Paths.tells c.args.self.now.paths.now) (g.P.Paths.stands c.args.self.now.paths.now) (g.P.Paths.lists c.args.self.now.paths.now) in
+    let at = telling_of g.P.Paths c.args.self.now.paths.now in
     let path = string_bytes c.in-Some.step.path in
     let popped : c.args.self.now.steps.items ≡ c.pop.new.self.items ++ c.in-Some.step ∷ [] = search rules in
     let found : c.kind.result ≡ Ok kind.Folder = search rules in
@@ -27,7 +27,7 @@ returns-in_err-enter-in-Ok-Folder-clause-sees g c =
 
 pub returns-in-Ok-Folder-2-clause-sees : goal.returns-in-Ok-Folder-2-clause-sees
 returns-in-Ok-Folder-2-clause-sees g c =
-    let at = telling (g.P.Paths.tells c.args.self.now.paths.now) (g.P.Paths.stands c.args.self.now.paths.now) (g.P.Paths.lists c.args.self.now.paths.now) in
+    let at = telling_of g.P.Paths c.args.self.now.paths.now in
     let path = string_bytes c.in-Some.step.path in
     let popped : c.args.self.now.steps.items ≡ c.pop.new.self.items ++ c.in-Some.step ∷ [] = search rules in
     let found : c.kind.result ≡ Ok kind.Folder = search rules in
@@ -38,7 +38,7 @@ returns-in-Ok-Folder-2-clause-sees g c =
 
 pub returns-in-Err-clause-sees : goal.returns-in-Err-clause-sees
 returns-in-Err-clause-sees g c =
-    let at = telling (g.P.Paths.tells c.args.self.now.paths.now) (g.P.Paths.stands c.args.self.now.paths.now) (g.P.Paths.lists c.args.self.now.paths.now) in
+    let at = telling_of g.P.Paths c.args.self.now.paths.now in
     let path = string_bytes c.in-Some.step.path in
     let popped : c.args.self.now.steps.items ≡ c.pop.new.self.items ++ c.in-Some.step ∷ [] = search rules in
     let found : c.kind.result ≡ Err c.in-Err.cause = search rules in

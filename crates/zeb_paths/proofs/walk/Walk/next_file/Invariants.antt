@@ -1,7 +1,7 @@
 use Rattle.std.proofs.Common.{◌≡◌, ◌≤◌, List}
 use Rattle.std.specs.Prelude.{Option, Result, String}
 use Rattle.std.specs.declared.alloc.Global.{Global}
-use Rattle.zeb_paths.specs.Walks.{Due, WalksOn, dues_left, telling, walk_weight}
+use Rattle.zeb_paths.specs.Walks.{Due, WalksOn, dues_left, telling_of, walk_weight}
 use Rattle.zeb_paths.specs.declared.walk.WalkFault.{WalkFault}
 use Rattle.zeb_paths.proofs.walk.Walk.next_file.Given as goal
 
@@ -11,8 +11,8 @@ invariant-loop-path g l =
     record {
       paths : l.self.paths ≡ l.initial.self.paths;
       walked : (result : Result (Option (String Global)) WalkFault) (later : List Due)
-          → WalksOn (telling (g.P.Paths.tells l.initial.self.paths.now) (g.P.Paths.stands l.initial.self.paths.now) (g.P.Paths.lists l.initial.self.paths.now)) (dues_left l.self.steps.items) result later
-          → WalksOn (telling (g.P.Paths.tells l.initial.self.paths.now) (g.P.Paths.stands l.initial.self.paths.now) (g.P.Paths.lists l.initial.self.paths.now)) (dues_left l.initial.self.steps.items) result later;
+          → WalksOn (telling_of g.P.Paths l.initial.self.paths.now) (dues_left l.self.steps.items) result later
+          → WalksOn (telling_of g.P.Paths l.initial.self.paths.now) (dues_left l.initial.self.steps.items) result later;
       lighter : walk_weight l.self.steps.items ≤ walk_weight l.initial.self.steps.items;
     }
 

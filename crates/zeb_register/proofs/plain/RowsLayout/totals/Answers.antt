@@ -1,8 +1,8 @@
-use Rattle.zeb_register.proofs.Cited.{state, row_cmp, List, Row, rules, inl, sym, subst, arith, IsListOf, IsRest, postings_tree, AreCounts, IsShown, register_front}
+use Rattle.zeb_register.proofs.Cited.{state, row_cmp, List, Row, inl, sym, subst, arith, IsListOf, IsRest, postings_tree, AreCounts, IsShown, register_front}
 use Rattle.std.specs.List.Sorted.{IsStrictlySortedBy}
-use Rattle.zeb_register.proofs.Answered.{refused_so}
 use Rattle.zeb_register.proofs.CountLemmas.{none_in_sum}
 use Rattle.zeb_register.proofs.PlainTerms.{rows_hide, rows_sum_up}
+use Rattle.zeb_register.proofs.RowFaults.{rows_told}
 use Rattle.zeb_register.proofs.plain.RowsLayout.totals.Goals as goal
 
 pub returns-in_err-counts-clause-units : goal.returns-in_err-counts-clause-units
@@ -11,10 +11,8 @@ returns-in_err-counts-clause-units g c clean store =
     let at = c.args.at in
     let held : IsListOf (IsRest postings_tree (register_front at.db.0 at.index at.register) old.now.trees) c.deref.result.now =
     subst (IsListOf (IsRest postings_tree (register_front at.db.0 at.index at.register) old.now.trees)) (sym c.deref.ensures.value) ((c.in_ok-rows.ensures.call.ok clean).1 store) in
-    refused_so _ _ c.from_residual-in_err-counts.result c.in_err-counts.field-0.0 (search rules) (
-      λ told. let it = rows_hide old store at.db.0 at.index at.register c.deref.result.now held (c.in_err-counts.ensures.occur.1 told) in (it.0, inl it.1),
-      λ is. absurd (c.in_err-counts.ensures.occur.0 is),
-    )
+    rows_told c.in_err-counts.field-0.0 c.from_residual-in_err-counts.result c.from_residual-in_err-counts.ensures.1 _ _ _
+    (λ told. let it = rows_hide old store at.db.0 at.index at.register c.deref.result.now held (c.in_err-counts.ensures.occur told) in (it.0, inl it.1))
 
 pub returns-clause-units : goal.returns-clause-units
 returns-clause-units g c clean store =

@@ -1,0 +1,82 @@
+-- What the clauses of many calls say, of a connection: the state that it had before the call, and the one that it has now. Each of these unfolds
+-- by itself.
+use Rattle.std.specs.Prelude.{ℕ, Bool, Option, Result}
+use Rattle.std.specs.Borrow.{MutBor}
+use Rattle.sqlite.specs.declared.error.Error.{Error}
+use Rattle.sqlite.specs.Held.{Held, state}
+use Rattle.sqlite.specs.State.{State}
+use Rattle.sqlite.specs.Tree.{Trees}
+use Rattle.sqlite_trees.specs.declared.store.Store.{Ghosts}
+use Rattle.zeb_register.specs.declared.faults.RegFault.{RegFault}
+use Rattle.zeb_register.specs.Calls.{Inside, Reading}
+use Rattle.zeb_register.specs.Clauses.{ChangesTable, InStore, IsDueRefusal, IsDueRefusalInside, IsHonest, IsHonestInside, IsReasoned, IsReasonedError, IsReasonedErrorInside, OnStore, Tells, TellsInside, TellsWhether, Writes}
+
+-- ---- of a connection outside a transaction
+
+module _ {S : Type 0} (store : Ghosts S) (old new : Held S) where
+  -- a call reads, and shows this where it is accepted
+  abbrev pub ReadingOf : {A E : Type 0} → Result A E → (A → State → State → Type 0) → Type 0
+  ReadingOf result Shown = Reading (state store old) (state store new) result Shown
+
+  -- this is said of a store's tables as they were before a call
+  abbrev pub OnStoreOf : (Trees → Type 0) → Type 0
+  OnStoreOf Said = OnStore (state store old) (state store new) Said
+
+  -- the answer of an accepted call tells this of a store's tables
+  abbrev pub TellsOf : {A E : Type 0} → Result A E → (Trees → A → Type 0) → Type 0
+  TellsOf result Told = Tells (state store old) (state store new) result Told
+
+  -- the answer tells whether this holds of the tables, where what the call is given is so
+  abbrev pub TellsWhetherOf : {E : Type 0} → (Trees → Type 0) → Type 0 → Result Bool E → Type 0
+  TellsWhetherOf Holds Given result = TellsWhether Holds Given (state store old) (state store new) result
+
+  -- Damaged is answered only where the tables are not so
+  abbrev pub IsHonestOf : {A : Type 0} → Result A RegFault → (Trees → Type 0) → Type 0
+  IsHonestOf result Sound = IsHonest (state store old) (state store new) result Sound
+
+  -- Store is answered on a store's tables only where the store may refuse
+  abbrev pub IsReasonedOf : {A : Type 0} → Result A RegFault → Type 0
+  IsReasonedOf result = IsReasoned (state store old) (state store new) result
+
+  -- a call is refused as is due
+  abbrev pub IsDueRefusalOf : {A : Type 0} → Result A RegFault → Type 0
+  IsDueRefusalOf result = IsDueRefusal (state store old) (state store new) result
+
+  -- a statement on a store's tables fails with an error that is told as Store only where the store may refuse
+  abbrev pub IsReasonedErrorOf : {A : Type 0} → Result A Error → Type 0
+  IsReasonedErrorOf result = IsReasonedError (state store old) (state store new) result
+
+-- ---- of a connection inside a transaction, which borrows it
+
+module _ {S : Type 0} (store : Ghosts S) (old new : MutBor (Held S)) where
+  -- a call works, and has done this where it is accepted
+  abbrev pub InsideOf : {A E : Type 0} → Result A E → (A → State → State → Type 0) → Type 0
+  InsideOf result Done = Inside (state store old.now) (state store new.now) result Done
+
+  -- this is said of a store's tables as they were before a call
+  abbrev pub InStoreOf : (Trees → Type 0) → Type 0
+  InStoreOf Said = InStore (state store old.now) (state store new.now) Said
+
+  -- the answer of an accepted call tells this of a store's tables
+  abbrev pub TellsInsideOf : {A E : Type 0} → Result A E → (Trees → A → Type 0) → Type 0
+  TellsInsideOf result Told = TellsInside (state store old.now) (state store new.now) result Told
+
+  -- the transaction goes on, and one table is written so
+  abbrev pub WritesOf : {A E : Type 0} → ℕ → (ℕ → Trees → Trees → Type 0) → Result A E → Type 0
+  WritesOf tree Rows result = Writes tree Rows (state store old.now) (state store new.now) result
+
+  -- the one table is changed so by an accepted call
+  abbrev pub ChangesTableOf : {A E : Type 0} → ℕ → Result A E → (A → ℕ → Trees → Trees → Type 0) → Type 0
+  ChangesTableOf tree result Rows = ChangesTable tree (state store old.now) (state store new.now) result Rows
+
+  -- Damaged is answered only where the tables are not so
+  abbrev pub IsHonestInsideOf : {A : Type 0} → Result A RegFault → (Trees → Type 0) → Type 0
+  IsHonestInsideOf result Sound = IsHonestInside (state store old.now) (state store new.now) result Sound
+
+  -- a call is refused as is due
+  abbrev pub IsDueRefusalInsideOf : {A : Type 0} → Result A RegFault → Type 0
+  IsDueRefusalInsideOf result = IsDueRefusalInside (state store old.now) (state store new.now) result
+
+  -- a statement on a store's tables fails with an error that is told as Store only where the store may refuse
+  abbrev pub IsReasonedErrorInsideOf : {A : Type 0} → Result A Error → Type 0
+  IsReasonedErrorInsideOf result = IsReasonedErrorInside (state store old.now) (state store new.now) result
