@@ -49,16 +49,10 @@ impl fmt::Display for UnitPattern {
     ghost output = { λ pattern. Some (pattern_text pattern) };
 
     fn fmt<W: fmt::Write>(&self, f: &mut fmt::Formatter<W>) -> fmt::Result {
-        let [a, b, c] = self.tag;
-        f.write_char(char::from(a))?;
-        f.write_char(char::from(b))?;
-        f.write_char(char::from(c))?;
-        match self.code {
-            None => Ok(()),
-            Some(code) => {
-                f.write_char('$')?;
-                f.write_char(char::from(code))
-            }
+        let [a, b, c] = self.tag.map(char::from);
+        match self.code.map(char::from) {
+            None => write!(f, "{a}{b}{c}"),
+            Some(code) => write!(f, "{a}{b}{c}${code}"),
         }
     }
 }
