@@ -2,8 +2,8 @@
 
 `rt ci` gives a proof up to four processes where nothing else is ready as it begins. Each is a copy of what was proved so far, and by two or three of
 them a crate takes a third to a half more processor time. It also plans three to four times the memory that these crates take. With RT_JOBS it does
-neither: as many tasks run side by side as there are processors, and each has one process. Only in a build, where processors would stay idle, those of
-the longest chain have more.
+neither: as many tasks run side by side as there are processors, and each has one process. Proofs have more that most of the work waits for, if the
+other processors would stay idle meanwhile, and in a build all those of the longest chain.
 
 A proof gives way to those with more work before the end, its own and that of the longest chain that waits for it, and tests and edits to all proofs.
 The work is counted in lines of source, as by rt: most crates were seen to take 0.2 to 0.35 processor seconds a line, however long their proof files
@@ -14,8 +14,10 @@ from concurrent.futures import ThreadPoolExecutor
 
 # The bytes of memory that are kept for each task: most were seen to take 1 to 3 GB, and the greatest three, side by side at the end, 17.
 MEMORY_OF_ONE = 5_200_000_000
-# How many processes a proof of the longest chain has in a build, and always fewer than there are processors.
-IN_CHAIN = 3
+# How many processes a proof has that the others wait for, and always fewer than there are processors. Two would take as much of the processor as three.
+WHERE_OTHERS_WAIT = 3
+# Others wait for a proof where this part of all work stands behind it.
+WAITING = 0.5
 # By how much tasks beside proofs lower their priority, and at most a proof: by the part of it that it is nearer to the end than the farthest one.
 OTHERS_GIVE_WAY, PROOFS_GIVE_WAY = 19, 12
 # Edits wait for the proofs that have this part of the longest chain before the end. While those run, tests fill what they leave free; edits would be
@@ -42,6 +44,17 @@ def longest_chain(proofs, left):
     return found
 
 
+def awaited(proofs, there):
+    """The proofs that most of the work waits for, with more work than stands beside them for each other processor."""
+    work, found = sum(lines for _, lines in proofs.values()), []
+    for key, (waits, lines) in proofs.items():
+        behind = sum(it for others, it in proofs.values() if key in others)
+        beside = work - lines - behind - sum(proofs[it][1] for it in waits)
+        if behind >= WAITING * work and lines * (there - 1) > beside:
+            found.append(key)
+    return found
+
+
 def giving_way(much, call, processes=1):
     """The call of a task with so many processes, in a thread of its own whose priority is lower, and so that of all that it starts."""
 
@@ -52,8 +65,8 @@ def giving_way(much, call, processes=1):
     return called
 
 
-def plan_closely(rt, most_in_chain=1):
-    """Has rt plan a process for each task, or so many for each proof of the longest chain, and tasks that don't stand before a proof give way."""
+def plan_closely(rt, is_build=False):
+    """Has rt plan a process for each task, and more for proofs that others wait for; and tasks that don't stand before a proof give way."""
     in_lanes = rt.in_lanes
 
     def in_lanes_by_priority(tasks):
@@ -61,14 +74,14 @@ def plan_closely(rt, most_in_chain=1):
         if not proofs:
             return in_lanes(tasks)
         there, left = rt.processors(), work_to_the_end(proofs)
-        in_chain = max(min(most_in_chain, there - 1), 1)
-        chain, farthest = longest_chain(proofs, left), max(left.values())
+        in_front = max(min(WHERE_OTHERS_WAIT, there - 1), 1)
+        front, farthest = longest_chain(proofs, left) if is_build else awaited(proofs, there), max(left.values())
         first = [key for key in proofs if left[key] >= EDITS_WAIT_FOR * farthest]
 
         def laid_out(key, waits, lines, needs, call):
             if key in proofs:
                 gives_way = round(PROOFS_GIVE_WAY * (1 - left[key] / farthest))
-                return waits, lines, needs, giving_way(gives_way, call, in_chain if key in chain else 1)
+                return waits, lines, needs, giving_way(gives_way, call, in_front if key in front else 1)
             return waits if key[1] == "tests" else [*waits, *first], lines, needs, giving_way(OTHERS_GIVE_WAY, call)
 
         # a proof that others wait for takes the place of the last one that it waited for itself
