@@ -1,12 +1,8 @@
 -- What comes behind an entry that isn't below a key isn't below it either; and what shares much with one that is, is below it.
-use Rattle.zeb_leaf.proofs.Cited.{◌≡◌, ◌≢◌, ◌∙◌, ◌+◌, ◌<◌, ◌∷◌, ℕ, suc, List, [], refl, sym, ap, subst, inl, inr, arith, common_steps, cases_eq, Less, slice_cmp, nat_cmp, ordering_then, shared_of, Entry, Place, Follows, behind_entry}
+use Rattle.zeb_leaf.proofs.Cited.{◌≡◌, ◌≢◌, ◌∙◌, ◌+◌, ◌<◌, ◌∷◌, ℕ, suc, List, [], refl, sym, ap, subst, inl, inr, arith, common_steps, cases_eq, Less, slice_cmp, nat_cmp, ordering_then, shared_of, Entry, Place, Follows, behind_entry, Ordering, IsOnSide, IsOutside, TakesIfInSpan, IsInSpan, key_cmp, Held}
 use Rattle.std.proofs.lemmas.Cmp.{nat_list_cmp_total}
 use Rattle.zeb_leaf.proofs.Order.{cmp_from_above, entries_total}
-use Rattle.std.specs.declared.cmp.Ordering.{Ordering}
 use Rattle.zeb_leaf.proofs.Rising.{Above, cmp_itself, shared-other, shared-same}
-use Rattle.zeb_leaf.specs.PrivateTold.{IsOnSide, IsOutside, TakesIfInSpan}
-use Rattle.zeb_leaf.specs.Spans.{IsInSpan, key_cmp}
-use Rattle.zeb_leaf.specs.declared.entries.Held.{Held}
 use Rattle.zeb_leaf.specs.declared.spans.Side.{Side}
 use Rattle.zeb_leaf.specs.declared.spans.Side.TheVariants.{Below, Near, Past}
 

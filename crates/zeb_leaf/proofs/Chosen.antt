@@ -1,7 +1,5 @@
 -- What was chosen of the entries so far.
-use Rattle.zeb_leaf.proofs.Cited.{◌≡◌, ℕ, List, [], ◌∷◌, ◌++◌, refl, sym, ◌∙◌, ap, subst, inl, inr, append-nil, append_assoc, Entry, Held}
-use Rattle.zeb_leaf.specs.Spans.{AreInSpan}
-use Rattle.zeb_leaf.specs.PrivateTold.{TakesIfInSpan}
+use Rattle.zeb_leaf.proofs.Cited.{◌≡◌, ℕ, List, [], ◌∷◌, ◌++◌, refl, sym, ◌∙◌, ap, subst, inl, inr, append-nil, append_assoc, Entry, Held, TakesIfInSpan, AreInSpan}
 
 module _ (first : List ℕ) (least : ℕ) (end : List ℕ) (number : ℕ) (e : Entry) (more : List Held) (one : AreInSpan first least end number (e ∷ []) more) where
   span_more : (done : List Entry) (among : List Held) → AreInSpan first least end number done among → AreInSpan first least end number (done ++ e ∷ []) (among ++ more)

@@ -1,7 +1,6 @@
 -- Leaves that are cut off, one after the other.
-use Rattle.zeb_leaf.proofs.Cited.{◌≡◌, ℕ, ◌+◌, ◌<◌, ◌≤◌, List, [], ◌∷◌, ◌++◌, length, take, drop, refl, sym, ◌∙◌, ap, subst, arith, append_assoc, append-nil, length-take-le, take-append-drop, AllByRecursion, Entry, IsEntry, IsLeaf, entry_cmp, leaf_bytes}
+use Rattle.zeb_leaf.proofs.Cited.{◌≡◌, ℕ, ◌+◌, ◌<◌, ◌≤◌, List, [], ◌∷◌, ◌++◌, length, take, drop, refl, sym, ◌∙◌, ap, subst, arith, append_assoc, append-nil, length-take-le, take-append-drop, AllByRecursion, Entry, IsEntry, IsLeaf, entry_cmp, leaf_bytes, AreCut, BeginsAt, IsCutOff}
 use Rattle.std.specs.List.Sorted.{IsStrictlySortedBy}
-use Rattle.zeb_leaf.specs.Cuts.{AreCut, BeginsAt, IsCutOff}
 use Rattle.zeb_leaf.specs.declared.entries.TheConstants.{FULL_BYTES}
 use Rattle.zeb_leaf.specs.declared.parting.NewLeaf.{NewLeaf}
 use Rattle.zeb_leaf.proofs.Fronts.{takes_more}

@@ -1,5 +1,5 @@
 -- Why a call isn't done, passed on by the call above it.
-use Rattle.zeb_leaf.specs.Answers.{IsTold}
+use Rattle.zeb_leaf.proofs.Cited.{IsTold}
 use Rattle.zeb_leaf.specs.declared.entries.LeafFault.{LeafFault}
 use Rattle.zeb_leaf.specs.declared.entries.LeafFault.TheVariants.{Malformed, Memory}
 

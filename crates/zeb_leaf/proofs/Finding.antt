@@ -1,7 +1,5 @@
 -- What was found of a block of a term so far.
-use Rattle.zeb_leaf.proofs.Cited.{◌≡◌, ℕ, List, [], ◌∷◌, ◌++◌, refl, subst, lit<, Some, None, AllByRecursion, Entry, Held, entry_of, IsFound}
-use Rattle.std.specs.Prelude.{Option, Contains}
-use Rattle.std.proofs.lemmas.List.Elements.{Contains-append_left, Contains-append_right}
+use Rattle.zeb_leaf.proofs.Cited.{◌≡◌, ℕ, List, [], ◌∷◌, ◌++◌, refl, subst, lit<, Some, None, AllByRecursion, Entry, Held, entry_of, IsFound, Contains-append_left, Contains-append_right, Option, Contains}
 
 all_joined : (P : Entry → Type 0) (xs ys : List Entry) → AllByRecursion P xs → AllByRecursion P ys → AllByRecursion P (xs ++ ys)
 all_joined P [] ys each more = more

@@ -1,7 +1,5 @@
 -- The front of a list of entries, one entry longer.
-use Rattle.zeb_leaf.proofs.Cited.{◌≡◌, ℕ, suc, ◌+◌, ◌<◌, ◌≤◌, List, [], ◌∷◌, ◌++◌, length, take, drop, slice_index_or, sym, ◌∙◌, ap, arith, length-append, length-drop, take-suc, Entry, leaf_bytes, first_place, behind_entry, last_place}
-use Rattle.std.proofs.Math.Seq.{drop-cons}
-use Rattle.zeb_leaf.specs.Cuts.{TakesMore}
+use Rattle.zeb_leaf.proofs.Cited.{◌≡◌, ℕ, suc, ◌+◌, ◌<◌, ◌≤◌, List, [], ◌∷◌, ◌++◌, length, take, drop, slice_index_or, sym, ◌∙◌, ap, arith, length-append, length-drop, take-suc, Entry, leaf_bytes, first_place, behind_entry, last_place, drop-cons, TakesMore}
 use Rattle.zeb_leaf.specs.Leaves.{entry_bytes}
 use Rattle.zeb_leaf.proofs.Order.{last_place-append}
 use Rattle.zeb_leaf.proofs.Pushing.{entries_bytes-append, one_entry}

@@ -1,9 +1,6 @@
 -- Lists by their elements.
-use Rattle.zeb_leaf.proofs.Cited.{◌≡◌, List, [], ◌∷◌, ◌++◌, inl, inr, refl, arith, AllByRecursion, Less}
-use Rattle.std.specs.Prelude.{Contains}
+use Rattle.zeb_leaf.proofs.Cited.{◌≡◌, List, [], ◌∷◌, ◌++◌, inl, inr, refl, arith, AllByRecursion, Less, All-contains, All-from_recursion, Contains-append_left, Contains-append_right, Contains-push_cases, Contains, Ordering}
 use Rattle.std.specs.List.Sorted.{IsStrictlySortedBy}
-use Rattle.std.specs.declared.cmp.Ordering.{Ordering}
-use Rattle.std.proofs.lemmas.List.Elements.{All-contains, All-from_recursion, Contains-append_left, Contains-append_right, Contains-push_cases}
 
 pub none_in : {X : Type 0} (x : X) → Contains [] x → ⊥
 none_in x has = omega (arith, has.1)

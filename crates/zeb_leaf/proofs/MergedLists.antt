@@ -1,14 +1,6 @@
 -- Entries merged with changes, change by change.
-use Rattle.zeb_leaf.proofs.Cited.{◌≡◌, ◌≢◌, ℕ, List, [], ◌∷◌, ◌++◌, length, ◌⊎◌, refl, sym, ◌∙◌, ap, subst, inl, inr, arith, common_steps, append_assoc, Less, Equal, Greater, Some, None, AllByRecursion, Entry, IsEntry, entry_cmp, slice_cmp, nat_cmp, ordering_then}
-use Rattle.std.specs.Prelude.{Contains, Option}
+use Rattle.zeb_leaf.proofs.Cited.{◌≡◌, ◌≢◌, ℕ, List, [], ◌∷◌, ◌++◌, length, ◌⊎◌, refl, sym, ◌∙◌, ap, subst, inl, inr, arith, common_steps, append_assoc, Less, Equal, Greater, Some, None, AllByRecursion, Entry, IsEntry, entry_cmp, slice_cmp, nat_cmp, ordering_then, Contains-append_cases, Contains-append_left, Contains-append_right, ordering_reverse, Contains, Option, Ordering, AreMerged, IsOf, IsPut, IsTouched, change_cmp, entry_with, puts, ArePartedAt, Begins, IsRestBehind, Merges, key_cmp, BlockChange}
 use Rattle.std.specs.List.Sorted.{IsStrictlySortedBy}
-use Rattle.std.specs.Ordering.{ordering_reverse}
-use Rattle.std.specs.declared.cmp.Ordering.{Ordering}
-use Rattle.std.proofs.lemmas.List.Elements.{Contains-append_cases, Contains-append_left, Contains-append_right}
-use Rattle.zeb_leaf.specs.Merging.{AreMerged, IsOf, IsPut, IsTouched, change_cmp, entry_with, puts}
-use Rattle.zeb_leaf.specs.PrivateMerging.{ArePartedAt, Begins, IsRestBehind, Merges}
-use Rattle.zeb_leaf.specs.Spans.{key_cmp}
-use Rattle.zeb_leaf.specs.declared.merging.BlockChange.{BlockChange}
 use Rattle.zeb_leaf.specs.declared.merging.NewBlock.{NewBlock}
 use Rattle.zeb_leaf.proofs.Members.{all_by, all_of, behind_in, first_below, first_in, none_in, only_in, sorted_front, sorted_joined, sorted_rest}
 use Rattle.zeb_leaf.proofs.Order.{cmp_level, cmp_same, entries_total}

@@ -1,8 +1,5 @@
 -- Entries that are moved up to a changed block, and what is put there.
-use Rattle.zeb_leaf.proofs.Cited.{◌≡◌, List, ◌++◌, ◌∙◌, ap, append_assoc, Entry}
-use Rattle.zeb_leaf.specs.Merging.{puts}
-use Rattle.zeb_leaf.specs.PrivateMerging.{IsRestBehind, Merges, MovesBelow}
-use Rattle.zeb_leaf.specs.declared.merging.BlockChange.{BlockChange}
+use Rattle.zeb_leaf.proofs.Cited.{◌≡◌, List, ◌++◌, ◌∙◌, ap, append_assoc, Entry, puts, IsRestBehind, Merges, MovesBelow, BlockChange}
 
 pub one_merges : (c : BlockChange) (left mid rest old was new : List Entry) → MovesBelow c.term c.block left mid old was → IsRestBehind c.term c.block mid rest → new ≡ was ++ puts c → Merges c left old new rest
 one_merges c left mid rest old was new moves behind put = record {

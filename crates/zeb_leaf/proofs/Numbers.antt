@@ -1,7 +1,6 @@
 -- How many bytes numbers and entries take.
-use Rattle.zeb_leaf.proofs.Cited.{◌≡◌, ℕ, zero, suc, ◌+◌, ◌-◌, ◌/◌, ◌%◌, ◌<◌, ◌≤◌, List, [], ◌∷◌, ◌++◌, length, drop, refl, ap, inl, inr, arith, cases_lt, length-append, length-drop, Entry, shared_of, behind_entry, last_place, Walk, Steps}
+use Rattle.zeb_leaf.proofs.Cited.{◌≡◌, ℕ, zero, suc, ◌+◌, ◌-◌, ◌/◌, ◌%◌, ◌<◌, ◌≤◌, List, [], ◌∷◌, ◌++◌, length, drop, refl, ap, inl, inr, arith, cases_lt, length-append, length-drop, Entry, shared_of, behind_entry, last_place, Walk, Steps, groups-one, groups-high, length-uleb, uleb-low}
 use Rattle.zeb_blocks.specs.Numbers.{groups, uleb}
-use Rattle.zeb_blocks.proofs.Bytes.{groups-one, groups-high, length-uleb, uleb-low}
 use Rattle.zeb_leaf.specs.Leaves.{counted, entry_bytes, entries_bytes}
 use Rattle.zeb_leaf.proofs.OneEntry.{shared-le}
 

@@ -1,6 +1,5 @@
 -- One entry at a place, and its bytes.
-use Rattle.zeb_leaf.proofs.Cited.{◌≡◌, ◌≢◌, ℕ, ◌+◌, ◌^◌, ◌<◌, ◌≤◌, List, [], ◌++◌, length, take, drop, refl, sym, ◌∙◌, ap, subst, arith, length-append, length-drop, length-take-le, take-append-drop, drop-append_seam, Entry, IsEntry, shared_of, Place, Follows, behind_entry, Walk, Steps, IsStuck, Parts, AreSmall, Fit, entry_told, IsUtf8}
-use Rattle.std.specs.Prelude.{nat_eq}
+use Rattle.zeb_leaf.proofs.Cited.{◌≡◌, ◌≢◌, ℕ, ◌+◌, ◌^◌, ◌<◌, ◌≤◌, List, [], ◌++◌, length, take, drop, refl, sym, ◌∙◌, ap, subst, arith, length-append, length-drop, length-take-le, take-append-drop, drop-append_seam, Entry, IsEntry, shared_of, Place, Follows, behind_entry, Walk, Steps, IsStuck, Parts, AreSmall, Fit, entry_told, IsUtf8, nat_eq}
 use Rattle.std.proofs.lemmas.List.Sums.{common_prefix_len-le}
 use Rattle.zeb_leaf.specs.Leaves.{entry_bytes}
 use Rattle.zeb_leaf.specs.PrivateTold.{parts_bytes}

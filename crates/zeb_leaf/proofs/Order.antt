@@ -1,8 +1,6 @@
 -- The order of entries: lists in which each entry may come behind the one before it are those that rise.
-use Rattle.zeb_leaf.proofs.Cited.{◌≡◌, ℕ, ◌+◌, List, [], ◌∷◌, ◌++◌, refl, ◌∙◌, ap, subst, inl, inr, arith, common_steps, Less, Equal, Greater, slice_cmp, nat_cmp, ordering_then, AllByRecursion, Entry, IsEntry, entry_cmp, Place, first_place, behind_entry, last_place, Follows}
+use Rattle.zeb_leaf.proofs.Cited.{◌≡◌, ℕ, ◌+◌, List, [], ◌∷◌, ◌++◌, refl, ◌∙◌, ap, subst, inl, inr, arith, common_steps, Less, Equal, Greater, slice_cmp, nat_cmp, ordering_then, AllByRecursion, Entry, IsEntry, entry_cmp, Place, first_place, behind_entry, last_place, Follows, ◌↔◌, Ordering}
 use Rattle.std.specs.List.Sorted.{IsStrictlySortedBy}
-use Rattle.std.specs.Prelude.{◌↔◌}
-use Rattle.std.specs.declared.cmp.Ordering.{Ordering}
 use Rattle.std.proofs.lemmas.Cmp.{then_total, on_total, nat_cmp_total, nat_list_cmp_total}
 use Rattle.std.specs.Cmp.{IsTotalOrder}
 use Rattle.zeb_leaf.proofs.Rising.{Above, cmp_itself}

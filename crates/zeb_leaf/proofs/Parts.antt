@@ -1,8 +1,6 @@
 -- Bytes tell what they begin with: bytes behind how many they are, and the parts of an entry.
-use Rattle.zeb_leaf.proofs.Cited.{◌≡◌, ◌≢◌, ℕ, ◌^◌, ◌<◌, List, [], ◌++◌, length, take, drop, refl, sym, ◌∙◌, ap, arith, Some, None, Ok, Err, append_assoc, length-append, take-append-drop, take-append_seam, drop-append_seam, Parts, AreSmall}
-use Rattle.std.specs.Prelude.{Option, Result, MatchOption, OnOk, is_ok, cond}
+use Rattle.zeb_leaf.proofs.Cited.{◌≡◌, ◌≢◌, ℕ, ◌^◌, ◌<◌, List, [], ◌++◌, length, take, drop, refl, sym, ◌∙◌, ap, arith, Some, None, Ok, Err, append_assoc, length-append, take-append-drop, take-append_seam, drop-append_seam, Parts, AreSmall, Option, Result, MatchOption, OnOk, is_ok, cond, begins_none}
 use Rattle.zeb_blocks.specs.Numbers.{uleb}
-use Rattle.zeb_blocks.proofs.Bytes.{begins_none}
 use Rattle.zeb_blocks.proofs.Front.{same_number, same_behind}
 use Rattle.zeb_leaf.specs.Leaves.{counted}
 use Rattle.zeb_leaf.specs.PrivateTold.{parts_bytes}

@@ -1,10 +1,7 @@
 -- Worked leaves, and bytes that are none: what the bytes have at their front is told by computing it.
-use Rattle.zeb_leaf.proofs.Cited.{◌≡◌, ◌≢◌, ℕ, ◌+◌, ◌^◌, ◌<◌, ◌≤◌, List, [], ◌∷◌, ◌++◌, length, take, drop, refl, sym, ◌∙◌, ap, subst, inl, inr, arith, true, false, lit<, lit≤, take-append_seam, drop-append_seam, Entry, IsEntry, IsLeaf, leaf_bytes, Place, first_place, behind_entry, Parts, AreSmall, Fit, entry_told, IsUtf8}
-use Rattle.std.specs.Prelude.{replicate}
+use Rattle.zeb_leaf.proofs.Cited.{◌≡◌, ◌≢◌, ℕ, ◌+◌, ◌^◌, ◌<◌, ◌≤◌, List, [], ◌∷◌, ◌++◌, length, take, drop, refl, sym, ◌∙◌, ap, subst, inl, inr, arith, true, false, lit<, lit≤, take-append_seam, drop-append_seam, Entry, IsEntry, IsLeaf, leaf_bytes, Place, first_place, behind_entry, Parts, AreSmall, Fit, entry_told, IsUtf8, take-nil, IsUtf8-from_is_utf8, is_utf8-from_IsUtf8, replicate}
 use Rattle.std.specs.Str.{chars, is_utf8}
 use Rattle.std.proofs.Math.Utf8.{encode}
-use Rattle.std.proofs.Math.Seq.{take-nil}
-use Rattle.std.proofs.lemmas.Str.{IsUtf8-from_is_utf8, is_utf8-from_IsUtf8}
 use Rattle.zeb_leaf.specs.Worked.{entry}
 use Rattle.zeb_blocks.specs.Numbers.{groups, uleb}
 use Rattle.zeb_blocks.specs.Left.{number_at, behind}

@@ -1,6 +1,5 @@
 -- A row of a block that could be put stood alone: the key had none for the block.
-use Rattle.zeb_packed.proofs.Cited.{◌≡◌, ◌∙◌, ℕ, ℤ, Ok, Err, Result, OnOk, true, false, List, [], ◌∷◌, refl, sym, ap, inl, inr, both_ways, tied_itself, is_eq, Error, Int, next_rowid, Row, column, Chosen, Executes, ExecutesInside, State, rowid, some_from, next_is_free, value_cmp_total, IsNumberedRow, IsStore, blocks_tree, store_schema, IsTold, block_columns, blocks, blocks_keys, blocks_static, single, inserts, keyed_there}
-use Rattle.sqlite.specs.Order.{value_cmp}
+use Rattle.zeb_packed.proofs.Cited.{◌≡◌, ◌∙◌, ℕ, ℤ, Ok, Err, Result, OnOk, true, false, List, [], ◌∷◌, refl, sym, ap, inl, inr, both_ways, tied_itself, is_eq, Error, Int, next_rowid, Row, column, Chosen, Executes, ExecutesInside, State, rowid, some_from, next_is_free, value_cmp_total, IsNumberedRow, IsStore, blocks_tree, store_schema, IsTold, block_columns, blocks, blocks_keys, blocks_static, single, inserts, keyed_there, value_cmp}
 use Rattle.zeb_packed.proofs.PackedRowStatements.{add_block_is, add_block_plain, add_block_terms, add_block_text}
 
 -- ---- a row that is put is the first of its block

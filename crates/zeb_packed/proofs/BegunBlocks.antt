@@ -1,12 +1,9 @@
 -- Block by block: the rows that changes make of a key which has none.
-use Rattle.zeb_packed.proofs.Cited.{◌≡◌, ◌≢◌, ◌∙◌, ◌/◌, ◌++◌, ◌<◌, ◌≤◌, ◌+◌, ◌-◌, ℕ, ℤ, suc, List, [], ◌∷◌, drop, drop-cons, get_or, length, take, take_rest, take-append-drop, map, refl, sym, ap, subst, inl, inr, arith, Has, has_either, has_left, has_right, Trees, all_has, AllByRecursion, IsInBlock, TurnsBlocks, no_change, run, run_first, run_long, blocks_tree, Key, AllowsBlock, AllowsBlocks, IsTouched, LacksBlock, RecordChange, NumbersRise, Known}
+use Rattle.zeb_packed.proofs.Cited.{◌≡◌, ◌≢◌, ◌∙◌, ◌/◌, ◌++◌, ◌<◌, ◌≤◌, ◌+◌, ◌-◌, ℕ, ℤ, suc, List, [], ◌∷◌, drop, drop-cons, get_or, length, take, take_rest, take-append-drop, map, refl, sym, ap, subst, inl, inr, arith, Has, has_either, has_left, has_right, Trees, all_has, AllByRecursion, IsInBlock, TurnsBlocks, no_change, run, run_first, run_long, blocks_tree, Key, AllowsBlock, AllowsBlocks, IsTouched, LacksBlock, RecordChange, NumbersRise, Known, append_cancel_left, AreApart, AreLacking, BeginsBlocks, GainsAll, SpellsNew, new_block_row, NewBlock}
 use Rattle.zeb_packed.proofs.BegunKeys.{IsFrom, allows_still, apart_joined, block_turned, lacks_beside, next_from, run_from, turns_back}
 use Rattle.zeb_packed.proofs.HeldTables.{blocks_gained, gained_last, with_blocks}
 use Rattle.zeb_packed.proofs.UnitRuns.{LeadsOn, allows_fewer, allows_next, allows_run, none_turned, run_leads}
 use Rattle.zeb_packed.proofs.UnitTurns.{run_left}
-use Rattle.std.proofs.lemmas.List.{append_cancel_left}
-use Rattle.zeb_packed.specs.PrivateNewRows.{AreApart, AreLacking, BeginsBlocks, GainsAll, SpellsNew, new_block_row}
-use Rattle.zeb_packed.specs.declared.new_rows.NewBlock.{NewBlock}
 
 -- the rows so far, each of a block below this one
 pub record AreBegun (key : Key) (changes : List RecordChange) (start known : Known) (done : ℕ) (blocks : List NewBlock) : Type 0 where

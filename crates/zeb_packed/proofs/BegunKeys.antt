@@ -1,13 +1,9 @@
 -- The rows that changes make of a key which has none, block by block.
-use Rattle.zeb_packed.proofs.Cited.{packed_blocks, ◌≡◌, ◌≢◌, ◌∙◌, ◌/◌, ◌++◌, ◌<◌, ◌≤◌, ℕ, ℤ, List, [], ◌∷◌, map, refl, sym, ap, ap₂, subst, inl, inr, arith, Has, has_either, has_right, AllByRecursion, Row, Trees, HasRow, blocks_tree, dict_tree, Posting, Key, block_row, dict_row, IsUtf8, TurnsBlock, TurnsBlocks, AllowsBlocks, AllowsBlock, units_of, BlockReads, CountsAs, places_in, IsStorableChange, KeyUnits, LacksBlock, NumbersRise, PutsUnits, RecordChange, TurnsUnits, one_block_read, Known}
+use Rattle.zeb_packed.proofs.Cited.{packed_blocks, ◌≡◌, ◌≢◌, ◌∙◌, ◌/◌, ◌++◌, ◌<◌, ◌≤◌, ℕ, ℤ, List, [], ◌∷◌, map, refl, sym, ap, ap₂, subst, inl, inr, arith, Has, has_either, has_right, AllByRecursion, Row, Trees, HasRow, blocks_tree, dict_tree, Posting, Key, block_row, dict_row, IsUtf8, TurnsBlock, TurnsBlocks, AllowsBlocks, AllowsBlock, units_of, BlockReads, CountsAs, places_in, IsStorableChange, KeyUnits, LacksBlock, NumbersRise, PutsUnits, RecordChange, TurnsUnits, one_block_read, Known, AreApart, AreLacking, BeginsBlocks, BeginsKey, GainsAll, LeavesPlaces, SpellsNew, new_block_row, new_count_row, NewBlock, NewCount, NewRows}
 use Rattle.zeb_packed.proofs.HeldTables.{block_is, block_of}
 use Rattle.zeb_packed.proofs.KeyCounts.{count_told}
 use Rattle.zeb_packed.proofs.PackedReads.{lacks_reads}
 use Rattle.zeb_packed.proofs.UnitRuns.{first_least, lacks_each, lacks_so}
-use Rattle.zeb_packed.specs.PrivateNewRows.{AreApart, AreLacking, BeginsBlocks, BeginsKey, GainsAll, LeavesPlaces, SpellsNew, new_block_row, new_count_row}
-use Rattle.zeb_packed.specs.declared.new_rows.NewBlock.{NewBlock}
-use Rattle.zeb_packed.specs.declared.new_rows.NewCount.{NewCount}
-use Rattle.zeb_packed.specs.declared.new_rows.NewRows.{NewRows}
 
 -- ---- changes that leave places
 

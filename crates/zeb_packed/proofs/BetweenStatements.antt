@@ -1,6 +1,5 @@
 -- The statements that list rows of the terms from one text to another, each with what it is compiled to.
-use Rattle.zeb_packed.proofs.Cited.{◌≡◌, ℕ, ℤ, true, false, arith, List, [], ◌∷◌, ◌++◌, codes, refl, sym, subst, Ordering, Less, Equal, Greater, ordering_then, Text, Row, column, State, Shown, Select, reads_listing, IsPlain, command_of, IsRestBetween, IsListOf, IsStore, blocks_tree, store_schema, IsSilent, blocks_keys, register_of, blocks, blocks_static, IsAfter, lists_after, IsFit, IsReasonedQuery, IsWhole, why_refused, list_so, alone, keyed_from, no_limit, reading, rising, shows, between, more}
-use Rattle.sqlite.specs.Order.{value_cmp}
+use Rattle.zeb_packed.proofs.Cited.{◌≡◌, ℕ, ℤ, true, false, arith, List, [], ◌∷◌, ◌++◌, codes, refl, sym, subst, Ordering, Less, Equal, Greater, ordering_then, Text, Row, column, State, Shown, Select, reads_listing, IsPlain, command_of, IsRestBetween, IsListOf, IsStore, blocks_tree, store_schema, IsSilent, blocks_keys, register_of, blocks, blocks_static, IsAfter, lists_after, IsFit, IsReasonedQuery, IsWhole, why_refused, list_so, alone, keyed_from, no_limit, reading, rising, shows, between, more, value_cmp}
 use Rattle.sqlite.specs.Listing.{understood}
 use Rattle.sqlite_tied.specs.Compute.{everything}
 

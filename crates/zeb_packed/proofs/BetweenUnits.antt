@@ -1,9 +1,5 @@
 -- The rows of neighbouring terms, which spell a list, as the units of these terms.
-use Rattle.zeb_packed.proofs.Cited.{◌∙◌, ℕ, List, [], ◌∷◌, ◌++◌, drop, map, ap, subst, Text, Row, State, Has, has_mapped, mapped_has, Posting, Key, RegisterOf, IsBetween, IsRestBetween, two_behind, register_columns, key_in, SpellsPart, AreSpelled, packed_blocks, IsListOf, IsRest, IsStore, blocks_tree, all_spelled, each_spelled, spelled_by, spelled_too}
-use Rattle.zeb_register.specs.PackedUnits.{IsMalformed}
-use Rattle.zeb_register.specs.Units.{HasMalformedBetween, ListsBetween}
-use Rattle.zeb_register.proofs.BetweenRows.{has_under, shown_row, under, under_has, under_listed}
-use Rattle.zeb_packed.specs.PrivatePackedRows.{SomeMalformed}
+use Rattle.zeb_packed.proofs.Cited.{◌∙◌, ℕ, List, [], ◌∷◌, ◌++◌, drop, map, ap, subst, Text, Row, State, Has, has_mapped, mapped_has, Posting, Key, RegisterOf, IsBetween, IsRestBetween, two_behind, register_columns, key_in, SpellsPart, AreSpelled, packed_blocks, IsListOf, IsRest, IsStore, blocks_tree, all_spelled, each_spelled, spelled_by, spelled_too, SomeMalformed, has_under, shown_row, under, under_has, under_listed, IsMalformed, HasMalformedBetween, ListsBetween}
 use Rattle.zeb_packed.proofs.UnitLists.{units_listed}
 
 module _ (s : State) (store : IsStore s) (at : RegisterOf) (first last : List ℕ) (rows : List Row) (are : IsListOf (IsRestBetween blocks_tree (register_columns at) first (last ++ 0 ∷ []) s.now.trees) rows) where

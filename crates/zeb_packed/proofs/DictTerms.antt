@@ -1,17 +1,7 @@
 -- Rows of `dict` as the terms of a register, whatever the rows hold.
-use Rattle.zeb_packed.proofs.Cited.{◌≡◌, ◌↔◌, ◌⊎◌, ◌∙◌, ◌+◌, ◌<◌, ◌≤◌, ◌^◌, ℕ, ℤ, pos, FitsSigned, w64, to_z, of_z, zero, suc, true, false, List, [], ◌∷◌, ◌++◌, length, get_or, map, take, drop, reverse, refl, sym, ap, ap₂, subst, inl, inr, Ordering, Less, Equal, Greater, nat_cmp, arith, length-map, length-reverse, map-append, take-append-drop, take_more, to_z-of_z, is_lt, ordering_then, slice_cmp, nat_list_cmp_total, IsUtf8, Int, Text, Row, column, row_cmp, State, as_count, limited, Has, all_from, all_has, has_either, has_mapped, mapped_has, row_cmp_total, value_cmp-Text, Register, TermCount, key_in, term_cmp, IsRestBefore, IsRestFrom, CountsTerm, count_row, first_two, IsFallingListOf, register_front, packed_blocks, IsListOf, IsRest, IsStore, store_schema, dict, dict_static, dict_tree, codes_there, never_itself, has_at, has_taken, term_total}
-use Rattle.sqlite.specs.Order.{value_cmp}
-use Rattle.std.specs.Cmp.{IsTotalOrder}
+use Rattle.zeb_packed.proofs.Cited.{◌≡◌, ◌↔◌, ◌⊎◌, ◌∙◌, ◌+◌, ◌<◌, ◌≤◌, ◌^◌, ℕ, ℤ, pos, FitsSigned, w64, to_z, of_z, zero, suc, true, false, List, [], ◌∷◌, ◌++◌, length, get_or, map, take, drop, reverse, refl, sym, ap, ap₂, subst, inl, inr, Ordering, Less, Equal, Greater, nat_cmp, arith, length-map, length-reverse, map-append, take-append-drop, take_more, to_z-of_z, is_lt, ordering_then, slice_cmp, nat_list_cmp_total, IsUtf8, Int, Text, Row, column, row_cmp, State, as_count, limited, Has, all_from, all_has, has_either, has_mapped, mapped_has, row_cmp_total, value_cmp-Text, Register, TermCount, key_in, term_cmp, IsRestBefore, IsRestFrom, CountsTerm, count_row, first_two, IsFallingListOf, register_front, packed_blocks, IsListOf, IsRest, IsStore, store_schema, dict, dict_static, dict_tree, codes_there, never_itself, has_at, has_taken, term_total, value_cmp, IsTotalOrder, EndsCounting, TellTerms, begins, comes_is, comes_not, cut_rises, flipped_total, has_reversed, reversed_rises, same_bytes, text_first, taken_or, take_rises, taken_below, Comes, HidesBefore, HidesCount, HidesFrom, HidesNearest, HidesSome, IsNearest, ListsAll, ListsBefore, ListsCounts, ListsFrom, ListsNearest, shows_count}
 use Rattle.std.specs.List.Sorted.{IsStrictlySortedBy}
-use Rattle.zeb_packed.specs.PrivatePackedRows.{EndsCounting, TellTerms}
-use Rattle.zeb_register.specs.Terms.{Comes, HidesBefore, HidesCount, HidesFrom, HidesNearest, HidesSome, IsNearest, ListsAll, ListsBefore, ListsCounts, ListsFrom, ListsNearest, shows_count}
-use Rattle.zeb_register.proofs.BetweenRows.{begins}
-use Rattle.zeb_register.proofs.CountLemmas.{comes_is, comes_not}
 use Rattle.zeb_register.proofs.NearestTerms.{hides_next}
-use Rattle.zeb_register.proofs.RisingLists.{cut_rises, flipped_total, has_reversed, reversed_rises}
-use Rattle.zeb_register.proofs.RowLemmas.{same_bytes, text_first}
-use Rattle.zeb_register.proofs.TermLists.{taken_or}
-use Rattle.zeb_register.proofs.TermRows.{take_rises, taken_below}
 use Rattle.zeb_packed.proofs.PackedSound.{one_dict}
 
 -- one row more shows one term more

@@ -1,6 +1,5 @@
 -- SELECT over one table, ordered by one column, the greatest first: the rows of the table that it lists.
-use Rattle.zeb_packed.proofs.Cited.{◌≡◌, ◌∙◌, ◌+◌, ℕ, suc, true, false, List, [], ◌∷◌, ◌++◌, length, map, refl, sym, ap, subst, Ordering, Less, Equal, Greater, ordering_reverse, ordering_then, list_any, range_with_len, Row, column, row_cmp, Table, Schema, Term, col, eval, Select, IsDatabase, reads_listing, State, Shown, IsPlain, command_of, reads_as, value_cmp_total, Has, all_has, has_got, length-map, HasLayout, IsFallingListOf, Condition, keyed_from, passes, reading_by, alone, shows, descending, ordering, IsPlainTable, HasKeys, are_fit, are_comparable, code, codes_of, covers, covered_some, ordering_tied, shares_alone, reads, shows_each, shows_sorted, all_shown, IsSelected, shown_places, IsAfter, after_key, alone_first, keyed_there, codes_there, meets_there}
-use Rattle.sqlite.specs.Order.{value_cmp}
+use Rattle.zeb_packed.proofs.Cited.{◌≡◌, ◌∙◌, ◌+◌, ℕ, suc, true, false, List, [], ◌∷◌, ◌++◌, length, map, refl, sym, ap, subst, Ordering, Less, Equal, Greater, ordering_reverse, ordering_then, list_any, range_with_len, Row, column, row_cmp, Table, Schema, Term, col, eval, Select, IsDatabase, reads_listing, State, Shown, IsPlain, command_of, reads_as, value_cmp_total, Has, all_has, has_got, length-map, HasLayout, IsFallingListOf, Condition, keyed_from, passes, reading_by, alone, shows, descending, ordering, IsPlainTable, HasKeys, are_fit, are_comparable, code, codes_of, covers, covered_some, ordering_tied, shares_alone, reads, shows_each, shows_sorted, all_shown, IsSelected, shown_places, IsAfter, after_key, alone_first, keyed_there, codes_there, meets_there, value_cmp}
 use Rattle.sqlite.specs.Query.{limited, as_count}
 use Rattle.sqlite.specs.Listing.{understood}
 use Rattle.sqlite_value.specs.declared.keys.Key.{Key}

@@ -1,12 +1,7 @@
 -- A key that is changed beside rows of other keys, which are held.
-use Rattle.zeb_packed.proofs.Cited.{packed_blocks, ◌≢◌, ◌∙◌, ◌++◌, ℤ, List, [], ◌∷◌, map, refl, sym, inl, inr, Has, Row, Trees, Key, Int, Blob, pos, key_row, IsDictIn, IsBlockIn, LacksBlock, PutsUnits, RecordChange}
+use Rattle.zeb_packed.proofs.Cited.{packed_blocks, ◌≢◌, ◌∙◌, ◌++◌, ℤ, List, [], ◌∷◌, map, refl, sym, inl, inr, Has, Row, Trees, Key, Int, Blob, pos, key_row, IsDictIn, IsBlockIn, LacksBlock, PutsUnits, RecordChange, GainsRows, new_block_row, new_count_row, NewBlock, NewCount, NewRows, row_same}
 use Rattle.zeb_packed.proofs.HeldTables.{block_of, count_of, key_is}
-use Rattle.zeb_packed.specs.PrivateNewRows.{GainsRows, new_block_row, new_count_row}
-use Rattle.zeb_packed.specs.declared.new_rows.NewBlock.{NewBlock}
-use Rattle.zeb_packed.specs.declared.new_rows.NewCount.{NewCount}
-use Rattle.zeb_packed.specs.declared.new_rows.NewRows.{NewRows}
 use Rattle.zeb_register.proofs.AlikeRows.{AreAlike, allows_alike, reads_alike}
-use Rattle.zeb_register.proofs.Malformed.{row_same}
 use Rattle.zeb_register.proofs.RunRows.{one_key, own_block_of_key}
 
 -- no held row is of the key

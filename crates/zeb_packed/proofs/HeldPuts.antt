@@ -1,12 +1,8 @@
 -- Rows that are put, some after others.
-use Rattle.zeb_packed.proofs.Cited.{◌≡◌, ◌≢◌, ◌∙◌, ◌++◌, ◌+◌, ◌-◌, ◌<◌, ◌≤◌, ℕ, ℤ, pos, false, List, [], ◌∷◌, drop, length, map, take, get_or, refl, sym, ap, subst, inl, inr, arith, Result, Ok, Err, IfOk, Has, has_either, has_left, has_right, map-append, take-append-drop, take_all, take_rest, GoesOn, IsTrue, Row, State, Trees, Int, Database, IsStore, Changes, blocks_tree, dict_tree, Gains, RegFault, Damaged, LacksBlock, IsTold, IsOfNumbered, KeyOf, Answers, IfDamaged}
+use Rattle.zeb_packed.proofs.Cited.{◌≡◌, ◌≢◌, ◌∙◌, ◌++◌, ◌+◌, ◌-◌, ◌<◌, ◌≤◌, ℕ, ℤ, pos, false, List, [], ◌∷◌, drop, length, map, take, get_or, refl, sym, ap, subst, inl, inr, arith, Result, Ok, Err, IfOk, Has, has_either, has_left, has_right, map-append, take-append-drop, take_all, take_rest, GoesOn, IsTrue, Row, State, Trees, Int, Database, IsStore, Changes, blocks_tree, dict_tree, Gains, RegFault, Damaged, LacksBlock, IsTold, IsOfNumbered, KeyOf, Answers, IfDamaged, length-drop, AreApart, AreLacking, GainsAll, GainsRows, SomeStands, new_block_row, new_count_row, NewBlock, NewRows}
 use Rattle.zeb_packed.proofs.HeldTables.{block_is, block_of}
 use Rattle.zeb_packed.proofs.PackedWrites.{has_as}
-use Rattle.zeb_packed.specs.PrivateNewRows.{AreApart, AreLacking, GainsAll, GainsRows, SomeStands, new_block_row, new_count_row}
-use Rattle.zeb_packed.specs.declared.new_rows.NewBlock.{NewBlock}
-use Rattle.zeb_packed.specs.declared.new_rows.NewRows.{NewRows}
 use Rattle.std.proofs.Math.Seq.{take-add}
-use Rattle.std.proofs.lemmas.List.{length-drop}
 
 -- ---- rows behind rows
 

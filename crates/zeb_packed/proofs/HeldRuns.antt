@@ -1,18 +1,11 @@
 -- Keys of a run that are changed one after the other, where the rows of some are held.
-use Rattle.zeb_packed.proofs.Cited.{packed_blocks, Answers, IfDamaged, IsStore, Ok, Err, Result, State, ◌≡◌, ◌≢◌, ◌∙◌, ℤ, List, [], ◌∷◌, ◌⊎◌, map, refl, sym, subst, inl, inr, Has, has_either, has_left, has_right, Row, Trees, HasRow, blocks_tree, dict_tree, Key, RegFault, Damaged, all_from, all_has, CountsAs, IsRefusedAs, LacksBlock, PutsAny, PutsUnits, RecordChange}
+use Rattle.zeb_packed.proofs.Cited.{packed_blocks, Answers, IfDamaged, IsStore, Ok, Err, Result, State, ◌≡◌, ◌≢◌, ◌∙◌, ℤ, List, [], ◌∷◌, ◌⊎◌, map, refl, sym, subst, inl, inr, Has, has_either, has_left, has_right, Row, Trees, HasRow, blocks_tree, dict_tree, Key, RegFault, Damaged, all_from, all_has, CountsAs, IsRefusedAs, LacksBlock, PutsAny, PutsUnits, RecordChange, AreApart, AreBehind, AreLacking, BeginsKey, GainsAll, GainsRows, HoldsRun, SomeStands, TurnsKey, new_block_row, new_count_row, NewBlock, NewCount, NewRows, none_put, put_more, refused_first, refused_later, stands_once, IsRunRefusedAs, KeysRise, LacksLeave, PutsKeys, TurnsAny, KeyChanges}
 use Rattle.zeb_packed.proofs.BegunKeys.{apart_joined}
 use Rattle.zeb_packed.proofs.HeldKeys.{AreBeside, alike, lacks_before, lacks_then, puts_beside}
 use Rattle.zeb_packed.proofs.HeldTables.{block_of, count_of, gained_more, rows_are_gained, with_rows}
 use Rattle.zeb_packed.proofs.KeyPuts.{puts_any}
-use Rattle.zeb_packed.specs.PrivateNewRows.{AreApart, AreBehind, AreLacking, BeginsKey, GainsAll, GainsRows, HoldsRun, SomeStands, TurnsKey, new_block_row, new_count_row}
-use Rattle.zeb_packed.specs.declared.new_rows.NewBlock.{NewBlock}
-use Rattle.zeb_packed.specs.declared.new_rows.NewCount.{NewCount}
-use Rattle.zeb_packed.specs.declared.new_rows.NewRows.{NewRows}
 use Rattle.zeb_register.proofs.AlikeRows.{turns_from, alike_back}
 use Rattle.zeb_register.proofs.BlockContents.{one_key_count}
-use Rattle.zeb_register.proofs.RunTurns.{none_put, put_more, refused_first, refused_later, stands_once}
-use Rattle.zeb_register.specs.RunChanges.{IsRunRefusedAs, KeysRise, LacksLeave, PutsKeys, TurnsAny}
-use Rattle.zeb_register.specs.declared.registers.KeyChanges.{KeyChanges}
 
 -- The keys before this one are changed, or their rows held. What is left leads on as all keys do from the start.
 pub record HoldsSoFar (db : ℤ) (xs left : List KeyChanges) (old now : Trees) (held : NewRows) : Type 0 where

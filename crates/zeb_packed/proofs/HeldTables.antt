@@ -1,10 +1,5 @@
 -- Tables that have held rows beside their own.
-use Rattle.zeb_packed.proofs.Cited.{◌≡◌, ◌↔◌, ◌⊎◌, ◌∙◌, ◌++◌, ◌==◌, ℕ, ℤ, pos, if◌then◌else◌, List, [], ◌∷◌, map, drop, refl, sym, ap, subst, inl, inr, Int, Row, Trees, Has, has_either, has_left, has_right, has_mapped, mapped_has, map-append, blocks_tree, Key, IsBlockIn, IsDictIn, told_apart, key_row, block_row, Blob, column}
-use Rattle.zeb_packed.specs.PrivateNewRows.{GainsAll, GainsRows, new_block_row, new_count_row}
-use Rattle.zeb_packed.specs.declared.new_rows.NewBlock.{NewBlock}
-use Rattle.zeb_packed.specs.declared.new_rows.NewCount.{NewCount}
-use Rattle.zeb_packed.specs.declared.new_rows.NewRows.{NewRows}
-use Rattle.zeb_register.proofs.Malformed.{key_begins}
+use Rattle.zeb_packed.proofs.Cited.{◌≡◌, ◌↔◌, ◌⊎◌, ◌∙◌, ◌++◌, ◌==◌, ℕ, ℤ, pos, if◌then◌else◌, List, [], ◌∷◌, map, drop, refl, sym, ap, subst, inl, inr, Int, Row, Trees, Has, has_either, has_left, has_right, has_mapped, mapped_has, map-append, blocks_tree, Key, IsBlockIn, IsDictIn, told_apart, key_row, block_row, Blob, column, GainsAll, GainsRows, new_block_row, new_count_row, NewBlock, NewCount, NewRows, key_begins}
 
 -- ---- tables are there that have the rows
 

@@ -1,7 +1,6 @@
 -- One record's change of what is held of a block, as a change of its units.
-use Rattle.zeb_packed.proofs.Cited.{packed_blocks, ◌≡◌, ◌≢◌, ◌∙◌, ◌/◌, ◌≤◌, ℕ, List, [], ◌∷◌, refl, sym, subst, inl, inr, arith, eqb_tells, Has, all_has, LiesIn, Posting, RecordChange, units_of, places_in, CountsOn, IsBlockCounted, IsStorableChange, KeyUnits, TurnsUnit, place_in}
+use Rattle.zeb_packed.proofs.Cited.{packed_blocks, ◌≡◌, ◌≢◌, ◌∙◌, ◌/◌, ◌≤◌, ℕ, List, [], ◌∷◌, refl, sym, subst, inl, inr, arith, eqb_tells, Has, all_has, LiesIn, Posting, RecordChange, units_of, places_in, CountsOn, IsBlockCounted, IsStorableChange, KeyUnits, TurnsUnit, place_in, TurnsPlaces}
 use Rattle.zeb_register.proofs.KeyPlaces.{place_of}
-use Rattle.zeb_register.specs.UnitChanges.{TurnsPlaces}
 use Rattle.zeb_packed.proofs.UnitTurns.{counts_same}
 
 has_none : (sysno : ℕ) (list : List Posting) → places_in sysno list ≢ [] → list ≢ []

@@ -1,13 +1,8 @@
 -- Rows of `blocks` that are put at once, each of which is the first of its block.
-use Rattle.zeb_packed.proofs.Cited.{◌≡◌, ◌∙◌, ℕ, ℤ, true, Ok, List, [], ◌∷◌, length, map, refl, sym, ap, inl, inr, AllByRecursion, mapped_has, tied_itself, is_eq, Int, Insert, Values, Term, Row, column, Executes, State, value_cmp_total, command_of, IsPlain, IsStore, Changes, blocks_tree, store_schema, blocks, blocks_keys, blocks_static, single}
+use Rattle.zeb_packed.proofs.Cited.{◌≡◌, ◌∙◌, ℕ, ℤ, true, Ok, List, [], ◌∷◌, length, map, refl, sym, ap, inl, inr, AllByRecursion, mapped_has, tied_itself, is_eq, Int, Insert, Values, Term, Row, column, Executes, State, value_cmp_total, command_of, IsPlain, IsStore, Changes, blocks_tree, store_schema, blocks, blocks_keys, blocks_static, single, value_cmp, AreLacking, AreValuesOf, new_block_row, NewBlock, ADD_BLOCKS, MANY, keeps_all}
 use Rattle.sqlite.specs.Listing.{understood}
-use Rattle.sqlite.specs.Order.{value_cmp}
 use Rattle.sqlite_tied.specs.Compute.{everything}
 use Rattle.zeb_packed.proofs.ManyRows.{GainsNumbered, fresh_apart, has_shown, inserts_many, new_rows, rows_shown, rows_terms}
-use Rattle.zeb_packed.specs.PrivateNewRows.{AreLacking, AreValuesOf, new_block_row}
-use Rattle.zeb_packed.specs.declared.new_rows.NewBlock.{NewBlock}
-use Rattle.zeb_packed.specs.declared.statements.many.TheConstants.{ADD_BLOCKS, MANY}
-use Rattle.zeb_register.proofs.ValueKinds.{keeps_all}
 
 abbrev pub add_text : List ℕ
 add_text = ADD_BLOCKS.now

@@ -1,12 +1,8 @@
 -- Rows of `dict` that are put at once.
-use Rattle.zeb_packed.proofs.Cited.{◌≡◌, ℕ, ℤ, true, Ok, List, [], ◌∷◌, length, map, refl, AllByRecursion, Insert, Values, Term, Row, Executes, State, command_of, IsPlain, IsStore, Changes, dict_tree, store_schema, dict, dict_static}
+use Rattle.zeb_packed.proofs.Cited.{◌≡◌, ℕ, ℤ, true, Ok, List, [], ◌∷◌, length, map, refl, AllByRecursion, Insert, Values, Term, Row, Executes, State, command_of, IsPlain, IsStore, Changes, dict_tree, store_schema, dict, dict_static, AreValuesOf, new_count_row, NewCount, ADD_COUNTS, MANY, keeps_all}
 use Rattle.sqlite.specs.Listing.{understood}
 use Rattle.sqlite_tied.specs.Compute.{everything}
 use Rattle.zeb_packed.proofs.ManyRows.{GainsNumbered, inserts_many, rows_shown, rows_terms}
-use Rattle.zeb_packed.specs.PrivateNewRows.{AreValuesOf, new_count_row}
-use Rattle.zeb_packed.specs.declared.new_rows.NewCount.{NewCount}
-use Rattle.zeb_packed.specs.declared.statements.many.TheConstants.{ADD_COUNTS, MANY}
-use Rattle.zeb_register.proofs.ValueKinds.{keeps_all}
 
 abbrev pub add_text : List ℕ
 add_text = ADD_COUNTS.now

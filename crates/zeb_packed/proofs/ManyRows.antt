@@ -1,30 +1,16 @@
 -- INSERT of many rows at once, as what it makes of a table's rows.
-use Rattle.zeb_packed.proofs.Cited.{◌≡◌, ◌⊎◌, ◌↔◌, ◌∙◌, ◌/◌, ◌++◌, ◌+◌, ◌&&◌, ℕ, ℤ, zero, suc, true, false, List, [], ◌∷◌, length, map, drop, take, slice_get, Ok, Err, Result, IfOk, Some, None, inl, inr, refl, sym, ap, ap₂, subst, AllByRecursion, arith, length-append, length-map, Has, Row, column, rowid, Int, Null, Value, Schema, Table, State, Trees, Executes, ExecutesInside, Error, Database, Insert, Values, Term, lit, col, next_rowid, Chosen, command_of, IsPlain, some_from, is_eq, both_ways, HasLayout, GoesOn, IsPlainTable, keyed_there}
-use Rattle.sqlite.proofs.Callers.{one_step, runs_as, statement_of}
+use Rattle.zeb_packed.proofs.Cited.{◌≡◌, ◌⊎◌, ◌↔◌, ◌∙◌, ◌/◌, ◌++◌, ◌+◌, ◌&&◌, ℕ, ℤ, zero, suc, true, false, List, [], ◌∷◌, length, map, drop, take, slice_get, Ok, Err, Result, IfOk, Some, None, inl, inr, refl, sym, ap, ap₂, subst, AllByRecursion, arith, length-append, length-map, Has, Row, column, rowid, Int, Null, Value, Schema, Table, State, Trees, Executes, ExecutesInside, Error, Database, Insert, Values, Term, lit, col, next_rowid, Chosen, command_of, IsPlain, some_from, is_eq, both_ways, HasLayout, GoesOn, IsPlainTable, keyed_there, one_step, runs_as, statement_of, Applies, Edit, numbered, taken_by, value_rows, value_cmp, mode_of, eval_all, put_row, Option, and_parts, not-true, append_assoc, AreValuesOf, GainsAll, joined, MANY, keeps_all, ChangesOneTable}
 use Rattle.sqlite.specs.Cast.{cast_row}
 use Rattle.sqlite.specs.Does.{Does, Tally}
-use Rattle.sqlite.specs.Edit.{Applies, Edit, numbered, taken_by}
-use Rattle.sqlite.specs.Effect.{value_rows}
 use Rattle.sqlite.specs.Listing.{understood}
-use Rattle.sqlite.specs.Order.{value_cmp}
 use Rattle.sqlite.specs.Rows.{count_of, last_id, rowids_for}
-use Rattle.sqlite.specs.State.{mode_of}
-use Rattle.sqlite.specs.Term.{eval_all}
-use Rattle.sqlite.specs.Tree.{put_row}
 use Rattle.sqlite.specs.declared.run.Mode.{Mode}
 use Rattle.sqlite_rules.proofs.TableLemmas.{put_all_keeps}
 use Rattle.sqlite_rules.specs.Action.{works}
 use Rattle.sqlite_rules.specs.Edit.{are_fresh}
-use Rattle.std.proofs.Common.{Option}
 use Rattle.std.proofs.Math.Seq.{drop-append_seam, take-append_seam}
-use Rattle.std.proofs.lemmas.Bool.{and_parts, not-true}
-use Rattle.std.proofs.lemmas.List.{append_assoc}
-use Rattle.zeb_packed.specs.PrivateNewRows.{AreValuesOf, GainsAll, joined}
-use Rattle.zeb_packed.specs.declared.statements.many.TheConstants.{MANY}
 use Rattle.zeb_register.proofs.EditedRows.{edited_has, edited_keyed, keyed_after}
-use Rattle.zeb_register.proofs.ValueKinds.{keeps_all}
 use Rattle.zeb_register.proofs.WrittenRows.{cast_row_same, not_above, not_counted, not_stamped, same_value, went}
-use Rattle.zeb_register.specs.Sql.{ChangesOneTable}
 
 -- ---- rows with the rowids that they get
 

@@ -1,16 +1,9 @@
 -- Keys of a run that have no row of `dict`, as one look tells, and as keys before them are changed.
-use Rattle.zeb_packed.proofs.Cited.{packed_blocks, ◌≡◌, ◌≢◌, ◌∙◌, ◌⊎◌, ◌++◌, Bool, ℕ, ℤ, pos, false, List, [], ◌∷◌, map, take, get_or, refl, sym, ap, ap₂, subst, inl, inr, arith, Less, Equal, Greater, is_lt, ordering_then, ordering_reverse, slice_cmp, nat_list_cmp_total, nat_cmp_total, tied_itself, value_cmp-Text, Has, all_has, mapped_has, AllByRecursion, Int, Text, Row, Trees, HasRow, IsListOf, IsRestFrom, dict_tree, key_row, register_front, register_code, Key, CountsAs, PutsUnits, RecordChange}
-use Rattle.sqlite.specs.Order.{value_cmp}
+use Rattle.zeb_packed.proofs.Cited.{packed_blocks, ◌≡◌, ◌≢◌, ◌∙◌, ◌⊎◌, ◌++◌, Bool, ℕ, ℤ, pos, false, List, [], ◌∷◌, map, take, get_or, refl, sym, ap, ap₂, subst, inl, inr, arith, Less, Equal, Greater, is_lt, ordering_then, ordering_reverse, slice_cmp, nat_list_cmp_total, nat_cmp_total, tied_itself, value_cmp-Text, Has, all_has, mapped_has, AllByRecursion, Int, Text, Row, Trees, HasRow, IsListOf, IsRestFrom, dict_tree, key_row, register_front, register_code, Key, CountsAs, PutsUnits, RecordChange, value_cmp, key_total, AreToldNew, IsOfRegister, TurnsKey, NewRows, stands_once, KeysRise, run_key, KeyChanges}
 use Rattle.std.specs.List.Sorted.{IsStrictlySortedBy}
 use Rattle.std.specs.Ordering.{nat_cmp}
-use Rattle.zeb_keys.proofs.Rising.{key_total}
 use Rattle.zeb_keys.specs.Order.{key_order}
 use Rattle.zeb_packed.proofs.HeldTables.{key_is}
-use Rattle.zeb_packed.specs.PrivateNewRows.{AreToldNew, IsOfRegister, TurnsKey}
-use Rattle.zeb_packed.specs.declared.new_rows.NewRows.{NewRows}
-use Rattle.zeb_register.proofs.RunTurns.{stands_once}
-use Rattle.zeb_register.specs.RunChanges.{KeysRise, run_key}
-use Rattle.zeb_register.specs.declared.registers.KeyChanges.{KeyChanges}
 
 -- ---- one look
 

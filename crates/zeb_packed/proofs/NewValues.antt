@@ -1,7 +1,5 @@
 -- Values of rows, one row behind the other.
-use Rattle.zeb_packed.proofs.Cited.{◌≡◌, ◌∙◌, ◌++◌, ◌+◌, ◌<◌, ℕ, List, [], ◌∷◌, length, map, take, refl, sym, ap, get_or, take_more, map-append, Row}
-use Rattle.std.proofs.lemmas.List.{append-nil, append_assoc}
-use Rattle.zeb_packed.specs.PrivateNewRows.{joined}
+use Rattle.zeb_packed.proofs.Cited.{◌≡◌, ◌∙◌, ◌++◌, ◌+◌, ◌<◌, ℕ, List, [], ◌∷◌, length, map, take, refl, sym, ap, get_or, take_more, map-append, Row, append-nil, append_assoc, joined}
 
 joined_behind : (rows more : List Row) → joined (rows ++ more) ≡ joined rows ++ joined more
 joined_behind [] more = refl

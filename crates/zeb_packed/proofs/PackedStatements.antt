@@ -1,6 +1,5 @@
 -- The statements that list rows of the packed tables, each with what it is compiled to.
-use Rattle.zeb_packed.proofs.Cited.{◌≡◌, ℕ, ℤ, true, false, arith, List, [], ◌∷◌, ◌++◌, codes, refl, sym, ap, subst, Ordering, Less, ordering_then, Int, Text, Row, column, State, Shown, Select, col, reads_listing, IsPlain, command_of, IsRestBefore, IsRestFrom, IsFallingListOf, IsListOf, IsStore, IsRest, blocks_tree, dict_tree, key_of, store_schema, IsSilent, alone_first, IsAfter, lists_after, blocks, blocks_static, dict, dict_static, blocks_keys, dict_keys, register_of, IsFit, IsReasonedQuery, IsWhole, why_refused, list_so, Condition, alone, at_least, keyed_from, less_than, no_limit, reading, reading_by, rising, shows}
-use Rattle.sqlite.specs.Order.{value_cmp}
+use Rattle.zeb_packed.proofs.Cited.{◌≡◌, ℕ, ℤ, true, false, arith, List, [], ◌∷◌, ◌++◌, codes, refl, sym, ap, subst, Ordering, Less, ordering_then, Int, Text, Row, column, State, Shown, Select, col, reads_listing, IsPlain, command_of, IsRestBefore, IsRestFrom, IsFallingListOf, IsListOf, IsStore, IsRest, blocks_tree, dict_tree, key_of, store_schema, IsSilent, alone_first, IsAfter, lists_after, blocks, blocks_static, dict, dict_static, blocks_keys, dict_keys, register_of, IsFit, IsReasonedQuery, IsWhole, why_refused, list_so, Condition, alone, at_least, keyed_from, less_than, no_limit, reading, reading_by, rising, shows, value_cmp}
 use Rattle.sqlite.specs.Query.{limited, as_count}
 use Rattle.sqlite.specs.Listing.{understood}
 use Rattle.sqlite_tied.specs.Compute.{everything}

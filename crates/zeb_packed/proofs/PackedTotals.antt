@@ -1,9 +1,7 @@
 -- What a packed register holds in sum: the list of each term, read block by block.
-use Rattle.zeb_packed.proofs.Cited.{◌≡◌, ◌∙◌, ◌+◌, ◌<◌, ℕ, ℤ, List, [], ◌∷◌, ◌++◌, length, get_or, map, take, refl, sym, ap, ap₂, subst, inl, inr, Less, nat_cmp, arith, length-append, tied_itself, length-map, take_more, sum_by-cons, slice_cmp, nat_list_cmp_total, sum_by, ordering_then, Trees, Has, all_has, has_either, has_left, has_right, has_mapped, mapped_has, Posting, Register, TermCount, packed_blocks, places_in, posting_at, posting_cmp, Spot, spot_cmp, capped, key_in, term_cmp, ListsUnits, one_reading, place_in, spot_total, joined_rises, strictly_mapped}
+use Rattle.zeb_packed.proofs.Cited.{◌≡◌, ◌∙◌, ◌+◌, ◌<◌, ℕ, ℤ, List, [], ◌∷◌, ◌++◌, length, get_or, map, take, refl, sym, ap, ap₂, subst, inl, inr, Less, nat_cmp, arith, length-append, tied_itself, length-map, take_more, sum_by-cons, slice_cmp, nat_list_cmp_total, sum_by, ordering_then, Trees, Has, all_has, has_either, has_left, has_right, has_mapped, mapped_has, Posting, Register, TermCount, packed_blocks, places_in, posting_at, posting_cmp, Spot, spot_cmp, capped, key_in, term_cmp, ListsUnits, one_reading, place_in, spot_total, joined_rises, strictly_mapped, placed_at, AreListed, ListsAll, SumsUp}
 use Rattle.std.specs.List.Sorted.{IsStrictlySortedBy}
 use Rattle.zeb_register.specs.declared.registers.Totals.{Totals}
-use Rattle.zeb_register.specs.Terms.{AreListed, ListsAll, SumsUp}
-use Rattle.zeb_register.proofs.KeyPlaces.{placed_at}
 
 -- ---- the places of all terms, one term after the other
 

@@ -1,8 +1,6 @@
 -- The rows of a key, which spell a list, as its units.
-use Rattle.zeb_packed.proofs.Cited.{◌≡◌, ◌∙◌, ◌<◌, ◌/◌, ℕ, ℤ, pos, false, List, [], ◌∷◌, ◌++◌, map, length, drop, refl, sym, ap, ap₂, subst, inl, inr, Ordering, Less, Equal, Greater, nat_cmp, nat_eq, arith, ordering_then, Int, Row, column, row_cmp, State, Has, all_has, has_left, has_right, has_either, row_cmp_total, value_cmp-Int, Posting, Key, numbers_apart, Work, posting_cmp, SpellsPart, blocks_of, part_in, key_row, AreSpelled, IsListOf, IsRest, IsStore, blocks_tree, Works, posting_total, ints_order, some_posting, is_less, in_part, part_in_block, part_in_list, each_spelled, one_part, joined_rises, kept_rises, never_itself, same_list, BlockSpells, IsBlockMalformed, IsBlockIn, IsTold, SpellsIn, BlockReads, IsOfBlock, IsOfKey, ListsUnits, own_part, packed_blocks}
+use Rattle.zeb_packed.proofs.Cited.{◌≡◌, ◌∙◌, ◌<◌, ◌/◌, ℕ, ℤ, pos, false, List, [], ◌∷◌, ◌++◌, map, length, drop, refl, sym, ap, ap₂, subst, inl, inr, Ordering, Less, Equal, Greater, nat_cmp, nat_eq, arith, ordering_then, Int, Row, column, row_cmp, State, Has, all_has, has_left, has_right, has_either, row_cmp_total, value_cmp-Int, Posting, Key, numbers_apart, Work, posting_cmp, SpellsPart, blocks_of, part_in, key_row, AreSpelled, IsListOf, IsRest, IsStore, blocks_tree, Works, posting_total, ints_order, some_posting, is_less, in_part, part_in_block, part_in_list, each_spelled, one_part, joined_rises, kept_rises, never_itself, same_list, BlockSpells, IsBlockMalformed, IsBlockIn, IsTold, SpellsIn, BlockReads, IsOfBlock, IsOfKey, ListsUnits, own_part, packed_blocks, begins, one_more_block, posting_lower}
 use Rattle.std.specs.List.Sorted.{IsStrictlySortedBy}
-use Rattle.zeb_register.proofs.BetweenRows.{begins}
-use Rattle.zeb_register.proofs.PackedLists.{one_more_block, posting_lower}
 use Rattle.zeb_packed.proofs.PackedReads.{block_front}
 use Rattle.zeb_packed.proofs.PackedSound.{one_block}
 

@@ -1,6 +1,5 @@
 -- Rows of a key's blocks, written run by run, as its units.
-use Rattle.zeb_packed.proofs.Cited.{packed_blocks, ◌≡◌, ◌≢◌, ◌↔◌, ◌⊎◌, ◌∙◌, ◌/◌, ◌<◌, ◌≤◌, ◌^◌, ℕ, ℤ, pos, Result, List, [], ◌∷◌, ◌++◌, drop, refl, sym, ap, subst, inl, inr, arith, eqb_tells, AllByRecursion, Int, Blob, Row, column, State, Trees, Has, BlockSpells, LiesIn, spelled_from, start_of, Posting, Key, RegFault, Place, RecordChange, SpellsPart, block_row, key_row, blocks_tree, Alters, alters_so, inside_so, told_apart, Known, PutsBlock, AllowsBlock, AllowsBlocks, PutsRun, TurnsBlock, TurnsBlocks, units_of, BlockReads, IsOfBlock, ReadsAs, places_in, IsBlockAmong, IsBlockIn, IsOwnBlock, IsStorableChange, IsTouched, KeepsBut, KeyUnits, LacksBlock, LacksNewBlocks, NumbersRise, IsNonDecreasingBy-drop, TurnsUnits, one_reading}
-use Rattle.zeb_register.proofs.ContentTurns.{touched, turns_kept}
+use Rattle.zeb_packed.proofs.Cited.{packed_blocks, ◌≡◌, ◌≢◌, ◌↔◌, ◌⊎◌, ◌∙◌, ◌/◌, ◌<◌, ◌≤◌, ◌^◌, ℕ, ℤ, pos, Result, List, [], ◌∷◌, ◌++◌, drop, refl, sym, ap, subst, inl, inr, arith, eqb_tells, AllByRecursion, Int, Blob, Row, column, State, Trees, Has, BlockSpells, LiesIn, spelled_from, start_of, Posting, Key, RegFault, Place, RecordChange, SpellsPart, block_row, key_row, blocks_tree, Alters, alters_so, inside_so, told_apart, Known, PutsBlock, AllowsBlock, AllowsBlocks, PutsRun, TurnsBlock, TurnsBlocks, units_of, BlockReads, IsOfBlock, ReadsAs, places_in, IsBlockAmong, IsBlockIn, IsOwnBlock, IsStorableChange, IsTouched, KeepsBut, KeyUnits, LacksBlock, LacksNewBlocks, NumbersRise, IsNonDecreasingBy-drop, TurnsUnits, one_reading, touched, turns_kept}
 use Rattle.zeb_register.proofs.PackedKeyLaws.{keeps_reads}
 use Rattle.zeb_packed.proofs.UnitTurns.{over, over_in, over_out, touched_either, touched_left, touched_right, turns_agree, turns_beside, turns_from, turns_over, turns_parted, turns_then}
 

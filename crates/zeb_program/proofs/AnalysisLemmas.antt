@@ -1,11 +1,8 @@
 -- How far the files of an analysis have come, and what an analysis is answered.
-use Rattle.zeb_program.proofs.Cited.{◌≡◌, ◌∙◌, ◌+◌, ℕ, suc, List, [], ◌∷◌, ◌++◌, Vec, ap, append_assoc, arith, length, map, refl, subst, sym, Option, Some, None, IfSome, Result, Ok, String, string_bytes, Global, append-nil, length-map, map-append, Directive, split_of, AnalysedLines, Refusal, HasLines, Place, AreShort, unmarked_from, unmarked_of, AreTold}
+use Rattle.zeb_program.proofs.Cited.{◌≡◌, ◌∙◌, ◌+◌, ℕ, suc, List, [], ◌∷◌, ◌++◌, Vec, ap, append_assoc, arith, length, map, refl, subst, sym, Option, Some, None, IfSome, Result, Ok, String, string_bytes, Global, append-nil, length-map, map-append, Directive, split_of, AnalysedLines, Refusal, HasLines, Place, AreShort, unmarked_from, unmarked_of, AreTold, Tells, ReadsContent, AreTexts, FindsFiles}
 use Rattle.std.proofs.Common.{length-append}
 use Rattle.zeb_program.specs.declared.analyses.AnalysedFiles.{AnalysedFiles}
 use Rattle.zeb_program.specs.PrivateAnalyses.{ReadsFiles}
-use Rattle.zeb_program.specs.PrivateFiles.{ReadsContent}
-use Rattle.zeb_program.specs.WalkedFiles.{AreTexts, FindsFiles}
-use Rattle.zeb_paths.specs.Walks.{Tells}
 use Rattle.zeb_program.proofs.FileLemmas.{content_told}
 use Rattle.zeb_program.proofs.ReaderLemmas.{Ends, GivesNext, IsMet, met_end, met_next, met_start, more_short, same_contents}
 

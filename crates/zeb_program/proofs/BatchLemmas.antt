@@ -1,8 +1,5 @@
 -- A change, a find or a scan that a line names, from what is said of the rest of the line.
-use Rattle.zeb_program.proofs.Cited.{inl, inr, ◌≡◌, List, ℕ, sym, subst, ◌∙◌, refl, Result, Ok, Err, Option, Some, None, IfOk, MatchOption, codes, AllocError, Command, Change, Find, Scan, Analyse, Kind, first_word, after_first_word}
-use Rattle.std.proofs.Common.{true, false}
-use Rattle.std.specs.Str.{bytes_eq}
-use Rattle.std.proofs.lemmas.Slice.Eq.{bytes_eq-Decides}
+use Rattle.zeb_program.proofs.Cited.{inl, inr, ◌≡◌, List, ℕ, sym, subst, ◌∙◌, refl, Result, Ok, Err, Option, Some, None, IfOk, MatchOption, codes, AllocError, Command, Change, Find, Scan, Analyse, Kind, first_word, after_first_word, true, false, bytes_eq-Decides, bytes_eq}
 use Rattle.zeb_change.specs.declared.settings.Kind.TheVariants.{Update, Delete, Adelete}
 use Rattle.zeb_program.specs.Batches.{Names, HasFind, HasPage, HasScan, kind_word}
 use Rattle.zeb_program.specs.PrivateBatches.{IsFind, IsPage, IsScan}

@@ -1,9 +1,5 @@
 -- What lines do, whatever is written of them: each line, and how far they have come.
-use Rattle.zeb_program.proofs.Cited.{◌≡◌, ◌⊎◌, ◌<◌, ◌+◌, ◌∙◌, inl, inr, ℕ, List, [], ap, refl, subst, sym, Option, Some, None, Result, Ok, Err, IfSome, MatchResult, OnErr, AllocError, Held, state, Ghosts, Conditions, Format, Refusal, Reply, PathChange, Order, Path, Says, answer_status, answer_text, first_line, after_first_line, whole_first_line, Consumes, LineOver, ServesOver, LineFault, Unreadable, Memory, Command, Status, greater, Answered, Misused, Bad, IsUtf8, bad_line, length}
-use Rattle.std.specs.Prelude.{IsErr}
-use Rattle.zeb_paths.specs.Walks.{Tells}
-use Rattle.zeb_program.specs.Doing.{DoesBatch, DoesLine, DoesLines, DoesPart, DoesShell, KeepsUnread, StopsLine}
-use Rattle.zeb_program.specs.PrivateServing.{DoesPath}
+use Rattle.zeb_program.proofs.Cited.{◌≡◌, ◌⊎◌, ◌<◌, ◌+◌, ◌∙◌, inl, inr, ℕ, List, [], ap, refl, subst, sym, Option, Some, None, Result, Ok, Err, IfSome, MatchResult, OnErr, AllocError, Held, state, Ghosts, Conditions, Format, Refusal, Reply, PathChange, Order, Path, Says, answer_status, answer_text, first_line, after_first_line, whole_first_line, Consumes, LineOver, ServesOver, LineFault, Unreadable, Memory, Command, Status, greater, Answered, Misused, Bad, IsUtf8, bad_line, length, IsErr, Tells, DoesBatch, DoesLine, DoesLines, DoesPart, DoesShell, KeepsUnread, StopsLine, DoesPath}
 use Rattle.zeb_program.proofs.AnswerLemmas.{IsAnswered, answered_line, answered_lines, answered_start}
 use Rattle.zeb_program.proofs.OverLemmas.{alone as untouched}
 use Rattle.zeb_program.proofs.ShellOverLemmas.{Goes, goes_line, goes_start}

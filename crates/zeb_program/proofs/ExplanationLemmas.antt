@@ -1,19 +1,8 @@
 -- What is told below the line of a fault.
-use Rattle.std.proofs.Common.{◌≡◌, ℕ, List, ap, inl, inr, refl, subst, sym}
-use Rattle.std.specs.Prelude.{IfNone, IfSome, Option, Some, None}
-use Rattle.zeb_change.specs.declared.refusals.Refusal.{Refusal}
-use Rattle.zeb_paths.specs.Walks.{Tells}
+use Rattle.zeb_program.proofs.Cited.{◌≡◌, ℕ, List, ap, inl, inr, refl, subst, sym, IfNone, IfSome, Option, Some, None, Refusal, Tells, Closed, StoreCause, Directive, ExplainsRefusal, TellsFile, refusal_cause, IsOpeningFailure, unopened_refusal, file_in, FailsOpening, shut, given_back, untold, Places, Cause}
 use Rattle.zeb_paths.specs.declared.causes.PathCause.{PathCause}
-use Rattle.zeb_paths.specs.declared.causes.Closed.{Closed}
-use Rattle.zeb_paths.specs.declared.causes.StoreCause.{StoreCause}
 use Rattle.zeb_paths.specs.declared.paths.Asked.{Asked}
 use Rattle.zeb_paths.specs.declared.causes.StoreCause.TheVariants as cause
-use Rattle.zeb_profile.specs.declared.directives.Directive.{Directive}
-use Rattle.zeb_program.specs.Explanations.{ExplainsRefusal, TellsFile, refusal_cause}
-use Rattle.zeb_program.specs.FaultAnswers.{IsOpeningFailure, unopened_refusal}
-use Rattle.zeb_program.specs.FaultLines.{file_in}
-use Rattle.zeb_program.specs.Registers.{FailsOpening, shut, given_back, untold, Places}
-use Rattle.zeb_program.specs.declared.failures.Cause.{Cause}
 
 -- a register isn't opened for a refusal about no file
 opening_file : (why : Refusal) → IsOpeningFailure why → file_in why ≡ None

@@ -1,19 +1,11 @@
 -- The lines of a failure, one below the other.
-use Rattle.std.proofs.Common.{◌≡◌, ◌∙◌, ℕ, Bool, true, false, List, [], ◌∷◌, ◌++◌, ap, append_assoc, refl, subst, sym}
+use Rattle.zeb_program.proofs.Cited.{◌≡◌, ◌∙◌, ℕ, Bool, true, false, List, [], ◌∷◌, ◌++◌, ap, append_assoc, refl, subst, sym, option_map, option_map_or, Global, StoreCause, Writes, IsCauseOf, TellsCaused, TellsFault, TellsPlaced, register_lines, cause_lines, Cause, Fault, Status}
 use Rattle.std.specs.Prelude.{Option, Some, None, String, codes, if◌then◌else◌}
 use Rattle.std.specs.Fmt.{decimal}
-use Rattle.std.specs.declared.alloc.Global.{Global}
-use Rattle.std.specs.Option.{option_map, option_map_or}
 use Rattle.std.specs.Io.KnownBytes.{Appends, Keeps}
 use Rattle.std.proofs.KnownBytes.{Appends-nil, Appends-trans}
-use Rattle.zeb_paths.specs.declared.causes.StoreCause.{StoreCause}
-use Rattle.zeb_program.specs.declared.failures.Cause.{Cause}
 use Rattle.zeb_program.specs.declared.failures.Cause.TheVariants.{Store}
-use Rattle.zeb_program.specs.declared.faults.Fault.{Fault}
-use Rattle.zeb_program.specs.Answers.{Writes}
 use Rattle.zeb_program.specs.Diagnostics.{is_placed, meaning_lines, meaning_of}
-use Rattle.zeb_program.specs.FaultLines.{IsCauseOf, TellsCaused, TellsFault, TellsPlaced, register_lines, cause_lines}
-use Rattle.zeb_program.specs.declared.statuses.Status.{Status}
 
 pub failure_lines : (old mid new : Option (List ℕ)) (why : Fault) (status : Status) (cause : Option Cause) → Writes old mid (λ line. TellsFault why line status) → IsCauseOf why cause
     → Appends mid new (cause_lines cause) → Writes old new (λ bytes. TellsCaused why cause bytes status)

@@ -1,7 +1,5 @@
 -- What is answered where the profile in a file is read.
-use Rattle.zeb_program.proofs.Cited.{◌≡◌, ◌≤◌, ℕ, Bool, true, false, List, Vec, arith, refl, subst, sym, Option, Some, None, Result, Ok, Err, IfOk, IfSome, String, string_bytes, string_len, Global, IsUtf8-string_bytes, IsShort, IsTextWithin, Fault}
-use Rattle.zeb_program.specs.PrivateFiles.{ReadsContent}
-use Rattle.zeb_program.specs.ProfileFiles.{IsProfileText, ReadsProfile}
+use Rattle.zeb_program.proofs.Cited.{◌≡◌, ◌≤◌, ℕ, Bool, true, false, List, Vec, arith, refl, subst, sym, Option, Some, None, Result, Ok, Err, IfOk, IfSome, String, string_bytes, string_len, Global, IsUtf8-string_bytes, IsShort, IsTextWithin, Fault, ReadsContent, IsProfileText, ReadsProfile}
 use Rattle.zeb_program.specs.declared.faults.Fault.TheVariants as fault
 use Rattle.zeb_program.specs.declared.input.InputFault.{InputFault}
 use Rattle.zeb_program.specs.declared.input.InputFault.TheVariants.{Unreadable, Memory}

@@ -1,33 +1,13 @@
 -- A register in the layout in which it is used, and looks at a store.
-use Rattle.std.proofs.Common.{◌≡◌, ◌∙◌, Bool, List, ap, arith, codes, false, inl, inr, refl, subst, sym, true}
-use Rattle.std.specs.Prelude.{IsTrue, MatchResult, Result, Ok, Err}
-use Rattle.std.specs.List.{AllByRecursion}
+use Rattle.zeb_program.proofs.Cited.{Database, IsDatabase, Held, state, HasCleanDisk, State, Survives, ◌≡◌, ◌∙◌, Bool, List, ap, arith, codes, false, inl, inr, refl, subst, sym, true, AllByRecursion, IsTrue, MatchResult, Result, Ok, Err, Conditions, conditions, Refusal, Damaged, Limits, CommitsAdopted, RefusesText, TellsText, TellsVersion, IsImage, Directive, OnlyLooked, format_of, FailsLook, IsTakenOver, UsedAs, AreConditionsIn, AreScriptConditions, Blocks, Leaves, ChangesNothing, Format, packed_blocks, packed_leaves, version_of, Unsaid}
 use Rattle.sqlite.proofs.StateLemmas.{survives_then}
-use Rattle.sqlite.specs.Effect.{Database, IsDatabase}
-use Rattle.sqlite.specs.Held.{Held, state}
-use Rattle.sqlite.specs.State.{HasCleanDisk, State, Survives}
 use Rattle.sqlite.specs.Store.{Ghosts}
 use Rattle.sqlite.specs.Table.{Table}
-use Rattle.zeb_change.specs.Conditions.{Conditions, conditions}
-use Rattle.zeb_change.specs.declared.refusals.Refusal.{Refusal}
-use Rattle.zeb_change.specs.declared.refusals.Refusal.TheVariants.{Damaged}
-use Rattle.zeb_change.specs.declared.settings.Limits.{Limits}
 use Rattle.zeb_engine.specs.Causes.{HasStoreCause, OnlyLooks}
-use Rattle.zeb_engine.specs.Crashes.{CommitsAdopted}
-use Rattle.zeb_engine.specs.Readiness.{RefusesText, TellsText, TellsVersion}
-use Rattle.zeb_image.specs.Image.{IsImage}
-use Rattle.zeb_profile.specs.declared.directives.Directive.{Directive}
-use Rattle.zeb_register.specs.Calls.{ChangesNothing}
-use Rattle.zeb_register.specs.Formats.{Format, packed_blocks, packed_leaves, version_of}
 use Rattle.zeb_register.specs.Sql.{IsKeyed}
 use Rattle.zeb_register.specs.Store.{IsStore}
 use Rattle.zeb_register.specs.Tables.{store_schema}
-use Rattle.zeb_words.specs.declared.words.LayoutChoice.TheVariants.{Unsaid}
-use Rattle.zeb_program.specs.PrivateWordRuns.{OnlyLooked, format_of}
-use Rattle.zeb_program.specs.Registers.{FailsLook, IsTakenOver, UsedAs}
-use Rattle.zeb_program.specs.ScriptAnswers.{AreConditionsIn, AreScriptConditions}
 use Rattle.zeb_program.specs.declared.opening.UsedLayout.{UsedLayout}
-use Rattle.zeb_program.specs.declared.opening.UsedLayout.TheVariants.{Blocks, Leaves}
 
 -- nothing is done where no look is taken
 pub unlooked : {T : Type 0} (s : State) (x : T) → OnlyLooked s s (Ok x)

@@ -1,43 +1,13 @@
 -- What becomes of the register's store, by what a task, a batch and a shell say of it.
-use Rattle.std.proofs.Common.{◌≡◌, ◌∙◌, ◌⊎◌, ℕ, Bool, false, List, [], ap, inl, inr, refl, subst, sym}
+use Rattle.zeb_program.proofs.Cited.{Held, ◌≡◌, ◌∙◌, ◌⊎◌, ℕ, Bool, false, List, [], ap, inl, inr, refl, subst, sym, AllocError, Global, Conditions, Init, Reply, Closed, StoreCause, Directive, DoesBatch, DoesShell, DoesTask, starved_line, EndsLeaving, LeavesAt, unused, failed, used, LeavesByBatch, LeavesByShell, LeavesByTask, LeavesStore, LeavesUnder, OpensNone, TellsOrStarves, TellsRefused, IsOpeningFault, GivesClosed, GivesFor, Grows, LeavesHeld, OpensUnder, TakesIn, AreConditionsIn, BeginsRegister, status_code, IsToldSince, TellsLineOf, IsOwnOr, Performs, ReadsAt, unread, performed, ServesUnder, answered, unopened, none_made, StopsOpening, StopsReading, not_read, not_opened, Cause, Failure, Fault, Told, Status, Failed, Task, Ask, Format, LayoutChoice, Unsaid}
 use Rattle.std.specs.Prelude.{IfErr, IfOk, IsErr, OnErr, Option, Result, Ok, Err, String, ⊤}
-use Rattle.std.specs.declared.alloc.AllocError.{AllocError}
-use Rattle.std.specs.declared.alloc.Global.{Global}
 use Rattle.std.specs.Io.KnownBytes.{Appends, Keeps}
 use Rattle.std.proofs.KnownBytes.{Appends-kept, Appends-nil}
-use Rattle.sqlite.specs.Held.{Held}
-use Rattle.zeb_change.specs.Conditions.{Conditions}
-use Rattle.zeb_engine.specs.declared.commands.Command.TheVariants.{Init}
-use Rattle.zeb_engine.specs.declared.replies.Reply.{Reply}
-use Rattle.zeb_paths.specs.declared.causes.Closed.{Closed}
-use Rattle.zeb_paths.specs.declared.causes.StoreCause.{StoreCause}
-use Rattle.zeb_profile.specs.declared.directives.Directive.{Directive}
-use Rattle.zeb_register.specs.Formats.{Format}
-use Rattle.zeb_words.specs.declared.words.LayoutChoice.{LayoutChoice}
-use Rattle.zeb_words.specs.declared.words.LayoutChoice.TheVariants.{Unsaid}
-use Rattle.zeb_program.specs.Doing.{DoesBatch, DoesShell, DoesTask}
 use Rattle.zeb_program.specs.Errands.{choice_of}
-use Rattle.zeb_program.specs.FixedLines.{starved_line}
-use Rattle.zeb_program.specs.LeftStores.{EndsLeaving, LeavesAt, unused, failed, used, LeavesByBatch, LeavesByShell, LeavesByTask, LeavesStore, LeavesUnder, OpensNone, TellsOrStarves, TellsRefused}
 use Rattle.zeb_program.specs.LeftStores.{left_alone, left_by_task, left_by_batch, left_by_shell}
-use Rattle.zeb_program.specs.PrivateFaults.{IsOpeningFault}
-use Rattle.zeb_program.specs.PrivateWordRuns.{GivesClosed, GivesFor, Grows, LeavesHeld, OpensUnder, TakesIn}
 use Rattle.zeb_program.specs.Registers.{HasStore, Places, kept, none}
-use Rattle.zeb_program.specs.ScriptAnswers.{AreConditionsIn}
-use Rattle.zeb_program.specs.Scripts.{BeginsRegister}
-use Rattle.zeb_program.specs.Statuses.{status_code}
-use Rattle.zeb_program.specs.Unanswered.{IsToldSince, TellsLineOf}
-use Rattle.zeb_program.specs.WordRuns.{IsOwnOr, Performs, ReadsAt, unread, performed, ServesUnder, answered, unopened, none_made, StopsOpening, StopsReading, not_read, not_opened}
-use Rattle.zeb_program.specs.declared.failures.Cause.{Cause}
-use Rattle.zeb_program.specs.declared.failures.Failure.{Failure}
-use Rattle.zeb_program.specs.declared.faults.Fault.{Fault}
 use Rattle.zeb_program.specs.declared.faults.Fault.TheVariants as fault
 use Rattle.zeb_program.specs.declared.performing.Performed.{Performed}
-use Rattle.zeb_program.specs.declared.performing.Told.{Told}
-use Rattle.zeb_program.specs.declared.statuses.Status.{Status}
-use Rattle.zeb_program.specs.declared.statuses.Status.TheVariants.{Failed}
-use Rattle.zeb_program.specs.declared.tasks.Task.{Task}
-use Rattle.zeb_program.specs.declared.tasks.Task.TheVariants.{Ask}
 use Rattle.zeb_program.proofs.ToldLemmas.{told_further, told_last}
 use Rattle.zeb_program.proofs.WordRunLemmas.{from_kept, from_taken}
 

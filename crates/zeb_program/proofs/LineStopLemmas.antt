@@ -1,14 +1,6 @@
 -- What is said of a line at which memory runs out, and of the lines before it.
-use Rattle.zeb_program.proofs.Cited.{◌≡◌, ◌≢◌, ◌⊎◌, ◌<◌, ◌∙◌, inl, inr, ℕ, Bool, false, List, [], ◌∷◌, length, ap, map, refl, subst, sym, Option, Some, None, Result, Ok, Err, IfSome, OnErr, String, string_bytes, AllocError, Global, Held, state, Ghosts, Conditions, Format, Fault, Reply, PathChange, AnswersAsTold, answer_status, answer_text, first_line, after_first_line, whole_first_line, LineOver, name_bytes, LineFault, Unreadable, Memory, Status, Failed}
-use Rattle.zeb_paths.specs.Walks.{Tells}
-use Rattle.zeb_program.specs.Doing.{KeepsUnread, StopsLine, StopsPart}
+use Rattle.zeb_program.proofs.Cited.{◌≡◌, ◌≢◌, ◌⊎◌, ◌<◌, ◌∙◌, inl, inr, ℕ, Bool, false, List, [], ◌∷◌, length, ap, map, refl, subst, sym, Option, Some, None, Result, Ok, Err, IfSome, OnErr, String, string_bytes, AllocError, Global, Held, state, Ghosts, Conditions, Format, Fault, Reply, PathChange, AnswersAsTold, answer_status, answer_text, first_line, after_first_line, whole_first_line, LineOver, name_bytes, LineFault, Unreadable, Memory, Status, Failed, Tells, KeepsUnread, StopsLine, StopsPart, TellsFault, profile_line, unreadable_path, refusal_line, ChangesOver, IsUnread, DoesPath, fault_status, refusal_status}
 use Rattle.zeb_program.specs.FaultAnswers.{Reaches}
-use Rattle.zeb_program.specs.FaultLines.{TellsFault, profile_line, unreadable_path}
-use Rattle.zeb_program.specs.FixedLines.{refusal_line}
-use Rattle.zeb_program.specs.OverTables.{ChangesOver}
-use Rattle.zeb_program.specs.PrivateFaults.{IsUnread}
-use Rattle.zeb_program.specs.PrivateServing.{DoesPath}
-use Rattle.zeb_program.specs.Statuses.{fault_status, refusal_status}
 use Rattle.zeb_program.specs.declared.faults.Fault.TheVariants as fault
 use Rattle.zeb_program.proofs.AnswerLemmas.{IsAnswered, answered_lines}
 use Rattle.zeb_program.proofs.ServingLemmas.{Reaches as Comes}

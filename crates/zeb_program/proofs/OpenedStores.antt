@@ -1,7 +1,5 @@
 -- A register that was opened well is this program's store, once it is taken over; and why one isn't closed whole.
-use Rattle.zeb_program.proofs.Cited.{◌≡◌, ◌∙◌, ap, subst, sym, IsTrue, AllByRecursion, State, ChangesNothing}
-use Rattle.std.proofs.Common.{◌⊎◌, ℕ, arith, inl, inr}
-use Rattle.sqlite.specs.Effect.{Database, IsDatabase}
+use Rattle.zeb_program.proofs.Cited.{◌≡◌, ◌∙◌, ap, subst, sym, IsTrue, AllByRecursion, State, ChangesNothing, Database, IsDatabase, ◌⊎◌, ℕ, arith, inl, inr, Some, Closed}
 use Rattle.sqlite.specs.Schema.{Schema}
 use Rattle.sqlite.specs.Table.{Table}
 use Rattle.sqlite_disk.specs.Disk.{MoreFaults}
@@ -9,9 +7,7 @@ use Rattle.sqlite_trees.specs.Tree.{Trees}
 use Rattle.sqlite_trees.specs.View.{IsQuiet, View}
 use Rattle.zeb_paths.specs.Closing.{HasReason}
 use Rattle.zeb_paths.specs.Opened.{IsWellOpened}
-use Rattle.zeb_paths.specs.declared.causes.Closed.{Closed}
 use Rattle.zeb_paths.specs.declared.causes.StoreCause.TheVariants.{Memory}
-use Rattle.std.specs.Prelude.{Some}
 use Rattle.zeb_register.specs.Sql.{IsKeyed}
 use Rattle.zeb_register.specs.Store.{IsStore}
 use Rattle.zeb_register.specs.Tables.{store_schema}

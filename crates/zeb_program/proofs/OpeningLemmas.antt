@@ -1,24 +1,11 @@
 -- Why a register isn't opened: its store can't be, or it isn't taken over and is let go.
-use Rattle.std.proofs.Common.{◌≡◌, ◌∙◌, ℕ, List, ap, refl, subst, sym}
-use Rattle.std.specs.Prelude.{Option, Some, None, Result, Ok, Err, IfOk, IfErr, IfNone, IfSome}
-use Rattle.sqlite.specs.Held.{Held, state}
-use Rattle.sqlite.specs.State.{HasCleanDisk, State}
+use Rattle.zeb_program.proofs.Cited.{Held, state, HasCleanDisk, State, ◌≡◌, ◌∙◌, ℕ, List, ap, refl, subst, sym, option_or, Option, Some, None, Result, Ok, Err, IfOk, IfErr, IfNone, IfSome, Refusal, Closed, StoreCause, Directive, refusal_cause, IsOpeningFailure, unopened_refusal, IsOpeningFault, TakesOpen, TakesStore, FailsOpening, shut, given_back, IsForeignOr, IsGivenBack, IsLetGo, Places, whole_but}
 use Rattle.sqlite.specs.Store.{Ghosts}
-use Rattle.zeb_change.specs.declared.refusals.Refusal.{Refusal}
-use Rattle.zeb_profile.specs.declared.directives.Directive.{Directive}
 use Rattle.zeb_profile.specs.Indexes.{store_path}
-use Rattle.zeb_paths.specs.declared.causes.Closed.{Closed}
 use Rattle.zeb_paths.specs.declared.paths.OpenFailed.{OpenFailed}
-use Rattle.zeb_paths.specs.declared.causes.StoreCause.{StoreCause}
 use Rattle.zeb_paths.specs.declared.causes.StoreCause.TheVariants as store_cause
 use Rattle.zeb_program.specs.declared.faults.Fault.TheVariants as fault
 use Rattle.zeb_program.specs.declared.performing.Unopened.{Unopened}
-use Rattle.zeb_program.specs.FaultAnswers.{IsOpeningFailure, unopened_refusal}
-use Rattle.zeb_program.specs.Explanations.{refusal_cause}
-use Rattle.zeb_program.specs.PrivateFaults.{IsOpeningFault}
-use Rattle.zeb_program.specs.PrivateWordRuns.{TakesOpen, TakesStore}
-use Rattle.zeb_program.specs.Registers.{FailsOpening, shut, given_back, IsForeignOr, IsGivenBack, IsLetGo, Places, whole_but}
-use Rattle.std.specs.Option.{option_or}
 use Rattle.zeb_program.proofs.ExplanationLemmas.{unopened_so}
 use Rattle.zeb_program.proofs.ResultValues.{failing, first_same, second_same}
 

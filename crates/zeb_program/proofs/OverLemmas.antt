@@ -1,26 +1,17 @@
 -- What is written for a command, a change by a path and a line is their answer on any tables.
-use Rattle.zeb_program.proofs.Cited.{◌≡◌, arith, inl, inr, ℕ, Bool, false, List, [], ◌∷◌, ◌++◌, Vec, ap, map, refl, subst, sym, ◌≢◌, Option, Some, Result, Ok, Err, IfErr, IfOk, OnErr, OnOk, String, string_bytes, AllocError, Global, Appends, Held, state, State, Survives, Ghosts, Trees, Directive, ChangesNothing, Format, version_of, Conditions, Refusal, Damaged, Store, Kind, Limits, Holdings, name_bytes, HasLines, IsAnalysed, answer_of, CommandLasts, CommitsBy, Endures, refusal_text, reply_text, TakesFiles, ServesBy, ServesCommand, Command, Reply, Fault, Line, PathChange, ChangesBy, Writes, AnalysesOver, CommandOver, LeavesAlone, LineOver, PathOver, PathsLast, PathsLeave, PathsOver, SaysOver, ServesOver, TaskOver, AreTold, Says, Status, Answered, refusal_status}
+use Rattle.zeb_program.proofs.Cited.{◌≡◌, arith, inl, inr, ℕ, Bool, false, List, [], ◌∷◌, ◌++◌, Vec, ap, map, refl, subst, sym, ◌≢◌, Option, Some, Result, Ok, Err, IfErr, IfOk, OnErr, OnOk, String, string_bytes, AllocError, Global, Appends, Held, state, State, Survives, Ghosts, Trees, Directive, ChangesNothing, Format, version_of, Conditions, Refusal, Damaged, Store, Kind, Limits, Holdings, name_bytes, HasLines, IsAnalysed, answer_of, CommandLasts, CommitsBy, Endures, refusal_text, reply_text, TakesFiles, ServesBy, ServesCommand, Command, Reply, Fault, Line, PathChange, ChangesBy, Writes, AnalysesOver, CommandOver, LeavesAlone, LineOver, PathOver, PathsLast, PathsLeave, PathsOver, SaysOver, ServesOver, TaskOver, AreTold, Says, Status, Answered, refusal_status, ◌⊎◌, MatchResult, OutOfMemory, ReadFault, GoesByTexts, Tells, TellsFault, AreFilesOf, ChangesOver, IsAnalysisOver, IsUntoldNth, IsUnread, IsUnreadAt, FindsAll, FindsFiles, Task}
 use Rattle.sqlite.proofs.StateLemmas.{survives_weaker}
 use Rattle.zeb_change.specs.Reading.{NoneFailed}
 use Rattle.zeb_image.specs.Image.{Keeps}
 use Rattle.zeb_image.specs.declared.names.DbName.{DbName}
 use Rattle.zeb_engine.specs.Changing.{ChangesReady, LeavesWhole, LosesNamed}
 use Rattle.zeb_engine.specs.Does.{CommandOverTables}
-use Rattle.zeb_engine.specs.Readiness.{GoesByTexts}
 use Rattle.zeb_engine.specs.Transactions.{EnduresRefusal, IsDurable, LeavesNoMore}
 use Rattle.zeb_program.specs.declared.faults.Fault.TheVariants as fault
-use Rattle.zeb_program.specs.declared.tasks.Task.{Task}
 use Rattle.zeb_program.specs.declared.tasks.Task.TheVariants.{Ask, Change, Analyse}
-use Rattle.zeb_program.specs.FaultLines.{TellsFault}
-use Rattle.zeb_program.specs.PrivateFaults.{IsUnread, IsUnreadAt}
 use Rattle.zeb_program.specs.FaultAnswers.{GivesAnswer, IsUnreadable, NamesUntold, Reaches}
-use Rattle.zeb_program.specs.OverTables.{AreFilesOf, ChangesOver, IsAnalysisOver, IsUntoldNth}
 use Rattle.zeb_program.specs.PrivateAnalyses.{ReadsFiles}
-use Rattle.zeb_program.specs.WalkedFiles.{FindsAll, FindsFiles}
 use Rattle.zeb_program.specs.declared.analyses.AnalysedFiles.{AnalysedFiles}
-use Rattle.zeb_change.specs.declared.refusals.Refusal.TheVariants.{Memory as OutOfMemory, ReadFault}
-use Rattle.zeb_paths.specs.Walks.{Tells}
-use Rattle.std.specs.Prelude.{◌⊎◌, MatchResult}
 
 -- where nothing is done nothing changes
 pub still : (s : State) → ChangesNothing s s

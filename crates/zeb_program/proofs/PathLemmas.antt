@@ -1,8 +1,6 @@
 -- Changes by a path of which the file's bytes are told.
-use Rattle.zeb_program.proofs.Cited.{◌≡◌, ◌∙◌, inl, inr, ℕ, zero, suc, Bool, false, List, [], ◌∷◌, ap, refl, subst, sym, Option, Some, None, Result, Ok, Err, IfOk, codes, string_bytes, AllocError, Appends, IsUtf8, State, Conditions, name_bytes, reply_text, Reply, Fault, Path, PathChange, AnswersAsTold, ChangesBy, IsFileAnswer, IsLineUntold, Writes, first_line, after_first_line, AreFilesTold, IsLineTold, HasPath, NamesPath, SaysText, BeginsRegister, after_lines, AnswersFrom, LeadsOn, without_blanks, Status, Answered}
+use Rattle.zeb_program.proofs.Cited.{◌≡◌, ◌∙◌, inl, inr, ℕ, zero, suc, Bool, false, List, [], ◌∷◌, ap, refl, subst, sym, Option, Some, None, Result, Ok, Err, IfOk, codes, string_bytes, AllocError, Appends, IsUtf8, State, Conditions, name_bytes, reply_text, Reply, Fault, Path, PathChange, AnswersAsTold, ChangesBy, IsFileAnswer, IsLineUntold, Writes, first_line, after_first_line, AreFilesTold, IsLineTold, HasPath, NamesPath, SaysText, BeginsRegister, after_lines, AnswersFrom, LeadsOn, without_blanks, Status, Answered, TellsFault, Leads}
 use Rattle.zeb_program.specs.declared.faults.Fault.TheVariants as fault
-use Rattle.zeb_program.specs.FaultLines.{TellsFault}
-use Rattle.zeb_program.specs.PrivateServing.{Leads}
 
 -- ---- the lines of a text
 

@@ -1,24 +1,11 @@
 -- How far the files at some paths have come, of which readers or contents are made.
-use Rattle.std.proofs.Common.{◌≡◌, ◌≢◌, ◌<◌, ◌≤◌, ◌∙◌, ◌-◌, ◌+◌, inl, inr, Bool, true, false, ℕ, zero, suc, List, [], ◌∷◌, ◌++◌, Vec, ap, append_assoc, arith, length, map, refl, subst, sym}
+use Rattle.zeb_program.proofs.Cited.{◌≡◌, ◌≢◌, ◌<◌, ◌≤◌, ◌∙◌, ◌-◌, ◌+◌, inl, inr, Bool, true, false, ℕ, zero, suc, List, [], ◌∷◌, ◌++◌, Vec, ap, append_assoc, arith, length, map, refl, subst, sym, AllocError, Global, Refusal, ReadFault, Due, GivesFile, IsFaultUntold, Tells, WalksOn, due, NamesMet, NamesUntold, AreShort, IsShort, AreFilesOf, IsUntoldNth, IsUnfound, IsUnread, IsUnreadAt, fault_of, IsGiven, ReadsBelow, ReadsContent, sure_bytes, AreTold, FindsNthFile, WalksFrom, WalksOver, Fault}
 use Rattle.std.specs.Prelude.{◌⊎◌, ◌||◌, IfErr, IfOk, IfSome, slice_index_or, Option, Some, None, Result, Ok, Err, String, if◌then◌else◌, string_bytes}
-use Rattle.std.specs.declared.alloc.AllocError.{AllocError}
-use Rattle.std.specs.declared.alloc.Global.{Global}
 use Rattle.std.proofs.lemmas.List.{append-nil, map-append}
 use Rattle.zeb_change.specs.Reading.{BlamesFailed, NoneFailed, StayAble}
-use Rattle.zeb_change.specs.declared.refusals.Refusal.{Refusal}
-use Rattle.zeb_change.specs.declared.refusals.Refusal.TheVariants.{ReadFault}
-use Rattle.zeb_program.specs.OverTables.{AreFilesOf, IsUntoldNth}
-use Rattle.zeb_program.specs.PrivateFiles.{IsGiven, ReadsBelow, ReadsContent, sure_bytes}
-use Rattle.zeb_program.specs.TaskAnswers.{AreTold}
-use Rattle.zeb_program.specs.WalkedFiles.{FindsNthFile, WalksFrom, WalksOver}
-use Rattle.zeb_program.specs.Inputs.{AreShort, IsShort}
-use Rattle.zeb_paths.specs.Walks.{Due, GivesFile, IsFaultUntold, Tells, WalksOn, due}
 use Rattle.zeb_paths.specs.declared.walk.WalkFault.{WalkFault}
 use Rattle.zeb_paths.specs.declared.walk.WalkFault.TheVariants as walk
-use Rattle.zeb_program.specs.declared.faults.Fault.{Fault}
 use Rattle.zeb_program.specs.declared.faults.Fault.TheVariants as reason
-use Rattle.zeb_program.specs.FaultAnswers.{NamesMet, NamesUntold}
-use Rattle.zeb_program.specs.PrivateFaults.{IsUnfound, IsUnread, IsUnreadAt, fault_of}
 
 -- what has been made has the bytes of the first of these files, and the paths that are left lead to the others
 abbrev pub IsMet : {R : Type 0} → (R → Option (List ℕ)) → (List ℕ → Option (List ℕ)) → List (List ℕ) → List R → List (List ℕ) → Type 0

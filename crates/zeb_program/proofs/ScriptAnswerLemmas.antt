@@ -1,22 +1,14 @@
 -- The answers of a script, at each of its ends.
-use Rattle.zeb_program.proofs.Cited.{◌≡◌, ◌≤◌, ◌<◌, length, ℕ, Bool, false, true, List, [], ◌∷◌, ◌++◌, inl, inr, refl, sym, ap, subst, ◌∙◌, arith, Option, Some, None, Result, Ok, Err, IfOk, IfNone, IfSome, IsOk, OnErr, string_bytes, string_len, IsUtf8-string_bytes, AllocError, Appends, Keeps, Held, file_state, over_files, Ghosts, Conditions, Holdings, nothing_yet, Refusal, refusal_text, Directive, IsInput, DividesAt, HasNoDivider, Writes, AnswersBatch, AnswersPart, EachLine, Format, LineOver, LinesOver, LeadsOn, Status, EndsWith, fault_status, refusal_status, status_code, Answered, Failed}
-use Rattle.std.specs.Prelude.{◌⊎◌, ◌==◌}
+use Rattle.zeb_program.proofs.Cited.{◌≡◌, ◌≤◌, ◌<◌, length, ℕ, Bool, false, true, List, [], ◌∷◌, ◌++◌, inl, inr, refl, sym, ap, subst, ◌∙◌, arith, Option, Some, None, Result, Ok, Err, IfOk, IfNone, IfSome, IsOk, OnErr, string_bytes, string_len, IsUtf8-string_bytes, AllocError, Appends, Keeps, Held, file_state, over_files, Ghosts, Conditions, Holdings, nothing_yet, Refusal, refusal_text, Directive, IsInput, DividesAt, HasNoDivider, Writes, AnswersBatch, AnswersPart, EachLine, Format, LineOver, LinesOver, LeadsOn, Status, EndsWith, fault_status, refusal_status, status_code, Answered, Failed, IsUtf8-nil, ◌⊎◌, ◌==◌, Tells, profile_of, RunsText, StopsPart, IsOpeningFailure, expected_line, starved_line, unreadable_line, refusal_line, packed_blocks}
 use Rattle.std.specs.declared.string.String.{String}
 use Rattle.zeb_program.specs.declared.input.TheConstants.{GREATEST_INPUT}
 use Rattle.zeb_profile.specs.declared.faults.ProfileFault.{ProfileFault}
 use Rattle.zeb_profile.specs.Outcomes.{FailsPlaced}
-use Rattle.zeb_profile.specs.Profiles.{profile_of}
 use Rattle.zeb_program.specs.declared.script.Batch.{Batch}
 use Rattle.zeb_program.specs.declared.program.ScriptEnd.{ScriptEnd}
 use Rattle.zeb_program.specs.PrivateEnding.{AnswersAs}
-use Rattle.zeb_program.specs.FaultAnswers.{IsOpeningFailure}
-use Rattle.zeb_paths.specs.Walks.{Tells}
-use Rattle.zeb_register.specs.Formats.{packed_blocks}
-use Rattle.zeb_program.specs.Doing.{RunsText, StopsPart}
 use Rattle.zeb_program.specs.ScriptAnswers.{AnswersScript, EndsEarly, EndsScript, unreadable, faulty, alone, ran, stopped, silent, AreScriptConditions, AnswersOpened, AnswersStopped, HoldsNothing, MemoryConnection, PartFromNothing, RunsFromNothing, IsUnopened, IsProfileOf, TellsAtMost, fault_line, hint_of}
-use Rattle.zeb_program.specs.FixedLines.{expected_line, starved_line, unreadable_line, refusal_line}
 use Rattle.zeb_program.proofs.AnswerLemmas.{Appends-nil}
-use Rattle.std.proofs.lemmas.Str.{IsUtf8-nil}
 
 unopened : (refusal : Refusal) (bytes : List ℕ) (status : Status) → IsOpeningFailure refusal → (bytes ≡ refusal_line refusal) × (status ≡ refusal_status refusal) → IsUnopened bytes status
 unopened refusal bytes status (inl is) said = (inl (said.0 ∙ ap refusal_line is), said.1 ∙ ap refusal_status is)

@@ -1,7 +1,6 @@
 -- How far the lines of a batch have come over a connection.
-use Rattle.zeb_program.proofs.Cited.{◌≡◌, ◌<◌, ◌+◌, ℕ, Bool, false, List, [], ◌∷◌, ◌++◌, length, refl, Option, Some, None, Result, Ok, Err, IfOk, IfSome, String, string_bytes, Global, AllocError, Appends, State, Command, Refusal, Reply, Conditions, Holdings, refusal_text, reply_text, ServesCommand, Remark, Order, Mark, Bad, Says, first_line, after_first_line, Writes, bad_line, mark_line, IsAnswer, AnswersAsTold, AnswersBatch, LeadsOn, Status, greater, refusal_status, Answered, Misused}
+use Rattle.zeb_program.proofs.Cited.{◌≡◌, ◌<◌, ◌+◌, ℕ, Bool, false, List, [], ◌∷◌, ◌++◌, length, refl, Option, Some, None, Result, Ok, Err, IfOk, IfSome, String, string_bytes, Global, AllocError, Appends, State, Command, Refusal, Reply, Conditions, Holdings, refusal_text, reply_text, ServesCommand, Remark, Order, Mark, Bad, Says, first_line, after_first_line, Writes, bad_line, mark_line, IsAnswer, AnswersAsTold, AnswersBatch, LeadsOn, Status, greater, refusal_status, Answered, Misused, Leads}
 use Rattle.zeb_image.specs.Image.{Keeps}
-use Rattle.zeb_program.specs.PrivateServing.{Leads}
 use Rattle.zeb_program.proofs.AnswerLemmas.{Appends-nil, IsAnswered, answered_all, answered_start, answered_line}
 
 -- a refusal that is written is the command's answer

@@ -1,19 +1,6 @@
 -- A session whose lines are answered, and which is then closed.
-use Rattle.std.proofs.Common.{◌≡◌, ℕ, Bool, List, ap, subst, sym}
-use Rattle.std.specs.Prelude.{◌≢◌, Option, Result, Ok, Err, IfOk, OnErr}
-use Rattle.std.specs.declared.alloc.AllocError.{AllocError}
-use Rattle.sqlite.specs.Held.{Held, state}
-use Rattle.sqlite.specs.State.{HasCleanDisk}
+use Rattle.zeb_program.proofs.Cited.{Held, state, HasCleanDisk, ◌≡◌, ℕ, Bool, List, ap, subst, sym, ◌≢◌, Option, Result, Ok, Err, IfOk, OnErr, AllocError, Conditions, Tells, Closed, DoesBatch, ClosesAloud, EndsSession, LeavesHeld, closing_status, greater, Status, Failed, Format}
 use Rattle.sqlite.specs.Store.{Ghosts}
-use Rattle.zeb_change.specs.Conditions.{Conditions}
-use Rattle.zeb_paths.specs.Walks.{Tells}
-use Rattle.zeb_register.specs.Formats.{Format}
-use Rattle.zeb_program.specs.Doing.{DoesBatch}
-use Rattle.zeb_program.specs.PrivateWordRuns.{ClosesAloud, EndsSession, LeavesHeld}
-use Rattle.zeb_paths.specs.declared.causes.Closed.{Closed}
-use Rattle.zeb_program.specs.Statuses.{closing_status, greater}
-use Rattle.zeb_program.specs.declared.statuses.Status.{Status}
-use Rattle.zeb_program.specs.declared.statuses.Status.TheVariants.{Failed}
 
 -- what is said of the status of the lines, and of how it was closed, is said of both
 pub ended_ok : (answered result : Result Status AllocError) (Closing : Closed → Type 0) (P Q : Status → Type 0) → EndsSession answered result Closing → IfOk answered P

@@ -1,6 +1,5 @@
 -- How far the answers of a shell have come on any tables, of an input that tells its bytes.
-use Rattle.zeb_program.proofs.Cited.{◌≡◌, ◌<◌, ◌+◌, ◌∙◌, inr, ℕ, Bool, false, List, [], length, ap, refl, subst, ⊤, Option, Some, None, Result, Ok, Err, IfOk, IfSome, AllocError, Appends, Consumes, IsAtEnd, Keeps, IsUtf8, Appends-kept, Held, state, Ghosts, Conditions, Format, EachLine, Writes, bad_line, LineOver, first_line, after_first_line, whole_first_line, Bad, Status, greater, Answered, Misused}
-use Rattle.zeb_paths.specs.Walks.{Tells}
+use Rattle.zeb_program.proofs.Cited.{◌≡◌, ◌<◌, ◌+◌, ◌∙◌, inr, ℕ, Bool, false, List, [], length, ap, refl, subst, ⊤, Option, Some, None, Result, Ok, Err, IfOk, IfSome, AllocError, Appends, Consumes, IsAtEnd, Keeps, IsUtf8, Appends-kept, Held, state, Ghosts, Conditions, Format, EachLine, Writes, bad_line, LineOver, first_line, after_first_line, whole_first_line, Bad, Status, greater, Answered, Misused, Tells}
 use Rattle.zeb_program.proofs.AnswerLemmas.{IsAnswered, answered_all, answered_line, answered_start}
 use Rattle.zeb_program.proofs.OverLemmas.{alone as untouched}
 use Rattle.zeb_program.proofs.WholeLineLemmas.{after_whole, first_of_whole, left_after_line, line_is_text}

@@ -1,8 +1,5 @@
 -- What is said of the lines of a shell at its end.
-use Rattle.zeb_program.proofs.Cited.{◌≡◌, ◌⊎◌, ◌↔◌, inl, inr, ℕ, Bool, true, false, List, refl, subst, sym, ⊤, Option, Some, None, Result, Ok, Err, IfErr, IfSome, Appends, IsAtEnd, Keeps, Keeps-refl, Held, state, Ghosts, Conditions, Holdings, Format, AnswersAsTold, AnswersLines, EachLine, EndsInLine, is_failed_read, LineOver, LongLine, FailedRead, LineFault, Unreadable, Status, Failed}
-use Rattle.zeb_paths.specs.Walks.{Tells}
-use Rattle.zeb_program.specs.Doing.{KeepsUnread, RunsText, ServesText, StopsText, all_served, first_served}
-use Rattle.zeb_program.specs.FaultLines.{unread_lines}
+use Rattle.zeb_program.proofs.Cited.{◌≡◌, ◌⊎◌, ◌↔◌, inl, inr, ℕ, Bool, true, false, List, refl, subst, sym, ⊤, Option, Some, None, Result, Ok, Err, IfErr, IfSome, Appends, IsAtEnd, Keeps, Keeps-refl, Held, state, Ghosts, Conditions, Holdings, Format, AnswersAsTold, AnswersLines, EachLine, EndsInLine, is_failed_read, LineOver, LongLine, FailedRead, LineFault, Unreadable, Status, Failed, Tells, KeepsUnread, RunsText, ServesText, StopsText, all_served, first_served, unread_lines}
 use Rattle.zeb_program.specs.PrivateShell.{ComesTo}
 use Rattle.zeb_program.specs.declared.line_input.InputCause.{InputCause}
 use Rattle.zeb_program.proofs.AnswerLemmas.{answered_lines}

@@ -1,8 +1,5 @@
 -- The greater of two statuses.
-use Rattle.std.specs.Prelude.{if◌then◌else◌}
-use Rattle.zeb_paths.specs.declared.causes.Closed.{Closed}
-use Rattle.zeb_program.specs.Statuses.{IsFaultStatus, closing_status}
-use Rattle.zeb_program.proofs.Cited.{◌≡◌, Bool, true, false, inl, inr, refl, greater, Status, Answered, Refused, Misused, Failed}
+use Rattle.zeb_program.proofs.Cited.{◌≡◌, Bool, true, false, inl, inr, refl, greater, Status, Answered, Refused, Misused, Failed, if◌then◌else◌, Closed, IsFaultStatus, closing_status}
 use Rattle.std.specs.Ordering.{ord_max}
 use Rattle.zeb_program.specs.contracts.statuses.StatusOrd.TheImpl.{cmp-value}
 

@@ -1,34 +1,9 @@
 -- What is written where memory runs out for the program itself, while a batch or a shell is run.
-use Rattle.std.proofs.Common.{◌≡◌, ◌⊎◌, ℕ, Bool, false, List, refl, subst, sym}
+use Rattle.zeb_program.proofs.Cited.{Held, ◌≡◌, ◌⊎◌, ℕ, Bool, false, List, refl, subst, sym, Keeps-refl, Keeps-trans, AllocError, Global, Conditions, Holdings, Tells, Closed, Directive, AnswersLines, EachLine, TellsLeft, StopsPart, StopsText, LineOver, IsOpeningFault, OpensUnder, StopsIn, StopsServing, TakesIn, HasStore, LacksStore, Places, AnswersStopped, AreConditionsIn, BeginsRegister, IsText, ReadsAt, StopsBatch, batch_silent, batch_part, StopsOpening, not_read, StopsLines, part_on_store, part_in_memory, no_line, StopsShell, shell_silent, shell_part, Cause, Fault, Starved, Status, Format, Unsaid}
 use Rattle.std.specs.Prelude.{IfSome, Option, None, Result, Ok, Err, OnErr, String}
-use Rattle.std.specs.declared.alloc.AllocError.{AllocError}
-use Rattle.std.specs.declared.alloc.Global.{Global}
 use Rattle.std.specs.Io.KnownBytes.{Keeps}
-use Rattle.std.proofs.KnownBytes.{Keeps-refl, Keeps-trans}
-use Rattle.sqlite.specs.Held.{Held}
 use Rattle.sqlite.specs.Store.{Ghosts}
-use Rattle.zeb_image.specs.Holdings.{Holdings}
-use Rattle.zeb_paths.specs.Walks.{Tells}
-use Rattle.zeb_paths.specs.declared.causes.Closed.{Closed}
-use Rattle.zeb_program.specs.Closings.{TellsLeft}
-use Rattle.zeb_program.specs.OverTables.{LineOver}
-use Rattle.zeb_program.specs.PrivateFaults.{IsOpeningFault}
-use Rattle.zeb_program.specs.declared.failures.Cause.{Cause}
-use Rattle.zeb_program.specs.declared.faults.Fault.{Fault}
 use Rattle.zeb_program.specs.declared.faults.Fault.TheVariants as fault
-use Rattle.zeb_change.specs.Conditions.{Conditions}
-use Rattle.zeb_profile.specs.declared.directives.Directive.{Directive}
-use Rattle.zeb_register.specs.Formats.{Format}
-use Rattle.zeb_words.specs.declared.words.LayoutChoice.TheVariants.{Unsaid}
-use Rattle.zeb_program.specs.declared.line_input.LineFault.TheVariants.{Memory as Starved}
-use Rattle.zeb_program.specs.declared.statuses.Status.{Status}
-use Rattle.zeb_program.specs.Answers.{AnswersLines, EachLine}
-use Rattle.zeb_program.specs.Doing.{StopsPart, StopsText}
-use Rattle.zeb_program.specs.PrivateWordRuns.{OpensUnder, StopsIn, StopsServing, TakesIn}
-use Rattle.zeb_program.specs.Registers.{HasStore, LacksStore, Places}
-use Rattle.zeb_program.specs.Scripts.{BeginsRegister}
-use Rattle.zeb_program.specs.ScriptAnswers.{AnswersStopped, AreConditionsIn}
-use Rattle.zeb_program.specs.WordRuns.{IsText, ReadsAt, StopsBatch, batch_silent, batch_part, StopsOpening, not_read, StopsLines, part_on_store, part_in_memory, no_line, StopsShell, shell_silent, shell_part}
 use Rattle.zeb_program.proofs.ScriptAnswerLemmas.{AnswersStopped-kept, Writes-kept}
 use Rattle.zeb_program.proofs.ShellTextLemmas.{StopsText-kept}
 use Rattle.zeb_program.proofs.WordRunLemmas.{TellsClosed-kept, TellsLeft-kept, from_kept, from_taken, some_kept}

@@ -1,38 +1,14 @@
 -- What a task is answered.
-use Rattle.std.proofs.Common.{◌≡◌, ◌⊎◌, [], ap, inl, inr, ℕ, List, map, refl, subst, sym, Vec}
+use Rattle.zeb_program.proofs.Cited.{State, ◌≡◌, ◌⊎◌, [], ap, inl, inr, ℕ, List, map, refl, subst, sym, Vec, Global, Conditions, Refusal, Kind, IsAnalysed, IsFailure, answer_of, GoesByTexts, IsReadyFor, IsRefusedOver, KeepsText, ServesCommand, Command, Reply, Holdings, nothing_yet, name_bytes, ChangesBy, AnalysesOver, IsAnalysisOver, IsRefusedUnbegun, IsUntoldNth, OverNothing, TaskOver, IsUnread, HoldsNothing, AnswersFrom, ServesTask, AnalysesFiles, AnswersCommand, AreTold, ReadsWhole, paths_of, FindsAll, FindsFiles, Fault, Served, Task, Format, version_of}
 use Rattle.std.specs.Prelude.{⊤, codes, IfErr, Option, Result, Ok, Err, String, string_bytes}
-use Rattle.std.specs.declared.alloc.Global.{Global}
-use Rattle.sqlite.specs.State.{State}
-use Rattle.zeb_change.specs.Conditions.{Conditions}
-use Rattle.zeb_change.specs.declared.refusals.Refusal.{Refusal}
 use Rattle.zeb_change.specs.declared.refusals.Refusal.TheVariants.{Damaged, Memory as OutOfMemory, NotInitialised, OldFormat, ProfileChanged, ReadFault, Store}
-use Rattle.zeb_change.specs.declared.settings.Kind.{Kind}
-use Rattle.zeb_engine.specs.Analysed.{IsAnalysed}
-use Rattle.zeb_engine.specs.Answers.{IsFailure, answer_of}
-use Rattle.zeb_engine.specs.Works.{ServesCommand}
-use Rattle.zeb_engine.specs.declared.commands.Command.{Command}
-use Rattle.zeb_engine.specs.declared.replies.Reply.{Reply}
-use Rattle.zeb_image.specs.Holdings.{Holdings, nothing_yet}
 use Rattle.zeb_image.specs.Image.{Keeps}
 use Rattle.zeb_paths.specs.Walks.{Tells, at_end}
-use Rattle.zeb_program.specs.WalkedFiles.{FindsAll, FindsFiles}
-use Rattle.zeb_image.specs.NameOf.{name_bytes}
 use Rattle.zeb_image.specs.declared.names.DbName.{DbName}
-use Rattle.zeb_program.specs.Answers.{ChangesBy}
-use Rattle.zeb_program.specs.PrivateFaults.{IsUnread}
 use Rattle.zeb_engine.proofs.Ready.{none_there}
-use Rattle.zeb_engine.specs.Readiness.{GoesByTexts, IsReadyFor, IsRefusedOver, KeepsText}
-use Rattle.zeb_register.specs.Formats.{Format, version_of}
-use Rattle.zeb_program.specs.ScriptAnswers.{HoldsNothing}
 use Rattle.zeb_program.proofs.OverLemmas.{given}
 use Rattle.zeb_program.specs.FaultAnswers.{GivesAnswer, IsUnreadWhole, IsUnreadable, NamesMet, Reaches}
-use Rattle.zeb_program.specs.OverTables.{AnalysesOver, IsAnalysisOver, IsRefusedUnbegun, IsUntoldNth, OverNothing, TaskOver}
-use Rattle.zeb_program.specs.Serving.{AnswersFrom, ServesTask}
-use Rattle.zeb_program.specs.TaskAnswers.{AnalysesFiles, AnswersCommand, AreTold, ReadsWhole, paths_of}
-use Rattle.zeb_program.specs.declared.faults.Fault.{Fault}
 use Rattle.zeb_program.specs.declared.faults.Fault.TheVariants as fault
-use Rattle.zeb_program.specs.declared.tasks.Served.{Served}
-use Rattle.zeb_program.specs.declared.tasks.Task.{Task}
 use Rattle.zeb_program.specs.declared.tasks.Task.TheVariants.{Ask, Change, Analyse}
 
 -- ---- one command

@@ -1,31 +1,12 @@
 -- Which lines are among what is told on the fault output, unless a write to it has failed.
+use Rattle.zeb_program.proofs.Cited.{Held, AllocError, Global, Closed, Writes, TellsClosed, TellsLeft, refusal_line, TellsOrStarves, ClosesAloud, EndsSession, Grows, Places, fault_status, refusal_status, IsToldSince, TellsUnanswered, StopsTask, Cause, Fault, Status, Failed, Task, on_err, LayoutChoice}
 use Rattle.std.proofs.Common.{◌≡◌, ◌∙◌, ℕ, Bool, true, false, List, [], ◌++◌, ap, append-nil, append_assoc, inl, inr, refl, subst, sym}
 use Rattle.std.specs.Prelude.{IfOk, IsErr, OnErr, Option, Result, Ok, Err, String, string_bytes}
-use Rattle.std.specs.declared.alloc.AllocError.{AllocError}
-use Rattle.std.specs.declared.alloc.Global.{Global}
 use Rattle.std.specs.Io.KnownBytes.{Appends, Keeps}
 use Rattle.std.proofs.KnownBytes.{Appends-kept, Appends-nil, Appends-trans}
-use Rattle.sqlite.specs.Held.{Held}
 use Rattle.sqlite.specs.Store.{Ghosts}
-use Rattle.zeb_paths.specs.declared.causes.Closed.{Closed}
-use Rattle.zeb_register.proofs.Calls.{on_err}
-use Rattle.zeb_words.specs.declared.words.LayoutChoice.{LayoutChoice}
-use Rattle.zeb_program.specs.Answers.{Writes}
-use Rattle.zeb_program.specs.Closings.{TellsClosed, TellsLeft}
 use Rattle.zeb_program.specs.FaultLines.{TellsCaused, TellsFault, cause_lines, left_lines, profile_line, register_lines, unclosed_lines, unreadable_path}
-use Rattle.zeb_program.specs.FixedLines.{refusal_line}
-use Rattle.zeb_program.specs.LeftStores.{TellsOrStarves}
-use Rattle.zeb_program.specs.PrivateWordRuns.{ClosesAloud, EndsSession, Grows}
-use Rattle.zeb_program.specs.Registers.{Places}
-use Rattle.zeb_program.specs.Statuses.{fault_status, refusal_status}
-use Rattle.zeb_program.specs.Unanswered.{IsToldSince, TellsUnanswered}
-use Rattle.zeb_program.specs.WordRuns.{StopsTask}
-use Rattle.zeb_program.specs.declared.failures.Cause.{Cause}
-use Rattle.zeb_program.specs.declared.faults.Fault.{Fault}
 use Rattle.zeb_program.specs.declared.faults.Fault.TheVariants as fault
-use Rattle.zeb_program.specs.declared.statuses.Status.{Status}
-use Rattle.zeb_program.specs.declared.statuses.Status.TheVariants.{Failed}
-use Rattle.zeb_program.specs.declared.tasks.Task.{Task}
 
 -- a line that is all that is written
 pub told_alone : (failed : Bool) (old new : Option (List ℕ)) (line : List ℕ) → (failed ≡ false → Appends old new line) → IsToldSince failed old new line

@@ -1,19 +1,10 @@
 -- Records that don't say that they are in Unicode: what is left of a file.
-use Rattle.zeb_program.proofs.Cited.{◌≡◌, ◌∙◌, ◌+◌, ℕ, ◌<◌, true, false, List, [], ◌∷◌, ◌++◌, Vec, length, length-map, map, refl, ap, subst, sym, arith, Option, None, Some, Result, Ok, Err, IfOk, is_some, Global, length-append, AnalysedLines, Gives, Next, at_end, a_slice, a_fault, next_of, split_of, Directive, ReadsWhole, IsServedFor, MayWarn, WarnsOf, unmarked_by, warned_in, warning_of, records_in, Fault, Place, String, string_bytes}
-use Rattle.std.specs.Option.{option_map}
-use Rattle.std.specs.Result.{IsOkAnd}
+use Rattle.zeb_program.proofs.Cited.{◌≡◌, ◌∙◌, ◌+◌, ℕ, ◌<◌, true, false, List, [], ◌∷◌, ◌++◌, Vec, length, length-map, map, refl, ap, subst, sym, arith, Option, None, Some, Result, Ok, Err, IfOk, is_some, Global, length-append, AnalysedLines, Gives, Next, at_end, a_slice, a_fault, next_of, split_of, Directive, ReadsWhole, IsServedFor, MayWarn, WarnsOf, unmarked_by, warned_in, warning_of, records_in, Fault, Place, String, string_bytes, option_map, IsOkAnd, Tells, AreTold, paths_of, WarnsBelow, Failure, Told, Served, Task}
 use Rattle.zeb_analysis.specs.Analysing.{Analysed, AreAnalysesOf, Standing, analysed, standing_from, standing_in, standing_in_all}
 use Rattle.zeb_analysis.specs.Lines.{AreLines}
-use Rattle.zeb_paths.specs.Walks.{Tells}
-use Rattle.zeb_program.specs.TaskAnswers.{AreTold, paths_of}
-use Rattle.zeb_program.specs.Warnings.{WarnsBelow}
-use Rattle.zeb_program.specs.declared.failures.Failure.{Failure}
-use Rattle.zeb_program.specs.declared.performing.Told.{Told}
 use Rattle.zeb_marc.specs.declared.faults.MarcFault.{MarcFault}
 use Rattle.zeb_marc.proofs.SplitLaws.{NextIs, SoundSlice-from_checks, next_view, split_of-next}
-use Rattle.zeb_program.specs.declared.tasks.Served.{Served}
 use Rattle.zeb_program.specs.declared.tasks.Served.TheVariants.{Replied, Shown}
-use Rattle.zeb_program.specs.declared.tasks.Task.{Task}
 use Rattle.zeb_program.specs.declared.tasks.Task.TheVariants.{Analyse}
 
 -- ---- what was read tells what stood next

@@ -1,19 +1,13 @@
 -- What is written for words, at each end.
-use Rattle.zeb_program.proofs.Cited.{◌≡◌, ◌⊎◌, ℕ, Bool, false, List, inl, inr, subst, sym, ◌≢◌, Option, None, Some, Result, Ok, Err, IfOk, OnErr, String, string_bytes, AllocError, Global, Appends, IsAtEnd, Keeps, Appends-kept, Keeps-refl, Keeps-trans, Status, Failed, warning_bytes}
+use Rattle.zeb_program.proofs.Cited.{◌≡◌, ◌⊎◌, ℕ, Bool, false, List, inl, inr, subst, sym, ◌≢◌, Option, None, Some, Result, Ok, Err, IfOk, OnErr, String, string_bytes, AllocError, Global, Appends, IsAtEnd, Keeps, Appends-kept, Keeps-refl, Keeps-trans, Status, Failed, warning_bytes, option_map, starved_line, Places, RunsBatch, RunsShell, StopsBatch, StopsShell, StopsTask, Task, LayoutChoice}
 use Rattle.std.proofs.KnownBytes.{Appends-nil}
-use Rattle.std.specs.Option.{option_map}
 use Rattle.zeb_words.specs.declared.words.Usage.{Usage}
 use Rattle.zeb_words.specs.declared.words.Usage.TheVariants as usage
-use Rattle.zeb_program.specs.declared.tasks.Task.{Task}
 use Rattle.zeb_words.specs.Names.{NamesWords}
 use Rattle.zeb_words.specs.declared.words.Act.TheVariants.{Batch, Shell}
-use Rattle.zeb_words.specs.declared.words.LayoutChoice.{LayoutChoice}
 use Rattle.zeb_words.specs.declared.words.Words.{Words}
 use Rattle.zeb_program.specs.Errands.{IsTaskOf, choice_of}
-use Rattle.zeb_program.specs.FixedLines.{starved_line}
-use Rattle.zeb_program.specs.Registers.{Places}
 use Rattle.zeb_program.specs.WordAnswers.{AnswersWords, misused, batched, served, named, EndsWords, StopsWords, stopped_task, stopped_batch, stopped_shell, TellsApart, TellsUsage}
-use Rattle.zeb_program.specs.WordRuns.{RunsBatch, RunsShell, StopsBatch, StopsShell, StopsTask}
 use Rattle.zeb_program.proofs.StopLemmas.{StopsBatch-kept, StopsShell-kept}
 use Rattle.zeb_program.proofs.WordRunLemmas.{RunsBatch-kept, RunsShell-kept, TellsApart-kept, TellsLeft-kept}
 

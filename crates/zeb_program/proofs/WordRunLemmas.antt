@@ -1,64 +1,19 @@
 -- What comes of words, from the profile that they name and the register in the store at its path.
-use Rattle.std.proofs.Common.{◌≡◌, ◌≢◌, ◌⊎◌, ℕ, Bool, true, false, List, inl, inr, refl, subst, sym}
+use Rattle.zeb_program.proofs.Cited.{Held, state, HasCleanDisk, State, ◌≡◌, ◌≢◌, ◌⊎◌, ℕ, Bool, true, false, List, inl, inr, refl, subst, sym, Appends-kept, Keeps-refl, Keeps-trans, option_map, AllocError, Global, Conditions, Refusal, reply_text, Init, Reply, Holdings, nothing_yet, Holding, Tells, Closed, StoreCause, Directive, Writes, TellsClosed, TellsLeft, DoesOnNothing, DoesTask, RunsText, ServesText, Explains, ExplainsUnread, NamesRegister, refusal_cause, IsOpeningFault, CarriesOut, StandsFor, ExplainsRun, GivesClosed, GivesFor, OpensUnder, RunsIn, RunsOnNothing, ServesHeld, ServesIn, ServesOnNothing, TakesIn, ReadsProfile, AnswersStopped, AreConditionsIn, AreScriptConditions, HoldsNothing, RunsFromNothing, BeginsRegister, AnswersFrom, ServesTask, closing_status, AnswersOn, AnswersTask, ReadsWhole, paths_of, TellsUnanswered, WarnsOf, TellsApart, WarnsClosed, IsText, Performs, ReadsAt, RunsBatch, batch_stopped, batch_ran, RunsLines, on_store, in_memory, no_memory, no_register, RunsShell, shell_stopped, shell_ran, Cause, Failure, Fault, Told, Status, Served, Task, Ask, Format, packed_blocks, LayoutChoice, Unsaid}
 use Rattle.std.specs.Prelude.{Option, Some, None, Result, Ok, Err, IfOk, IfErr, IfSome, OnErr, String, string_bytes}
-use Rattle.std.specs.declared.alloc.AllocError.{AllocError}
-use Rattle.std.specs.declared.alloc.Global.{Global}
 use Rattle.std.specs.Io.KnownBytes.{Appends, Keeps}
-use Rattle.std.proofs.KnownBytes.{Appends-kept, Keeps-refl, Keeps-trans}
-use Rattle.sqlite.specs.Held.{Held, state}
-use Rattle.sqlite.specs.State.{HasCleanDisk, State}
 use Rattle.sqlite.specs.Store.{Ghosts}
-use Rattle.zeb_change.specs.Conditions.{Conditions}
-use Rattle.zeb_change.specs.declared.refusals.Refusal.{Refusal}
-use Rattle.zeb_engine.specs.declared.commands.Command.TheVariants.{Init}
-use Rattle.zeb_engine.specs.declared.replies.Reply.{Reply}
-use Rattle.zeb_engine.specs.Replies.{reply_text}
-use Rattle.zeb_image.specs.Holdings.{Holdings, nothing_yet}
-use Rattle.zeb_image.specs.Image.{Keeps as Holding}
-use Rattle.zeb_profile.specs.declared.directives.Directive.{Directive}
-use Rattle.zeb_paths.specs.Walks.{Tells}
-use Rattle.zeb_paths.specs.declared.causes.Closed.{Closed}
-use Rattle.zeb_paths.specs.declared.causes.StoreCause.{StoreCause}
-use Rattle.zeb_program.specs.declared.failures.Cause.{Cause}
-use Rattle.zeb_program.specs.declared.failures.Failure.{Failure}
-use Rattle.zeb_program.specs.declared.faults.Fault.{Fault}
 use Rattle.zeb_program.specs.declared.faults.Fault.TheVariants as fault
 use Rattle.zeb_program.specs.declared.performing.Performed.{Performed}
-use Rattle.zeb_program.specs.declared.performing.Told.{Told}
 use Rattle.zeb_program.specs.declared.performing.Unopened.{Unopened}
-use Rattle.zeb_program.specs.declared.tasks.Served.{Served}
 use Rattle.zeb_program.specs.declared.tasks.Served.TheVariants.{Replied, Shown}
-use Rattle.zeb_program.specs.declared.tasks.Task.{Task}
-use Rattle.zeb_program.specs.declared.tasks.Task.TheVariants.{Ask}
-use Rattle.zeb_program.specs.Answers.{Writes}
-use Rattle.zeb_register.specs.Formats.{Format, packed_blocks}
-use Rattle.zeb_program.specs.Doing.{DoesOnNothing, DoesTask, RunsText, ServesText}
 use Rattle.zeb_program.specs.FaultAnswers.{GivesAnswer, IsOpeningFailure, IsUnreadWhole, Reaches}
 use Rattle.zeb_program.specs.FaultLines.{TellsCaused, left_lines, unclosed_lines}
-use Rattle.zeb_program.specs.Explanations.{Explains, ExplainsUnread, NamesRegister, refusal_cause}
-use Rattle.zeb_program.specs.PrivateFaults.{IsOpeningFault}
-use Rattle.zeb_program.specs.PrivateServing.{CarriesOut, StandsFor}
-use Rattle.zeb_program.specs.Serving.{AnswersFrom, ServesTask}
-use Rattle.zeb_program.specs.PrivateWordRuns.{ExplainsRun, GivesClosed, GivesFor, OpensUnder, RunsIn, RunsOnNothing, ServesHeld, ServesIn, ServesOnNothing, TakesIn}
 use Rattle.zeb_program.specs.Registers.{ClosesStore, FromStore, HasStore, LacksStore, kept, none, Places, nothing_met}
-use Rattle.zeb_program.specs.ScriptAnswers.{AnswersStopped, AreConditionsIn, AreScriptConditions, HoldsNothing, RunsFromNothing}
-use Rattle.zeb_program.specs.TaskAnswers.{AnswersOn, AnswersTask, ReadsWhole, paths_of}
-use Rattle.zeb_program.specs.WordAnswers.{TellsApart, WarnsClosed}
-use Rattle.zeb_program.specs.WordRuns.{IsText, Performs, ReadsAt, RunsBatch, batch_stopped, batch_ran, RunsLines, on_store, in_memory, no_memory, no_register, RunsShell, shell_stopped, shell_ran}
 use Rattle.zeb_program.specs.WordRuns.{ServesUnder, answered, unopened, none_made, IsOwnOr, StopsOpening, StopsReading, StopsTask, not_opened, WritesReply}
-use Rattle.zeb_words.specs.declared.words.LayoutChoice.{LayoutChoice}
-use Rattle.zeb_words.specs.declared.words.LayoutChoice.TheVariants.{Unsaid}
-use Rattle.zeb_program.specs.Closings.{TellsClosed, TellsLeft}
-use Rattle.zeb_program.specs.ProfileFiles.{ReadsProfile}
-use Rattle.zeb_program.specs.Warnings.{WarnsOf}
-use Rattle.std.specs.Option.{option_map}
-use Rattle.zeb_program.specs.Unanswered.{TellsUnanswered}
 use Rattle.zeb_paths.specs.declared.paths.Asked.TheVariants.{Text}
-use Rattle.zeb_program.specs.declared.statuses.Status.{Status}
-use Rattle.zeb_program.specs.Statuses.{closing_status}
 use Rattle.zeb_program.proofs.ScriptAnswerLemmas.{RunsFromNothing-kept, RunsText-kept, Writes-kept, silent_batch}
 use Rattle.zeb_program.proofs.ShellTextLemmas.{ServesText-kept}
-use Rattle.zeb_program.specs.Scripts.{BeginsRegister}
 use Rattle.zeb_program.proofs.ExplanationLemmas.{fails_so, opening_explained}
 use Rattle.zeb_program.proofs.TaskLemmas.{over_nothing}
 

@@ -1,10 +1,6 @@
 -- What is written for lines, without the tables that they are answered on.
-use Rattle.zeb_program.proofs.Cited.{◌+◌, ℕ, List, State, Held, Ghosts, over_files, Conditions, Format, EachLine, no_lines, more, after_first_line, LineOver, SaysOver, Line, Remark, Order, Path, Mark, Bad, Status}
-use Rattle.sqlite.specs.Held.{state}
-use Rattle.zeb_paths.specs.Walks.{Tells}
-use Rattle.zeb_register.specs.Formats.{packed_blocks}
+use Rattle.zeb_program.proofs.Cited.{◌+◌, ℕ, List, State, Held, Ghosts, over_files, Conditions, Format, EachLine, no_lines, more, after_first_line, LineOver, SaysOver, Line, Remark, Order, Path, Mark, Bad, Status, state, Tells, LinesWritten, SaysWritten, packed_blocks}
 use Rattle.zeb_program.specs.BatchRuns.{OverIsWritten}
-use Rattle.zeb_program.specs.OverTables.{LinesWritten, SaysWritten}
 
 -- what is written for a line
 written_line : (at : Tells) (format : Format) (c : Conditions) (number : ℕ) (line : Line) (old : State) (bytes : List ℕ) (status : Status) (new : State) → SaysOver at format c number line old bytes status new → SaysWritten at number line bytes status

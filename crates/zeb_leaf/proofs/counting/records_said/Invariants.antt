@@ -1,6 +1,5 @@
 -- What those so far count.
-use Rattle.std.specs.Prelude.{◌≡◌, sum_by, take}
-use Rattle.zeb_leaf.specs.declared.entries.Held.{Held}
+use Rattle.zeb_leaf.proofs.Cited.{◌≡◌, sum_by, take, Held}
 use Rattle.zeb_leaf.proofs.counting.records_said.Given as goal
 
 abbrev pub invariant-loop-one : goal.invariant-loop-one

@@ -1,8 +1,6 @@
 -- One change is merged after the other, and what is left stays.
-use Rattle.zeb_leaf.proofs.Cited.{◌≡◌, ◌∙◌, ◌∷◌, List, length, sym, ap, subst, arith, rules, Entry}
+use Rattle.zeb_leaf.proofs.Cited.{◌≡◌, ◌∙◌, ◌∷◌, List, length, sym, ap, subst, arith, rules, Entry, AreMerged, BlockChange}
 use Rattle.std.specs.Vec.Iter.{into_iter_items}
-use Rattle.zeb_leaf.specs.Merging.{AreMerged}
-use Rattle.zeb_leaf.specs.declared.merging.BlockChange.{BlockChange}
 use Rattle.zeb_leaf.proofs.MergedLists.{MergesAll, merged_all, merged_end, merged_more}
 use Rattle.zeb_leaf.proofs.merging.merge.Goals as goal
 

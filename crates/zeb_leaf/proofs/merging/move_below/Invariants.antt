@@ -1,6 +1,5 @@
 -- Those below the key that were moved so far, and what is left, are all.
-use Rattle.zeb_leaf.proofs.Cited.{◌≡◌, ◌++◌, List, length, Less, AllByRecursion, Entry}
-use Rattle.zeb_leaf.specs.Spans.{key_cmp}
+use Rattle.zeb_leaf.proofs.Cited.{◌≡◌, ◌++◌, List, length, Less, AllByRecursion, Entry, key_cmp}
 use Rattle.zeb_leaf.proofs.merging.move_below.Given as goal
 
 abbrev pub invariant-loop-entry : goal.invariant-loop-entry

@@ -1,7 +1,6 @@
 -- What is moved, and what the change puts, are the entries up to the changed block.
-use Rattle.zeb_leaf.proofs.Cited.{ℕ, List, subst}
+use Rattle.zeb_leaf.proofs.Cited.{ℕ, List, subst, IsRestBehind, MovesBelow}
 use Rattle.std.proofs.lemmas.Result.{on_ok_weaker}
-use Rattle.zeb_leaf.specs.PrivateMerging.{IsRestBehind, MovesBelow}
 use Rattle.zeb_leaf.proofs.MovedLists.{one_merges}
 use Rattle.zeb_leaf.proofs.merging.push_up_to.Goals as goal
 

@@ -1,6 +1,5 @@
 -- The bytes of the entries so far, which fit, and the last term.
-use Rattle.zeb_leaf.proofs.Cited.{◌≡◌, ◌-◌, ◌^◌, ◌≤◌, length, take, leaf_bytes, first_place, last_place}
-use Rattle.std.specs.Prelude.{min}
+use Rattle.zeb_leaf.proofs.Cited.{◌≡◌, ◌-◌, ◌^◌, ◌≤◌, length, take, leaf_bytes, first_place, last_place, min}
 use Rattle.zeb_leaf.proofs.parting.fitting.Given as goal
 
 abbrev pub invariant-loop-count : goal.invariant-loop-count

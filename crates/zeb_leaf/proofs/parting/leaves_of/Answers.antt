@@ -1,7 +1,6 @@
 -- One leaf is cut off after the other.
-use Rattle.zeb_leaf.proofs.Cited.{◌≡◌, length, arith, common_steps}
+use Rattle.zeb_leaf.proofs.Cited.{◌≡◌, length, arith, common_steps, bytes_above}
 use Rattle.zeb_leaf.proofs.CutLists.{all_cut, cut_more, cut_off, front_up, rest_sound, rest_up}
-use Rattle.zeb_leaf.specs.Cuts.{bytes_above}
 use Rattle.zeb_leaf.proofs.parting.leaves_of.Goals as goal
 
 pub new_leaf-requires-clause-rising : goal.new_leaf-requires-clause-rising

@@ -1,7 +1,6 @@
 -- The leaves so far, and any leaves of the rest behind them, are the leaves of all.
-use Rattle.zeb_leaf.proofs.Cited.{◌++◌, List, length, AllByRecursion, IsEntry, entry_cmp}
+use Rattle.zeb_leaf.proofs.Cited.{◌++◌, List, length, AllByRecursion, IsEntry, entry_cmp, AreCut, bytes_above}
 use Rattle.std.specs.List.Sorted.{IsStrictlySortedBy}
-use Rattle.zeb_leaf.specs.Cuts.{AreCut, bytes_above}
 use Rattle.zeb_leaf.specs.declared.parting.NewLeaf.{NewLeaf}
 use Rattle.zeb_leaf.proofs.parting.leaves_of.Given as goal
 

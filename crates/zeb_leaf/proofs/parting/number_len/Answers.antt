@@ -1,6 +1,5 @@
 -- A group is counted, and then the rest of the number is left.
-use Rattle.zeb_leaf.proofs.Cited.{◌<◌, ◌^◌, ap, length, arith}
-use Rattle.zeb_blocks.proofs.Bytes.{length-uleb, uleb-low, uleb-high}
+use Rattle.zeb_leaf.proofs.Cited.{◌<◌, ◌^◌, ap, length, arith, length-uleb, uleb-low, uleb-high}
 use Rattle.zeb_leaf.proofs.Numbers.{uleb_some}
 use Rattle.zeb_leaf.proofs.parting.number_len.Goals as goal
 

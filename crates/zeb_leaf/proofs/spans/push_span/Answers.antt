@@ -1,11 +1,10 @@
 -- Each entry is in the span, or not.
-use Rattle.zeb_leaf.proofs.Cited.{◌≡◌, ◌<◌, ◌++◌, ◌∷◌, [], List, ℕ, Err, length, sym, subst, arith, common_steps, rules, refl, append-nil, Entry, entry_of, IsLeaf, IsStuck}
+use Rattle.zeb_leaf.proofs.Cited.{◌≡◌, ◌<◌, ◌++◌, ◌∷◌, [], List, ℕ, Err, length, sym, subst, arith, common_steps, rules, refl, append-nil, Entry, entry_of, IsLeaf, IsStuck, IsOnSide, TakesIfInSpan}
 use Rattle.zeb_leaf.proofs.Behind.{StandsAt, left_out, stands_behind}
 use Rattle.zeb_leaf.proofs.Chosen.{span_taken}
 use Rattle.zeb_leaf.proofs.Faults.{told_worse}
 use Rattle.zeb_leaf.proofs.Numbers.{step_shorter}
 use Rattle.zeb_leaf.proofs.Walked.{empty_leaf, reaches_end, reaches_first, reaches_more, reaches_stuck}
-use Rattle.zeb_leaf.specs.PrivateTold.{IsOnSide, TakesIfInSpan}
 use Rattle.zeb_leaf.proofs.spans.push_span.Goals as goal
 
 pub returns-then-is_empty : goal.returns-then-is_empty

@@ -1,8 +1,7 @@
 -- What was chosen of the entries so far, and where the walk stands.
-use Rattle.zeb_leaf.proofs.Cited.{◌≡◌, ◌++◌, List, length, Entry, Held}
+use Rattle.zeb_leaf.proofs.Cited.{◌≡◌, ◌++◌, List, length, Entry, Held, AreInSpan}
 use Rattle.zeb_leaf.proofs.Behind.{StandsAt}
 use Rattle.zeb_leaf.proofs.Walked.{Reaches}
-use Rattle.zeb_leaf.specs.Spans.{AreInSpan}
 use Rattle.zeb_leaf.proofs.spans.push_span.Given as goal
 
 abbrev pub invariant-loop-reader : goal.invariant-loop-reader

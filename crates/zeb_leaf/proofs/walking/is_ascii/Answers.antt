@@ -1,9 +1,5 @@
 -- Where no byte is above those of ASCII, they are a text.
-use Rattle.zeb_leaf.proofs.Cited.{ℕ, ◌<◌, List, length, inl, inr, arith, cases_lt}
-use Rattle.std.specs.Prelude.{slice_index}
-use Rattle.std.specs.Str.{IsAscii}
-use Rattle.std.proofs.lemmas.List.{get_or_past}
-use Rattle.std.proofs.lemmas.Str.{IsUtf8-from_ascii}
+use Rattle.zeb_leaf.proofs.Cited.{ℕ, ◌<◌, List, length, inl, inr, arith, cases_lt, get_or_past, IsUtf8-from_ascii, slice_index, IsAscii}
 use borrow.Author.Count.{below_more}
 use Rattle.zeb_leaf.proofs.walking.is_ascii.Goals as goal
 

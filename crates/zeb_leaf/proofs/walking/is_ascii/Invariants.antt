@@ -1,6 +1,5 @@
 -- The bytes so far are of ASCII.
-use Rattle.zeb_leaf.proofs.Cited.{ℕ, ◌<◌}
-use Rattle.std.specs.Prelude.{slice_index}
+use Rattle.zeb_leaf.proofs.Cited.{ℕ, ◌<◌, slice_index}
 use Rattle.zeb_leaf.proofs.walking.is_ascii.Given as goal
 
 abbrev pub invariant-loop-byte : goal.invariant-loop-byte

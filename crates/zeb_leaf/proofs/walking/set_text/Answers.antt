@@ -1,7 +1,5 @@
 -- A text cut between characters, with a text behind it, is a text; any other is tried as a whole.
-use Rattle.zeb_leaf.proofs.Cited.{◌++◌, ℕ, List, take, sym, subst, IsUtf8}
-use Rattle.std.proofs.lemmas.Str.{IsUtf8-append, IsUtf8-take}
-use Rattle.std.specs.Str.{IsCharBoundary}
+use Rattle.zeb_leaf.proofs.Cited.{◌++◌, ℕ, List, take, sym, subst, IsUtf8, IsUtf8-append, IsUtf8-take, IsCharBoundary}
 use Rattle.zeb_leaf.proofs.walking.set_text.Goals as goal
 
 joined : (text suffix : List ℕ) (shared : ℕ) → IsUtf8 text → IsCharBoundary text shared → IsUtf8 suffix → IsUtf8 (take shared text ++ suffix)

@@ -1,6 +1,5 @@
 -- A number of one byte is that byte.
-use Rattle.zeb_leaf.proofs.Cited.{◌∙◌, ◌++◌, List, ℕ, sym, ap}
-use Rattle.zeb_blocks.proofs.Bytes.{uleb-low}
+use Rattle.zeb_leaf.proofs.Cited.{◌∙◌, ◌++◌, List, ℕ, sym, ap, uleb-low}
 use Rattle.zeb_leaf.proofs.writing.put_number.Goals as goal
 
 pub returns-then-number-lt128-clause-ok : goal.returns-then-number-lt128-clause-ok

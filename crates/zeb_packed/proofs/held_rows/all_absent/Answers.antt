@@ -1,6 +1,5 @@
-use Rattle.zeb_packed.proofs.Cited.{◌∙◌, arith, refl, rules, subst, sym, state, HasCleanDisk, Database, LacksBlock, quiet_then, store_same}
+use Rattle.zeb_packed.proofs.Cited.{◌∙◌, arith, refl, rules, subst, sym, state, HasCleanDisk, Database, LacksBlock, quiet_then, store_same, quiet_still}
 use Rattle.sqlite_rules.proofs.ListLemmas.{has_at}
-use Rattle.zeb_register.proofs.CallsInTurn.{quiet_still}
 use Rattle.zeb_packed.proofs.held_rows.all_absent.Goals as goal
 
 pub loop-one-init : goal.loop-one-init

@@ -1,6 +1,5 @@
 -- Nothing is changed so far.
-use Rattle.zeb_packed.proofs.Cited.{◌≡◌, IsTrue, state, HasCleanDisk, Survives}
-use Rattle.sqlite.specs.State.{KeepsCommit}
+use Rattle.zeb_packed.proofs.Cited.{◌≡◌, IsTrue, state, HasCleanDisk, Survives, KeepsCommit}
 use Rattle.zeb_packed.proofs.held_rows.all_absent.Given as goal
 
 abbrev pub invariant-loop-one : goal.invariant-loop-one

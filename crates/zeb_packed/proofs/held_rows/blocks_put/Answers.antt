@@ -1,8 +1,5 @@
-use Rattle.zeb_packed.proofs.Cited.{◌∙◌, ◌++◌, [], List, arith, refl, rules, map, subst, sym, take, drop, length, ◌-◌, state, HasCleanDisk, blocks_tree, changes_none, changes_then, goes_keeps, goes_then, on_err, quiet_then, refused_so, Changes}
-use Rattle.zeb_register.proofs.CallsInTurn.{quiet_still}
+use Rattle.zeb_packed.proofs.Cited.{◌∙◌, ◌++◌, [], List, arith, refl, rules, map, subst, sym, take, drop, length, ◌-◌, state, HasCleanDisk, blocks_tree, changes_none, changes_then, goes_keeps, goes_then, on_err, quiet_then, refused_so, Changes, AreLacking, GainsAll, new_block_row, NewBlock, quiet_still}
 use Rattle.zeb_packed.proofs.HeldPuts.{all_taken, count_within, gains_none, gains_then, goes_still, lacking_more, some_left, stands_all, taken_more}
-use Rattle.zeb_packed.specs.PrivateNewRows.{AreLacking, GainsAll, new_block_row}
-use Rattle.zeb_packed.specs.declared.new_rows.NewBlock.{NewBlock}
 use Rattle.zeb_packed.proofs.held_rows.blocks_put.Goals as goal
 
 pub loop-done-init : goal.loop-done-init

@@ -1,6 +1,5 @@
 -- The rows so far are put.
-use Rattle.zeb_packed.proofs.Cited.{◌≡◌, ◌≤◌, ◌-◌, IsTrue, length, map, take, state, HasCleanDisk, Survives, GoesOn, Changes, IsStore, blocks_tree}
-use Rattle.zeb_packed.specs.PrivateNewRows.{AreLacking, GainsAll, new_block_row}
+use Rattle.zeb_packed.proofs.Cited.{◌≡◌, ◌≤◌, ◌-◌, IsTrue, length, map, take, state, HasCleanDisk, Survives, GoesOn, Changes, IsStore, blocks_tree, AreLacking, GainsAll, new_block_row}
 use Rattle.zeb_packed.proofs.held_rows.blocks_put.Given as goal
 
 abbrev pub invariant-loop-done : goal.invariant-loop-done

@@ -1,6 +1,5 @@
-use Rattle.zeb_packed.proofs.Cited.{◌++◌, [], ◌∷◌, rules, subst, Int, state, Alters, key_row, Gains, dict_tree, changes_so, column_is}
+use Rattle.zeb_packed.proofs.Cited.{◌++◌, [], ◌∷◌, rules, subst, Int, state, Alters, key_row, Gains, dict_tree, changes_so, column_is, GainsAll, new_count_row}
 use Rattle.zeb_packed.proofs.HeldPuts.{gains_one}
-use Rattle.zeb_packed.specs.PrivateNewRows.{GainsAll, new_count_row}
 use Rattle.zeb_packed.proofs.held_rows.count_put.Goals as goal
 
 pub returns-clause-call : goal.returns-clause-call

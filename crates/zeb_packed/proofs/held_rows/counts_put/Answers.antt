@@ -1,8 +1,5 @@
-use Rattle.zeb_packed.proofs.Cited.{◌∙◌, ◌++◌, ◌-◌, [], List, arith, drop, length, refl, rules, map, subst, sym, take, state, HasCleanDisk, Changes, dict_tree, changes_none, changes_then, goes_keeps, goes_then, on_err, quiet_then}
-use Rattle.zeb_register.proofs.CallsInTurn.{quiet_still}
+use Rattle.zeb_packed.proofs.Cited.{◌∙◌, ◌++◌, ◌-◌, [], List, arith, drop, length, refl, rules, map, subst, sym, take, state, HasCleanDisk, Changes, dict_tree, changes_none, changes_then, goes_keeps, goes_then, on_err, quiet_then, GainsAll, new_count_row, NewCount, quiet_still}
 use Rattle.zeb_packed.proofs.HeldPuts.{all_taken, count_within, gains_none, gains_then, goes_still, some_left, taken_more}
-use Rattle.zeb_packed.specs.PrivateNewRows.{GainsAll, new_count_row}
-use Rattle.zeb_packed.specs.declared.new_rows.NewCount.{NewCount}
 use Rattle.zeb_packed.proofs.held_rows.counts_put.Goals as goal
 
 pub loop-done-init : goal.loop-done-init

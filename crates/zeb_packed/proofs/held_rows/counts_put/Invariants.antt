@@ -1,6 +1,5 @@
 -- The rows so far are put.
-use Rattle.zeb_packed.proofs.Cited.{◌≡◌, ◌≤◌, ◌-◌, IsTrue, length, map, take, state, HasCleanDisk, Survives, GoesOn, Changes, IsStore, dict_tree}
-use Rattle.zeb_packed.specs.PrivateNewRows.{GainsAll, new_count_row}
+use Rattle.zeb_packed.proofs.Cited.{◌≡◌, ◌≤◌, ◌-◌, IsTrue, length, map, take, state, HasCleanDisk, Survives, GoesOn, Changes, IsStore, dict_tree, GainsAll, new_count_row}
 use Rattle.zeb_packed.proofs.held_rows.counts_put.Given as goal
 
 abbrev pub invariant-loop-done : goal.invariant-loop-done

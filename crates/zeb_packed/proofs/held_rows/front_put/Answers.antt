@@ -1,6 +1,5 @@
-use Rattle.zeb_packed.proofs.Cited.{rules, state, refused_so}
+use Rattle.zeb_packed.proofs.Cited.{rules, state, refused_so, MANY}
 use Rattle.zeb_packed.proofs.HeldPuts.{stands_first, stands_in_front}
-use Rattle.zeb_packed.specs.declared.statements.many.TheConstants.{MANY}
 use Rattle.zeb_packed.proofs.held_rows.front_put.Goals as goal
 
 pub returns-in_err-one_put-clause-put : goal.returns-in_err-one_put-clause-put

@@ -1,8 +1,5 @@
-use Rattle.zeb_packed.proofs.Cited.{List, arith, map, rules, subst, sym, state, HasCleanDisk, Changes, blocks_tree, dict_tree, goes_keeps, goes_then, on_err, quiet_then, refused_so}
+use Rattle.zeb_packed.proofs.Cited.{List, arith, map, rules, subst, sym, state, HasCleanDisk, Changes, blocks_tree, dict_tree, goes_keeps, goes_then, on_err, quiet_then, refused_so, AreApart, AreLacking, GainsAll, SomeStands, new_block_row, new_count_row, NewBlock, NewCount}
 use Rattle.zeb_packed.proofs.HeldPuts.{held_answers}
-use Rattle.zeb_packed.specs.PrivateNewRows.{AreApart, AreLacking, GainsAll, SomeStands, new_block_row, new_count_row}
-use Rattle.zeb_packed.specs.declared.new_rows.NewBlock.{NewBlock}
-use Rattle.zeb_packed.specs.declared.new_rows.NewCount.{NewCount}
 use Rattle.zeb_packed.proofs.held_rows.held_put.Goals as goal
 
 pub returns-clause-call : goal.returns-clause-call

@@ -1,6 +1,4 @@
-use Rattle.zeb_packed.proofs.Cited.{◌∙◌, ap}
-use Rattle.sqlite.specs.Values.{bound}
-use Rattle.zeb_packed.specs.PrivateNewRows.{AreValuesOf, new_count_row}
+use Rattle.zeb_packed.proofs.Cited.{◌∙◌, ap, bound, AreValuesOf, new_count_row}
 use Rattle.zeb_packed.proofs.held_rows.many_counts_put.Goals as goal
 
 pub returns-clause-put : goal.returns-clause-put

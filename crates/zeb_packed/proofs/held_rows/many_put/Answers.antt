@@ -1,7 +1,5 @@
-use Rattle.zeb_packed.proofs.Cited.{◌∙◌, Err, arith, rules, ap, state, HasCleanDisk, goes_keeps, on_err, reads_goes, refused_so, store_same}
-use Rattle.sqlite.specs.Values.{bound}
+use Rattle.zeb_packed.proofs.Cited.{◌∙◌, Err, arith, rules, ap, state, HasCleanDisk, goes_keeps, on_err, reads_goes, refused_so, store_same, bound, AreValuesOf, new_block_row}
 use Rattle.zeb_packed.proofs.HeldPuts.{stands_same}
-use Rattle.zeb_packed.specs.PrivateNewRows.{AreValuesOf, new_block_row}
 use Rattle.zeb_packed.proofs.held_rows.many_put.Goals as goal
 
 pub returns-in-Ok-clause-put : goal.returns-in-Ok-clause-put

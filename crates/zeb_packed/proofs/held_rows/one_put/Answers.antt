@@ -1,7 +1,6 @@
-use Rattle.zeb_packed.proofs.Cited.{◌++◌, [], ◌∷◌, Err, pos, arith, ap, inl, refl, rules, subst, sym, Blob, Int, state, HasCleanDisk, Database, Alters, key_row, Gains, blocks_tree, changes_so, column_is, goes_keeps, on_err, reads_goes, refused_so, store_same, LacksBlock}
+use Rattle.zeb_packed.proofs.Cited.{◌++◌, [], ◌∷◌, Err, pos, arith, ap, inl, refl, rules, subst, sym, Blob, Int, state, HasCleanDisk, Database, Alters, key_row, Gains, blocks_tree, changes_so, column_is, goes_keeps, on_err, reads_goes, refused_so, store_same, LacksBlock, GainsAll, new_block_row}
 use Rattle.zeb_packed.proofs.HeldPuts.{gains_one, one_lacking}
 use Rattle.zeb_packed.proofs.KeyRows.{absent_told}
-use Rattle.zeb_packed.specs.PrivateNewRows.{GainsAll, new_block_row}
 use Rattle.zeb_packed.proofs.held_rows.one_put.Goals as goal
 
 pub returns-in-Ok-clause-call : goal.returns-in-Ok-clause-call

@@ -1,16 +1,9 @@
-use Rattle.zeb_packed.proofs.Cited.{◌≡◌, ◌∙◌, ◌+◌, ◌*◌, Works, length, suc, ◌∷◌, ap, arith, drop, drop-cons, inl, refl, rules, subst, sym, state, HasCleanDisk, goes_keeps, goes_then, on_err, quiet_then, refused_so}
+use Rattle.zeb_packed.proofs.Cited.{◌≡◌, ◌∙◌, ◌+◌, ◌*◌, Works, length, suc, ◌∷◌, ap, arith, drop, drop-cons, inl, refl, rules, subst, sym, state, HasCleanDisk, goes_keeps, goes_then, on_err, quiet_then, refused_so, AreToldNew, fault_met, quiet_still, rise_left, packed_blocks, NumbersRise, KeyChanges}
 use Rattle.sqlite_trees.proofs.ListLemmas.{all-get_or}
 use Rattle.zeb_packed.proofs.HeldPuts.{goes_still}
 use Rattle.zeb_packed.proofs.HeldRuns.{HoldsSoFar, holds_all, holds_none, key_more, key_refused}
 use Rattle.zeb_packed.proofs.NewKeys.{told_more}
-use Rattle.zeb_packed.specs.PrivateNewRows.{AreToldNew}
-use Rattle.zeb_register.proofs.Answered.{fault_met}
-use Rattle.zeb_register.proofs.CallsInTurn.{quiet_still}
 use Rattle.zeb_register.proofs.RunCounts.{none_run, work_all, work_begun, work_more}
-use Rattle.zeb_register.proofs.RunTurns.{rise_left}
-use Rattle.zeb_register.specs.Formats.{packed_blocks}
-use Rattle.zeb_register.specs.UnitChanges.{NumbersRise}
-use Rattle.zeb_register.specs.declared.registers.KeyChanges.{KeyChanges}
 use Rattle.zeb_packed.proofs.held_runs.keys_turned.Goals as goal
 
 pub loop-one-init : goal.loop-one-init

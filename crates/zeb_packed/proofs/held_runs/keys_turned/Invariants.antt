@@ -1,9 +1,7 @@
 -- The keys so far are changed, or their rows held.
-use Rattle.zeb_packed.proofs.Cited.{◌≡◌, IsTrue, drop, state, HasCleanDisk, Survives, GoesOn, IsStore}
+use Rattle.zeb_packed.proofs.Cited.{◌≡◌, IsTrue, drop, state, HasCleanDisk, Survives, GoesOn, IsStore, AreToldNew, packed_blocks}
 use Rattle.zeb_packed.proofs.HeldRuns.{HoldsSoFar}
-use Rattle.zeb_packed.specs.PrivateNewRows.{AreToldNew}
 use Rattle.zeb_register.proofs.RunCounts.{WorksSoFar}
-use Rattle.zeb_register.specs.Formats.{packed_blocks}
 use Rattle.zeb_packed.proofs.held_runs.keys_turned.Given as goal
 
 abbrev pub invariant-loop-one : goal.invariant-loop-one

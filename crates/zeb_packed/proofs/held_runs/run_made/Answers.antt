@@ -1,8 +1,6 @@
-use Rattle.zeb_packed.proofs.Cited.{packed_blocks, arith, rules, subst, sym, state, HasCleanDisk, Database, IfOk-weaker, goes_keeps, goes_then, on_err, on_err_so, quiet_then, reads_goes, refused_so, store_same}
+use Rattle.zeb_packed.proofs.Cited.{packed_blocks, arith, rules, subst, sym, state, HasCleanDisk, Database, IfOk-weaker, goes_keeps, goes_then, on_err, on_err_so, quiet_then, reads_goes, refused_so, store_same, AreToldNew, IsRunRefusedAs}
 use Rattle.zeb_packed.proofs.HeldRuns.{RunAnswers, run_answers}
 use Rattle.zeb_packed.proofs.KnownKeys.{always_ok}
-use Rattle.zeb_packed.specs.PrivateNewRows.{AreToldNew}
-use Rattle.zeb_register.specs.RunChanges.{IsRunRefusedAs}
 use Rattle.zeb_packed.proofs.held_runs.run_made.Goals as goal
 
 pub returns-clause-call : goal.returns-clause-call

@@ -1,6 +1,5 @@
 -- The keys so far are of the register.
-use Rattle.zeb_packed.proofs.Cited.{AllByRecursion, take}
-use Rattle.zeb_packed.specs.PrivateNewRows.{IsOfRegister}
+use Rattle.zeb_packed.proofs.Cited.{AllByRecursion, take, IsOfRegister}
 use Rattle.zeb_packed.proofs.new_keys.are_of_register.Given as goal
 
 abbrev pub invariant-loop-one : goal.invariant-loop-one

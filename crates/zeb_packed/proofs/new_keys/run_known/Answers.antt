@@ -1,6 +1,5 @@
-use Rattle.zeb_packed.proofs.Cited.{◌≡◌, ◌≢◌, [], ap, get_or, rules, state}
+use Rattle.zeb_packed.proofs.Cited.{◌≡◌, ◌≢◌, [], ap, get_or, rules, state, KeyChanges}
 use Rattle.zeb_packed.proofs.NewKeys.{keys_new}
-use Rattle.zeb_register.specs.declared.registers.KeyChanges.{KeyChanges}
 use Rattle.zeb_packed.proofs.new_keys.run_known.Goals as goal
 
 pub returns-clause-told : goal.returns-clause-told

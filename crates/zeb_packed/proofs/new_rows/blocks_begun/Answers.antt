@@ -1,5 +1,4 @@
-use Rattle.zeb_packed.proofs.Cited.{◌≤◌, ◌+◌, ◌/◌, arith, drop, get_or, length, refl, rules, subst, suc, sym, IsNonDecreasingBy-drop, NumbersRise, RecordChange, no_change, run, run_first, run_long, run_within}
-use Rattle.zeb_register.proofs.ContentTurns.{none_left}
+use Rattle.zeb_packed.proofs.Cited.{◌≤◌, ◌+◌, ◌/◌, arith, drop, get_or, length, refl, rules, subst, suc, sym, IsNonDecreasingBy-drop, NumbersRise, RecordChange, no_change, run, run_first, run_long, run_within, none_left}
 use Rattle.zeb_packed.proofs.BegunBlocks.{AreBegun, begun_blocks, begun_more, begun_none, front_is, run_allowed}
 use Rattle.zeb_packed.proofs.BegunKeys.{from_none, none_allows}
 use Rattle.zeb_packed.proofs.HeldTables.{with_blocks}

@@ -1,7 +1,6 @@
-use Rattle.zeb_packed.proofs.Cited.{◌∙◌, ◌++◌, [], ◌∷◌, List, ap, refl, rules, subst, sym, CountsAs}
+use Rattle.zeb_packed.proofs.Cited.{◌∙◌, ◌++◌, [], ◌∷◌, List, ap, refl, rules, subst, sym, CountsAs, NewCount}
 use Rattle.zeb_packed.proofs.BegunKeys.{key_begun}
 use Rattle.zeb_packed.proofs.KeyPuts.{blocks_allowed}
-use Rattle.zeb_packed.specs.declared.new_rows.NewCount.{NewCount}
 use Rattle.zeb_packed.proofs.new_rows.rows_begun.Goals as goal
 
 pub returns-in_err-blocks-clause-damaged : goal.returns-in_err-blocks-clause-damaged

@@ -1,5 +1,4 @@
-use Rattle.zeb_packed.proofs.Cited.{take}
-use Rattle.zeb_packed.specs.PrivatePackedRows.{TellTerms}
+use Rattle.zeb_packed.proofs.Cited.{take, TellTerms}
 use Rattle.zeb_packed.proofs.packed.counts_in.Given as goal
 
 abbrev pub invariant-loop-row : goal.invariant-loop-row

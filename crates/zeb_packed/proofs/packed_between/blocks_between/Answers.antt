@@ -1,5 +1,4 @@
-use Rattle.zeb_packed.proofs.Cited.{◌≡◌, ◌∙◌, List, inl, arith, length, map, subst, sum_by, state, Row, IsRestBetween, two_behind, register_columns, blocks_of, AreSpelled, IsListOf, blocks_tree, Rises, blocks_many, refused_rows}
-use Rattle.zeb_packed.specs.PrivatePackedRows.{SomeMalformed}
+use Rattle.zeb_packed.proofs.Cited.{◌≡◌, ◌∙◌, List, inl, arith, length, map, subst, sum_by, state, Row, IsRestBetween, two_behind, register_columns, blocks_of, AreSpelled, IsListOf, blocks_tree, Rises, blocks_many, refused_rows, SomeMalformed}
 use Rattle.zeb_packed.proofs.BetweenUnits.{blocks_listed, malformed_between}
 use Rattle.zeb_packed.proofs.packed_between.blocks_between.Goals as goal
 

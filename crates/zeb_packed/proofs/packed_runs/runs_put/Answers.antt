@@ -1,6 +1,5 @@
-use Rattle.zeb_packed.proofs.Cited.{ℕ, ◌≡◌, ◌≢◌, ◌+◌, ◌++◌, ◌<◌, ◌≤◌, ◌/◌, [], List, ap, arith, drop, get_or, length, refl, rules, subst, suc, sym, take, take_rest, state, HasCleanDisk, Trees, Has, all_has, RecordChange, IsInBlock, blocks_tree, changes_so, changes_then, stays_then, quiet_then, no_change, run, run_first, run_long, run_within, AllowsBlocks, TurnsBlock, TurnsBlocks, LacksBlock}
+use Rattle.zeb_packed.proofs.Cited.{ℕ, ◌≡◌, ◌≢◌, ◌+◌, ◌++◌, ◌<◌, ◌≤◌, ◌/◌, [], List, ap, arith, drop, get_or, length, refl, rules, subst, suc, sym, take, take_rest, state, HasCleanDisk, Trees, Has, all_has, RecordChange, IsInBlock, blocks_tree, changes_so, changes_then, stays_then, quiet_then, no_change, run, run_first, run_long, run_within, AllowsBlocks, TurnsBlock, TurnsBlocks, LacksBlock, none_left}
 use Rattle.zeb_packed.proofs.UnitRuns.{LeadsOn, allows_fewer, allows_next, allows_run, none_turned, run_leads}
-use Rattle.zeb_register.proofs.ContentTurns.{none_left}
 use Rattle.zeb_packed.proofs.UnitTurns.{run_left}
 use Rattle.zeb_packed.proofs.packed_runs.runs_put.Given as given
 use Rattle.zeb_packed.proofs.packed_runs.runs_put.Goals.{After-run_put}

@@ -1,5 +1,4 @@
-use Rattle.zeb_packed.proofs.Cited.{◌∙◌, subst, state, key_in, AreSpelled, Rises, refused_rows}
-use Rattle.zeb_packed.specs.PrivatePackedRows.{SomeMalformed}
+use Rattle.zeb_packed.proofs.Cited.{◌∙◌, subst, state, key_in, AreSpelled, Rises, refused_rows, SomeMalformed}
 use Rattle.zeb_packed.proofs.UnitLists.{rows_many, units_listed}
 use Rattle.zeb_packed.proofs.packed_totals.term_postings.Goals as goal
 

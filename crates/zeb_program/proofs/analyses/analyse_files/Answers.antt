@@ -1,9 +1,5 @@
-use Rattle.std.proofs.Common.{◌≡◌, ◌⊎◌, ◌∙◌, ◌++◌, ◌∷◌, [], Err, Ok, Some, ap, map, refl, rules, string_bytes, subst, sym}
-use Rattle.std.specs.Prelude.{⊤, IfErr}
-use Rattle.zeb_paths.specs.Walks.{WalksOn, dues_left, paths_left, telling_of}
+use Rattle.zeb_program.proofs.Cited.{◌≡◌, ◌⊎◌, ◌∙◌, ◌++◌, ◌∷◌, [], Err, Ok, Some, ap, map, refl, rules, string_bytes, subst, sym, ⊤, IfErr, WalksOn, dues_left, paths_left, telling_of, AreShort, IsUnread, IsUnreadAt, fault_of}
 use Rattle.zeb_paths.proofs.WalkLemmas.{walks_ended, walks_told, walks_untold}
-use Rattle.zeb_program.specs.Inputs.{AreShort}
-use Rattle.zeb_program.specs.PrivateFaults.{IsUnread, IsUnreadAt, fault_of}
 use Rattle.zeb_program.specs.declared.faults.Fault.TheVariants.{Memory}
 use Rattle.zeb_program.proofs.AnalysisLemmas.{all_read, begins, goes_on}
 use Rattle.zeb_program.proofs.ReaderLemmas.{Ends, GivesNext, content_fault, content_unread, met_fault, met_file, met_refused, stopped_faults, unread_faults, walk_more, walk_start}

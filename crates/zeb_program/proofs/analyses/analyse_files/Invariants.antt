@@ -1,6 +1,4 @@
-use Rattle.std.proofs.Common.{◌≡◌, ℕ, List, map, string_bytes}
-use Rattle.zeb_paths.specs.Walks.{dues_left, paths_left, telling_of, walk_weight}
-use Rattle.zeb_program.specs.WalkedFiles.{WalksFrom}
+use Rattle.zeb_program.proofs.Cited.{◌≡◌, ℕ, List, map, string_bytes, dues_left, paths_left, telling_of, walk_weight, WalksFrom}
 use Rattle.zeb_program.proofs.AnalysisLemmas.{IsRead}
 use Rattle.zeb_program.proofs.analyses.analyse_files.Given as goal
 

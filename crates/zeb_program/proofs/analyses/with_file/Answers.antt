@@ -1,5 +1,4 @@
-use Rattle.std.proofs.Common.{◌≡◌, ◌∷◌, ◌++◌, [], Err, rules, subst, sym}
-use Rattle.zeb_engine.specs.Analysed.{HasLines}
+use Rattle.zeb_program.proofs.Cited.{◌≡◌, ◌∷◌, ◌++◌, [], Err, rules, subst, sym, HasLines}
 use Rattle.zeb_engine.proofs.AnalysedReplies.{refusal_stays}
 use Rattle.zeb_program.proofs.analyses.with_file.Goals as goal
 

@@ -1,5 +1,4 @@
-use Rattle.zeb_program.proofs.Cited.{refl, codes, HasCleanDisk, file_state, conditions}
-use Rattle.zeb_paths.specs.Walks.{telling_of}
+use Rattle.zeb_program.proofs.Cited.{refl, codes, HasCleanDisk, file_state, conditions, telling_of}
 use Rattle.zeb_program.proofs.MemoryLemmas.{always_clean}
 use Rattle.zeb_program.proofs.ScriptAnswerLemmas.{refused_opening, opened_batch, run_from_nothing, stopped_batch, silent_refusal}
 use Rattle.zeb_program.proofs.batch.run_in_memory.Goals as goal

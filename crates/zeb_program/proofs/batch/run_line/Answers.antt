@@ -1,6 +1,5 @@
-use Rattle.zeb_program.proofs.Cited.{◌≡◌, [], inl, refl, rules, subst, Err, Answered, Misused, state, HasCleanDisk, string_bytes, Appends, bad_line, mark_line, SaysText, Remark, Order, Path, Mark, Bad}
+use Rattle.zeb_program.proofs.Cited.{◌≡◌, [], inl, refl, rules, subst, Err, Answered, Misused, state, HasCleanDisk, string_bytes, Appends, bad_line, mark_line, SaysText, Remark, Order, Path, Mark, Bad, telling_of}
 use Rattle.zeb_program.proofs.AnswerLemmas.{Appends-nil}
-use Rattle.zeb_paths.specs.Walks.{telling_of}
 use Rattle.zeb_program.proofs.DoneLemmas.{done_command, done_path, met_err}
 use Rattle.zeb_program.proofs.OverLemmas.{alone, said_over}
 use Rattle.zeb_program.proofs.PathLemmas.{path_line}

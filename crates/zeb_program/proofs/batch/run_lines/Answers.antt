@@ -1,6 +1,4 @@
-use Rattle.zeb_program.proofs.Cited.{◌≡◌, ◌∙◌, ◌+◌, Err, arith, ap, length, refl, rules, subst, subst₂, sym, IsUtf8, state, HasCleanDisk, conditions, AnswersAsTold, Writes, LineOver, LeadsOn, version_of}
-use Rattle.zeb_paths.specs.Walks.{telling_of}
-use Rattle.zeb_program.specs.Doing.{DoesLine, StopsLine}
+use Rattle.zeb_program.proofs.Cited.{◌≡◌, ◌∙◌, ◌+◌, Err, arith, ap, length, refl, rules, subst, subst₂, sym, IsUtf8, state, HasCleanDisk, conditions, AnswersAsTold, Writes, LineOver, LeadsOn, version_of, telling_of, DoesLine, StopsLine}
 use Rattle.zeb_program.proofs.AnswerLemmas.{answered_all, answered_line, answered_start}
 use Rattle.zeb_program.proofs.DoneLemmas.{done_all, done_line, done_part, done_start, done_stopped}
 use Rattle.zeb_program.proofs.LineStopLemmas.{stop_failure}

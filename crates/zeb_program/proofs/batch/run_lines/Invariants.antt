@@ -1,5 +1,4 @@
-use Rattle.zeb_program.proofs.Cited.{◌≡◌, ◌+◌, ◌<◌, ◌^◌, false, length, state, HasCleanDisk, LineOver, Utf8, shadow}
-use Rattle.zeb_paths.specs.Walks.{telling_of}
+use Rattle.zeb_program.proofs.Cited.{◌≡◌, ◌+◌, ◌<◌, ◌^◌, false, length, state, HasCleanDisk, LineOver, Utf8, shadow, telling_of}
 use Rattle.zeb_program.proofs.AnswerLemmas.{IsAnswered}
 use Rattle.zeb_program.proofs.DoneLemmas.{HasDone}
 use Rattle.zeb_program.proofs.ServingLemmas.{Reaches}

@@ -1,5 +1,4 @@
-use Rattle.zeb_program.proofs.Cited.{refl, codes, HasCleanDisk, file_state, conditions}
-use Rattle.zeb_paths.specs.Walks.{telling_of}
+use Rattle.zeb_program.proofs.Cited.{refl, codes, HasCleanDisk, file_state, conditions, telling_of}
 use Rattle.zeb_program.proofs.MemoryLemmas.{always_clean}
 use Rattle.zeb_program.proofs.ScriptAnswerLemmas.{run_from_nothing, stopped_batch}
 use Rattle.zeb_program.proofs.WordRunLemmas.{ran_on_nothing, refused_on_nothing, stopped_on_nothing}

@@ -1,7 +1,4 @@
-use Rattle.std.proofs.Common.{◌≡◌, ◌∙◌, ap, inr, refl, rules}
-use Rattle.std.specs.Prelude.{Err}
-use Rattle.zeb_program.specs.Registers.{places_of}
-use Rattle.zeb_program.specs.WordRuns.{StopsReading}
+use Rattle.zeb_program.proofs.Cited.{◌≡◌, ◌∙◌, ap, inr, refl, rules, Err, places_of, StopsReading}
 use Rattle.zeb_program.proofs.ScriptAnswerLemmas.{text_input}
 use Rattle.zeb_program.proofs.ResultValues.{passed_failure}
 use Rattle.zeb_program.proofs.WordRunLemmas.{profile_fault}

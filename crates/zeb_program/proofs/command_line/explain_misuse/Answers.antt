@@ -1,5 +1,4 @@
-use Rattle.std.proofs.KnownBytes.{Appends-trans}
-use Rattle.zeb_program.specs.FixedLines.{misuse_line, usage_line}
+use Rattle.zeb_program.proofs.Cited.{Appends-trans, misuse_line, usage_line}
 use Rattle.zeb_program.proofs.command_line.explain_misuse.Goals as goal
 
 pub returns-clause-line : goal.returns-clause-line

@@ -1,7 +1,4 @@
-use Rattle.std.proofs.Common.{subst}
-use Rattle.std.proofs.KnownBytes.{Appends-trans}
-use Rattle.std.specs.Io.KnownBytes.{Appends}
-use Rattle.zeb_program.specs.FixedLines.{usage_line}
+use Rattle.zeb_program.proofs.Cited.{subst, Appends-trans, Appends, usage_line}
 use Rattle.zeb_program.proofs.command_line.misuse.Goals as goal
 
 pub returns-clause-line : goal.returns-clause-line

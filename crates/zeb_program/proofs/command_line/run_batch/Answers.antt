@@ -1,10 +1,4 @@
-use Rattle.std.proofs.Common.{◌≡◌, inl, inr, refl, rules, subst, sym}
-use Rattle.std.specs.Prelude.{Err}
-use Rattle.std.proofs.KnownBytes.{Keeps-refl}
-use Rattle.zeb_register.proofs.Calls.{on_err}
-use Rattle.zeb_program.specs.Registers.{places_of}
-use Rattle.zeb_program.specs.Unanswered.{IsToldSince}
-use Rattle.zeb_program.specs.WordRuns.{IsText, batch_silent}
+use Rattle.zeb_program.proofs.Cited.{◌≡◌, inl, inr, refl, rules, subst, sym, Keeps-refl, Err, places_of, IsToldSince, IsText, batch_silent, on_err}
 use Rattle.zeb_program.proofs.LeftLemmas.{left_unread, starved}
 use Rattle.zeb_program.proofs.StopLemmas.{stop_batch, stop_unread}
 use Rattle.zeb_program.proofs.ToldLemmas.{silent_grows, told_caused, unbegun_grows}

@@ -1,9 +1,4 @@
-use Rattle.std.proofs.Common.{◌≡◌, inl, refl, rules}
-use Rattle.std.specs.Prelude.{Err, string_bytes}
-use Rattle.zeb_register.proofs.Calls.{on_err}
-use Rattle.zeb_program.specs.PrivateWordRuns.{format_of}
-use Rattle.zeb_program.specs.Registers.{places_of}
-use Rattle.zeb_program.specs.Unanswered.{IsToldSince}
+use Rattle.zeb_program.proofs.Cited.{◌≡◌, inl, refl, rules, Err, string_bytes, format_of, places_of, IsToldSince, on_err}
 use Rattle.zeb_program.proofs.LeftLemmas.{left_served, left_unserved, starved}
 use Rattle.zeb_program.proofs.StopLemmas.{stop_serving, stop_unnamed, stop_unserved}
 use Rattle.zeb_program.proofs.ToldLemmas.{told_unanswered, unbegun_grows, unopened_grows}

@@ -1,12 +1,4 @@
-use Rattle.std.proofs.Common.{◌≡◌, inl, refl, rules, string_bytes}
-use Rattle.std.specs.Prelude.{Ok, Err}
-use Rattle.std.proofs.KnownBytes.{Keeps-refl}
-use Rattle.std.specs.Option.{option_map}
-use Rattle.zeb_paths.specs.Walks.{telling_of}
-use Rattle.zeb_register.proofs.Calls.{on_err}
-use Rattle.zeb_program.specs.PrivateWordRuns.{ExplainsRun}
-use Rattle.zeb_program.specs.Registers.{places_of}
-use Rattle.zeb_program.specs.Unanswered.{IsToldSince}
+use Rattle.zeb_program.proofs.Cited.{◌≡◌, inl, refl, rules, string_bytes, Keeps-refl, option_map, Ok, Err, telling_of, ExplainsRun, places_of, IsToldSince, on_err}
 use Rattle.zeb_program.proofs.LeftLemmas.{left_answered, left_refused, starved}
 use Rattle.zeb_program.proofs.ToldLemmas.{told_unanswered}
 use Rattle.zeb_program.proofs.WordRunLemmas.{stopped_told, told_done, told_warns, told_why}

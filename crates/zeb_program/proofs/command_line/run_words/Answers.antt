@@ -1,10 +1,4 @@
-use Rattle.std.proofs.Common.{[], map, string_bytes, inl, inr, arith, refl, subst}
-use Rattle.std.proofs.KnownBytes.{Consumes-nil}
-use Rattle.zeb_program.specs.FixedLines.{starved_line}
-use Rattle.zeb_program.specs.LeftStores.{LeavesByTask, left_alone, left_by_batch, left_by_shell, left_by_task}
-use Rattle.zeb_program.specs.Registers.{places_of}
-use Rattle.zeb_program.specs.Unanswered.{IsToldSince}
-use Rattle.zeb_program.specs.WordAnswers.{misused}
+use Rattle.zeb_program.proofs.Cited.{[], map, string_bytes, inl, inr, arith, refl, subst, Consumes-nil, starved_line, LeavesByTask, left_alone, left_by_batch, left_by_shell, left_by_task, places_of, IsToldSince, misused}
 use Rattle.zeb_program.proofs.ToldLemmas.{stopped_grows, told_alone}
 use Rattle.zeb_program.proofs.WordAnswerLemmas.{batch_words, shell_kept, shell_words, stopped_batch_words, stopped_shell_words, stopped_task_words, task_words}
 use Rattle.zeb_program.proofs.command_line.run_words.Goals as goal

@@ -1,11 +1,4 @@
-use Rattle.std.proofs.Common.{◌≡◌, false, true, refl, rules}
-use Rattle.std.specs.Prelude.{string_bytes}
-use Rattle.zeb_program.specs.PrivateWordRuns.{format_of}
-use Rattle.zeb_program.specs.LeftStores.{unused as none_used}
-use Rattle.zeb_program.specs.Registers.{places_of}
-use Rattle.zeb_program.specs.Scripts.{BeginsRegister}
-use Rattle.zeb_program.specs.Unanswered.{IsToldSince}
-use Rattle.zeb_words.specs.declared.words.LayoutChoice.TheVariants.{Unsaid}
+use Rattle.zeb_program.proofs.Cited.{◌≡◌, false, true, refl, rules, string_bytes, none_used, format_of, places_of, BeginsRegister, IsToldSince, Unsaid}
 use Rattle.zeb_program.proofs.LeftLemmas.{left_lines, left_unopened}
 use Rattle.zeb_program.proofs.StopLemmas.{stop_kept, stop_none, stop_unopened}
 use Rattle.zeb_program.proofs.ToldLemmas.{silent_grows, told_unanswered, unopened_grows}

@@ -1,5 +1,4 @@
-use Rattle.std.proofs.Common.{subst}
-use Rattle.std.specs.Io.KnownBytes.{Appends}
+use Rattle.zeb_program.proofs.Cited.{subst, Appends}
 use Rattle.zeb_program.proofs.command_line.tell_answer.Goals as goal
 
 pub returns-clause-text : goal.returns-clause-text

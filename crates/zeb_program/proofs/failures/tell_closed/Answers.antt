@@ -1,5 +1,4 @@
-use Rattle.std.proofs.Common.{◌≡◌, false, rules}
-use Rattle.zeb_program.specs.FaultLines.{unclosed_line, unclosed_lines}
+use Rattle.zeb_program.proofs.Cited.{◌≡◌, false, rules, unclosed_line, unclosed_lines}
 use Rattle.zeb_program.proofs.FailureLemmas.{line_so, log_told}
 use Rattle.zeb_program.proofs.failures.tell_closed.Goals as goal
 

@@ -1,4 +1,4 @@
-use Rattle.std.proofs.Common.{◌≡◌, false, rules}
+use Rattle.zeb_program.proofs.Cited.{◌≡◌, false, rules}
 use Rattle.zeb_program.specs.FaultLines.{left_line, left_lines}
 use Rattle.zeb_program.proofs.FailureLemmas.{line_so, log_told}
 use Rattle.zeb_program.proofs.failures.tell_left.Goals as goal

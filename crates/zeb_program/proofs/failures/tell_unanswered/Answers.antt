@@ -1,8 +1,4 @@
-use Rattle.std.proofs.Common.{◌≡◌, ◌∙◌, false, ap, rules, subst, sym}
-use Rattle.std.specs.Prelude.{Err, OnErr}
-use Rattle.zeb_program.specs.Statuses.{IsFaultStatus, greater}
-use Rattle.zeb_program.specs.declared.statuses.Status.{Status}
-use Rattle.zeb_program.specs.Closings.{TellsLeft}
+use Rattle.zeb_program.proofs.Cited.{◌≡◌, ◌∙◌, false, ap, rules, subst, sym, Err, OnErr, TellsLeft, IsFaultStatus, greater, Status}
 use Rattle.zeb_program.proofs.StatusLemmas.{fault_greater, max_greater}
 use Rattle.zeb_program.proofs.failures.tell_unanswered.Goals as goal
 

@@ -1,6 +1,4 @@
-use Rattle.std.proofs.KnownBytes.{Appends-trans}
-use Rattle.zeb_program.specs.FaultLines.{cause_line}
-use Rattle.zeb_program.specs.FixedLines.{unreadable_line}
+use Rattle.zeb_program.proofs.Cited.{Appends-trans, cause_line, unreadable_line}
 use Rattle.zeb_program.specs.declared.failures.Cause.TheVariants.{Input}
 use Rattle.zeb_program.proofs.failures.tell_unread.Goals as goal
 

@@ -1,9 +1,5 @@
-use Rattle.std.proofs.Common.{◌≡◌, ℕ, List, [], ◌∷◌, ◌++◌, append_assoc, string_bytes, subst, sym}
-use Rattle.std.specs.Prelude.{codes}
+use Rattle.zeb_program.proofs.Cited.{◌≡◌, ℕ, List, [], ◌∷◌, ◌++◌, append_assoc, string_bytes, subst, sym, Appends-trans, Appends, codes, cause_line, file_line, file_lines}
 use Rattle.std.specs.Fmt.{decimal}
-use Rattle.std.specs.Io.KnownBytes.{Appends}
-use Rattle.std.proofs.KnownBytes.{Appends-trans}
-use Rattle.zeb_program.specs.FaultLines.{cause_line, file_line, file_lines}
 use Rattle.zeb_program.proofs.failures.write_cause.Goals as goal
 
 -- the parts of a line, as they are written and as they are said

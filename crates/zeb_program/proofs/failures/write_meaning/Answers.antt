@@ -1,6 +1,4 @@
-use Rattle.std.proofs.Common.{◌≡◌, false, rules, subst, true}
-use Rattle.std.specs.Prelude.{Some}
-use Rattle.std.specs.Io.KnownBytes.{Appends}
+use Rattle.zeb_program.proofs.Cited.{◌≡◌, false, rules, subst, true, Appends, Some}
 use Rattle.zeb_program.specs.Diagnostics.{is_placed, meaning_of}
 use Rattle.zeb_program.proofs.FailureLemmas.{bare_meaning, placed_meaning}
 use Rattle.zeb_program.proofs.failures.write_meaning.Goals as goal

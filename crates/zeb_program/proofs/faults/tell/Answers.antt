@@ -1,6 +1,5 @@
-use Rattle.zeb_program.proofs.Cited.{◌≡◌, ℕ, List, [], ◌∷◌, ◌++◌, append_assoc, refl, string_bytes, subst, sym, codes, Appends, Writes, Fault, Failed}
+use Rattle.zeb_program.proofs.Cited.{◌≡◌, ℕ, List, [], ◌∷◌, ◌++◌, append_assoc, refl, string_bytes, subst, sym, codes, Appends, Writes, Fault, Failed, TellsFault, profile_line, unreadable_path}
 use Rattle.zeb_profile.specs.Faults.{fault_text}
-use Rattle.zeb_program.specs.FaultLines.{TellsFault, profile_line, unreadable_path}
 use Rattle.zeb_program.proofs.faults.tell.Goals as goal
 
 -- the parts of a line, as they are written and as they are said

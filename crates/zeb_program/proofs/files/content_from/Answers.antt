@@ -1,4 +1,4 @@
-use Rattle.std.proofs.Common.{Err, ap}
+use Rattle.zeb_program.proofs.Cited.{Err, ap}
 use Rattle.zeb_program.proofs.FileLemmas.{unread_content}
 use Rattle.zeb_program.proofs.files.content_from.Goals as goal
 

@@ -1,7 +1,5 @@
+use Rattle.zeb_program.proofs.Cited.{Some, WalksOn, dues_left, telling_of, IsGiven}
 use Rattle.std.proofs.Common.{◌≡◌, ◌∙◌, ◌++◌, ◌∷◌, [], Ok, ap, arith, inl, inr, length-append, map, refl, string_bytes, subst}
-use Rattle.std.specs.Prelude.{Some}
-use Rattle.zeb_paths.specs.Walks.{WalksOn, dues_left, telling_of}
-use Rattle.zeb_program.specs.PrivateFiles.{IsGiven}
 use Rattle.zeb_program.proofs.ReaderLemmas.{count_before, found_nth, walk_more, walk_start}
 use Rattle.zeb_program.proofs.files.path_of_file.Goals as goal
 

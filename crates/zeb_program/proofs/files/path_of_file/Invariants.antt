@@ -1,7 +1,4 @@
-use Rattle.std.proofs.Common.{◌≡◌, ◌≤◌, ◌+◌, ℕ, List, length, map, string_bytes}
-use Rattle.std.specs.Prelude.{◌⊎◌}
-use Rattle.zeb_paths.specs.Walks.{dues_left, telling_of}
-use Rattle.zeb_program.specs.WalkedFiles.{WalksFrom}
+use Rattle.zeb_program.proofs.Cited.{◌≡◌, ◌≤◌, ◌+◌, ℕ, List, length, map, string_bytes, ◌⊎◌, dues_left, telling_of, WalksFrom}
 use Rattle.zeb_program.proofs.files.path_of_file.Given as goal
 
 -- So many files were passed, and the paths of the others are left.

@@ -1,6 +1,5 @@
-use Rattle.std.proofs.Common.{◌≡◌, Err, Ok, ap, refl, string_bytes, subst}
+use Rattle.zeb_program.proofs.Cited.{◌≡◌, Err, Ok, ap, refl, string_bytes, subst, profile_of}
 use Rattle.zeb_profile.specs.Outcomes.{FailsPlaced}
-use Rattle.zeb_profile.specs.Profiles.{profile_of}
 use Rattle.zeb_program.proofs.FileLemmas.{profile_text, unread_profile}
 use Rattle.zeb_program.proofs.files.profile_from.Goals as goal
 

@@ -1,6 +1,4 @@
-use Rattle.std.proofs.Common.{◌≡◌, ◌∙◌, ap, refl, rules, subst}
-use Rattle.std.specs.Prelude.{string_bytes}
-use Rattle.zeb_program.specs.ProfileFiles.{ReadsProfile}
+use Rattle.zeb_program.proofs.Cited.{◌≡◌, ◌∙◌, ap, refl, rules, subst, string_bytes, ReadsProfile}
 use Rattle.zeb_program.proofs.FileLemmas.{read_as_told}
 use Rattle.zeb_program.proofs.files.read_profile.Goals as goal
 

@@ -1,9 +1,5 @@
-use Rattle.std.proofs.Common.{Err, Ok, ap, map, rules, string_bytes, subst, ◌∙◌, ◌≡◌}
-use Rattle.std.specs.Prelude.{IfErr}
-use Rattle.zeb_program.specs.PrivateFaults.{IsUnread, fault_of}
-use Rattle.zeb_paths.specs.Walks.{WalksOn, dues_left, paths_left, telling_of}
+use Rattle.zeb_program.proofs.Cited.{Err, Ok, ap, map, rules, string_bytes, subst, ◌∙◌, ◌≡◌, IfErr, WalksOn, dues_left, paths_left, telling_of, IsUnread, fault_of, sure_bytes}
 use Rattle.zeb_paths.proofs.WalkLemmas.{walks_ended, walks_told, walks_untold}
-use Rattle.zeb_program.specs.PrivateFiles.{sure_bytes}
 use Rattle.zeb_program.proofs.ReaderLemmas.{Ends, GivesNext, met_end, met_fault, met_next, met_start, reads_all, reads_more, reads_start, sure_of, sure_or_none, unfound_faults}
 use Rattle.zeb_program.proofs.files.readers_of.Goals as goal
 

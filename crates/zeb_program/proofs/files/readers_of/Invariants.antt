@@ -1,7 +1,4 @@
-use Rattle.std.proofs.Common.{◌≡◌, List, ℕ, map, string_bytes}
-use Rattle.zeb_paths.specs.Walks.{dues_left, paths_left, telling_of, walk_weight}
-use Rattle.zeb_program.specs.PrivateFiles.{sure_bytes}
-use Rattle.zeb_program.specs.TaskAnswers.{AreTold}
+use Rattle.zeb_program.proofs.Cited.{◌≡◌, List, ℕ, map, string_bytes, dues_left, paths_left, telling_of, walk_weight, sure_bytes, AreTold}
 use Rattle.zeb_program.proofs.ReaderLemmas.{IsMet, ReadsSoFar}
 use Rattle.zeb_program.proofs.files.readers_of.Given as goal
 

@@ -1,4 +1,4 @@
-use Rattle.std.proofs.Common.{◌≡◌, arith, rules, subst, sym}
+use Rattle.zeb_program.proofs.Cited.{◌≡◌, arith, rules, subst, sym}
 use Rattle.zeb_program.specs.Forms.{IsFormOf, form_of}
 use Rattle.zeb_program.proofs.FormLemmas.{read_form}
 use Rattle.zeb_program.proofs.forms.form_from.Goals as goal

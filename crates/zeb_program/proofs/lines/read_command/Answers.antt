@@ -1,4 +1,4 @@
-use Rattle.std.proofs.Common.{◌∙◌, sym}
+use Rattle.zeb_program.proofs.Cited.{◌∙◌, sym}
 use Rattle.zeb_program.proofs.BatchLemmas.{names_find, names_page, names_scan}
 use Rattle.zeb_program.proofs.lines.read_command.Goals as goal
 

@@ -1,4 +1,4 @@
-use Rattle.std.proofs.Common.{refl}
+use Rattle.zeb_program.proofs.Cited.{refl}
 use Rattle.zeb_program.proofs.MemoryLemmas.{always_clean, opened_is_empty}
 use Rattle.zeb_program.proofs.memory.open_in_memory.Goals as goal
 

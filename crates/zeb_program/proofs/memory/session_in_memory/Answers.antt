@@ -1,8 +1,5 @@
-use Rattle.zeb_program.proofs.Cited.{inr, refl, None, Ok, file_state, over_files, HasCleanDisk, IsEmpty, nothing_yet}
+use Rattle.zeb_program.proofs.Cited.{inr, refl, None, Ok, file_state, over_files, HasCleanDisk, IsEmpty, nothing_yet, unopened_refusal, TakesOpen, HoldsNothing}
 use Rattle.zeb_program.proofs.MemoryLemmas.{always_clean}
-use Rattle.zeb_program.specs.FaultAnswers.{unopened_refusal}
-use Rattle.zeb_program.specs.PrivateWordRuns.{TakesOpen}
-use Rattle.zeb_program.specs.ScriptAnswers.{HoldsNothing}
 use Rattle.zeb_program.proofs.ResultValues.{made_of}
 use Rattle.zeb_program.proofs.OpeningLemmas.{fails_anyway}
 use Rattle.zeb_program.proofs.memory.session_in_memory.Goals as goal

@@ -1,8 +1,5 @@
-use Rattle.std.proofs.Common.{◌∙◌, ap}
-use Rattle.std.specs.Prelude.{Ok, Err}
-use Rattle.sqlite.specs.Held.{state}
+use Rattle.zeb_program.proofs.Cited.{state, ◌∙◌, ap, Ok, Err, Blocks, Leaves}
 use Rattle.zeb_change.specs.declared.refusals.Refusal.TheVariants.{Memory, Store}
-use Rattle.zeb_program.specs.declared.opening.UsedLayout.TheVariants.{Blocks, Leaves}
 use Rattle.zeb_program.proofs.LayoutLemmas.{failed_so, keeps_leaves, lacks_leaves, looked_once, unread_leaves}
 use Rattle.zeb_program.proofs.opening.kept_layout.Goals as goal
 

@@ -1,9 +1,4 @@
-use Rattle.std.proofs.Common.{refl, subst, sym}
-use Rattle.sqlite.specs.Held.{state}
-use Rattle.zeb_register.specs.Formats.{packed_leaves}
-use Rattle.zeb_program.specs.PrivateWordRuns.{TellsLayout}
-use Rattle.zeb_program.specs.Registers.{UsedAs}
-use Rattle.zeb_program.specs.declared.opening.UsedLayout.TheVariants.{Leaves}
+use Rattle.zeb_program.proofs.Cited.{state, refl, subst, sym, TellsLayout, UsedAs, Leaves, packed_leaves}
 use Rattle.zeb_program.proofs.LayoutLemmas.{unlooked}
 use Rattle.zeb_program.proofs.opening.layout_of.Goals as goal
 

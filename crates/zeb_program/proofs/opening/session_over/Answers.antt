@@ -1,7 +1,6 @@
 -- What adopting the store says, of what is given on.
-use Rattle.zeb_program.proofs.Cited.{refl, Some, Held, state, HasCleanDisk, Ghosts, Store, AdoptLasts}
+use Rattle.zeb_program.proofs.Cited.{refl, Some, Held, state, HasCleanDisk, Ghosts, Store, AdoptLasts, TakesOpen}
 use Rattle.zeb_engine.specs.Taking.{TakesOver}
-use Rattle.zeb_program.specs.PrivateWordRuns.{TakesOpen}
 use Rattle.zeb_program.proofs.OpenedStores.{opened_store}
 use Rattle.zeb_program.proofs.ResultValues.{both_so, given_err, holds_of, narrowed_fault, narrowed_so}
 use Rattle.zeb_program.proofs.opening.session_over.Goals as goal

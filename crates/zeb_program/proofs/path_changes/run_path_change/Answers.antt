@@ -1,7 +1,4 @@
-use Rattle.std.proofs.Common.{◌∙◌, [], ◌∷◌, ap, inl, inr, map, refl, string_bytes}
-use Rattle.sqlite.specs.Held.{state}
-use Rattle.sqlite.specs.State.{HasCleanDisk}
-use Rattle.zeb_paths.specs.Walks.{telling_of}
+use Rattle.zeb_program.proofs.Cited.{state, HasCleanDisk, ◌∙◌, [], ◌∷◌, ap, inl, inr, map, refl, string_bytes, telling_of}
 use Rattle.zeb_program.proofs.DoneLemmas.{met_done, met_either}
 use Rattle.zeb_program.proofs.LineStopLemmas.{done_fault, done_reply, same_err, stopped_fault}
 use Rattle.zeb_program.proofs.OverLemmas.{refused_path, replied_path}

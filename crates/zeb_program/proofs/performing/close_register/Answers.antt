@@ -1,7 +1,4 @@
-use Rattle.std.proofs.Common.{◌∙◌, ap, rules, subst, sym}
-use Rattle.std.specs.Prelude.{IsTrue}
-use Rattle.sqlite.specs.Effect.{Database}
-use Rattle.sqlite.specs.Held.{state}
+use Rattle.zeb_program.proofs.Cited.{Database, state, ◌∙◌, ap, rules, subst, sym, IsTrue}
 use Rattle.sqlite_catalog.proofs.QuietLemmas.{quiet_then}
 use Rattle.sqlite_trees.specs.View.{IsQuiet}
 use Rattle.zeb_paths.specs.Closing.{HasReason}

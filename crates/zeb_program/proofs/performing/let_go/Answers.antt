@@ -1,6 +1,4 @@
-use Rattle.std.proofs.Common.{subst, sym}
-use Rattle.std.specs.Prelude.{IfSome}
-use Rattle.zeb_program.specs.Registers.{IsLetGo}
+use Rattle.zeb_program.proofs.Cited.{subst, sym, IfSome, IsLetGo}
 use Rattle.zeb_program.proofs.performing.let_go.Goals as goal
 
 pub returns-in-Some-clause-told : goal.returns-in-Some-clause-told

@@ -1,7 +1,4 @@
-use Rattle.std.proofs.Common.{refl}
-use Rattle.zeb_program.specs.PrivateWordRuns.{format_of}
-use Rattle.zeb_program.specs.Registers.{places_of}
-use Rattle.zeb_program.specs.WordRuns.{not_read}
+use Rattle.zeb_program.proofs.Cited.{refl, format_of, places_of, not_read}
 use Rattle.zeb_program.proofs.WordRunLemmas.{opens_under, stops_so}
 use Rattle.zeb_program.proofs.performing.open.Goals as goal
 use Rattle.zeb_engine.specs.Sessions.{conditions_in}

@@ -1,11 +1,4 @@
-use Rattle.std.proofs.Common.{◌≡◌, rules, subst, sym}
-use Rattle.std.specs.Prelude.{Err, IfErr}
-use Rattle.zeb_change.specs.Conditions.{conditions}
-use Rattle.zeb_register.specs.Formats.{packed_blocks, version_of}
-use Rattle.zeb_program.specs.PrivateFaults.{IsOpeningFault}
-use Rattle.zeb_program.specs.PrivateWordRuns.{format_of}
-use Rattle.zeb_program.specs.Registers.{places_of, untold}
-use Rattle.zeb_program.specs.ScriptAnswers.{AreScriptConditions}
+use Rattle.zeb_program.proofs.Cited.{◌≡◌, rules, subst, sym, Err, IfErr, conditions, IsOpeningFault, format_of, places_of, untold, AreScriptConditions, packed_blocks, version_of}
 use Rattle.zeb_program.proofs.LayoutLemmas.{conditions_in, looked_at, looked_over}
 use Rattle.zeb_program.proofs.OpeningLemmas.{opening_fault}
 use Rattle.zeb_program.proofs.performing.open_register.Goals as goal

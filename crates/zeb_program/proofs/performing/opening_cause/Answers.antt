@@ -1,7 +1,4 @@
-use Rattle.std.proofs.Common.{◌≡◌, None, false, refl, subst, sym, true}
-use Rattle.std.specs.Prelude.{IfOk, IsTrue}
-use Rattle.sqlite.specs.Held.{state}
-use Rattle.zeb_program.specs.Registers.{IsForeignOr}
+use Rattle.zeb_program.proofs.Cited.{state, ◌≡◌, None, false, refl, subst, sym, true, IfOk, IsTrue, IsForeignOr}
 use Rattle.zeb_program.proofs.performing.opening_cause.Goals as goal
 
 pub returns-in-Ok-2-clause-other : goal.returns-in-Ok-2-clause-other

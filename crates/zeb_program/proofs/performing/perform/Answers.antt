@@ -1,9 +1,4 @@
-use Rattle.std.proofs.Common.{◌≡◌, false, true, refl, rules, inl, inr}
-use Rattle.std.specs.Prelude.{Err}
-use Rattle.zeb_program.specs.PrivateWordRuns.{ExplainsFailure, ExplainsRun}
-use Rattle.zeb_program.specs.Registers.{nothing_met, places_of}
-use Rattle.zeb_program.specs.TaskAnswers.{paths_of}
-use Rattle.zeb_program.specs.WordRuns.{unread, performed, ServesUnder, Performs}
+use Rattle.zeb_program.proofs.Cited.{◌≡◌, false, true, refl, rules, inl, inr, Err, ExplainsFailure, ExplainsRun, nothing_met, places_of, paths_of, unread, performed, ServesUnder, Performs}
 use Rattle.zeb_program.proofs.WordRunLemmas.{begun_or, gives_closed, gives_for, on_nothing, without_store, why_for}
 use Rattle.zeb_program.proofs.performing.perform.Goals as goal
 

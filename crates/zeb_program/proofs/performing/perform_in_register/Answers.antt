@@ -1,12 +1,4 @@
-use Rattle.std.proofs.Common.{List, subst, ℕ}
-use Rattle.std.specs.Prelude.{IfOk, Option, string_bytes}
-use Rattle.std.specs.Option.{option_map}
-use Rattle.zeb_paths.specs.Walks.{telling_of}
-use Rattle.zeb_program.specs.Registers.{places_of}
-use Rattle.zeb_program.specs.PrivateWordRuns.{ExplainsFailure, ServesHeld, format_of}
-use Rattle.zeb_program.specs.TaskAnswers.{paths_of}
-use Rattle.zeb_program.specs.Warnings.{WarnsOf}
-use Rattle.zeb_program.specs.WordRuns.{ServesUnder}
+use Rattle.zeb_program.proofs.Cited.{List, subst, ℕ, option_map, IfOk, Option, string_bytes, telling_of, ExplainsFailure, ServesHeld, format_of, places_of, paths_of, WarnsOf, ServesUnder}
 use Rattle.zeb_program.proofs.WordRunLemmas.{answered_kept, gives_closed, unopened_register}
 use Rattle.zeb_program.proofs.performing.perform_in_register.Goals as goal
 use Rattle.zeb_engine.specs.Sessions.{conditions_in}

@@ -1,9 +1,4 @@
-use Rattle.std.proofs.Common.{refl}
-use Rattle.sqlite.specs.Files.{file_state}
-use Rattle.zeb_paths.specs.Walks.{telling_of}
-use Rattle.zeb_register.specs.Formats.{packed_blocks}
-use Rattle.zeb_program.specs.PrivateWordRuns.{ServesOnNothing}
-use Rattle.zeb_program.specs.WordRuns.{IsOwnOr}
+use Rattle.zeb_program.proofs.Cited.{file_state, refl, telling_of, ServesOnNothing, IsOwnOr, packed_blocks}
 use Rattle.zeb_program.proofs.MemoryLemmas.{always_clean}
 use Rattle.zeb_program.proofs.WarningLemmas.{warns_of}
 use Rattle.zeb_program.proofs.WordRunLemmas.{gives_for, served_nothing}

@@ -1,7 +1,4 @@
-use Rattle.std.proofs.Common.{subst, sym}
-use Rattle.std.specs.Prelude.{Err, string_bytes}
-use Rattle.zeb_program.specs.declared.faults.Fault.{Fault}
-use Rattle.zeb_program.specs.ProfileFiles.{ReadsProfile}
+use Rattle.zeb_program.proofs.Cited.{subst, sym, Err, string_bytes, ReadsProfile, Fault}
 use Rattle.zeb_program.proofs.performing.profile_at.Goals as goal
 
 pub returns-in-Err-clause-read : goal.returns-in-Err-clause-read

@@ -1,6 +1,4 @@
-use Rattle.zeb_paths.specs.Walks.{telling_of}
-use Rattle.zeb_program.specs.PrivateWordRuns.{ExplainsFailure, GivesClosed, ServesHeld}
-use Rattle.zeb_program.specs.TaskAnswers.{paths_of}
+use Rattle.zeb_program.proofs.Cited.{telling_of, ExplainsFailure, GivesClosed, ServesHeld, paths_of}
 use Rattle.zeb_program.proofs.LayoutLemmas.{in_blocks, in_leaves}
 use Rattle.zeb_program.proofs.performing.serve_task.Goals as goal
 

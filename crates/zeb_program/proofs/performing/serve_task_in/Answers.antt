@@ -1,6 +1,4 @@
-use Rattle.zeb_paths.specs.Walks.{telling_of}
-use Rattle.zeb_program.specs.PrivateWordRuns.{ServesHeld}
-use Rattle.zeb_program.specs.WordRuns.{IsOwnOr}
+use Rattle.zeb_program.proofs.Cited.{telling_of, ServesHeld, IsOwnOr}
 use Rattle.zeb_program.proofs.WarningLemmas.{warns_of}
 use Rattle.zeb_program.proofs.WordRunLemmas.{gives_for, served_held}
 use Rattle.zeb_program.proofs.performing.serve_task_in.Goals as goal

@@ -1,7 +1,5 @@
-use Rattle.std.specs.Prelude.{None}
+use Rattle.zeb_program.proofs.Cited.{None, unopened_refusal, places_of, whole_but}
 use Rattle.std.proofs.Math.Path.{fun_ext}
-use Rattle.zeb_program.specs.Registers.{places_of, whole_but}
-use Rattle.zeb_program.specs.FaultAnswers.{unopened_refusal}
 use Rattle.zeb_program.proofs.ResultValues.{ok_is_no_err}
 use Rattle.zeb_program.proofs.OpeningLemmas.{fails_opening, opening_fault, taken_store}
 use Rattle.zeb_program.proofs.performing.take_register.Goals as goal

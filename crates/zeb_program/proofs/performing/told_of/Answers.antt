@@ -1,9 +1,4 @@
-use Rattle.std.proofs.Common.{◌≡◌, ◌∙◌, Err, None, Ok, ap, inl, refl, rules, string_bytes, subst, sym}
-use Rattle.std.specs.Prelude.{IfOk}
-use Rattle.std.specs.Result.{IsOkAnd}
-use Rattle.zeb_program.specs.PrivateServing.{StandsFor}
-use Rattle.zeb_program.specs.PrivateWarnings.{IsServedFor, warned_in}
-use Rattle.zeb_program.specs.Warnings.{MayWarn}
+use Rattle.zeb_program.proofs.Cited.{◌≡◌, ◌∙◌, Err, None, Ok, ap, inl, refl, rules, string_bytes, subst, sym, IfOk, IsOkAnd, StandsFor, IsServedFor, warned_in, MayWarn}
 use Rattle.zeb_program.proofs.WarningLemmas.{shown_warned, warned}
 use Rattle.zeb_program.proofs.performing.told_of.Goals as goal
 

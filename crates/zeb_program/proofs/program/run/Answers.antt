@@ -1,11 +1,5 @@
-use Rattle.std.proofs.Common.{◌≢◌, [], length, map, refl, rules, string_bytes, sym}
+use Rattle.zeb_program.proofs.Cited.{◌≢◌, [], length, map, refl, rules, string_bytes, sym, nil_from_length, IfSome, telling_of, places_of, EndsScript, EndsWords}
 use Rattle.std.proofs.lemmas.Bool.{eqb-true}
-use Rattle.std.proofs.lemmas.List.{nil_from_length}
-use Rattle.std.specs.Prelude.{IfSome}
-use Rattle.zeb_paths.specs.Walks.{telling_of}
-use Rattle.zeb_program.specs.Registers.{places_of}
-use Rattle.zeb_program.specs.ScriptAnswers.{EndsScript}
-use Rattle.zeb_program.specs.WordAnswers.{EndsWords}
 use Rattle.zeb_program.proofs.LeftLemmas.{ends_leaving}
 use Rattle.zeb_program.proofs.ScriptAnswerLemmas.{ended_script, ends_with, kept_script, tells_at_most}
 use Rattle.zeb_program.proofs.WordAnswerLemmas.{ended_words, kept_words}

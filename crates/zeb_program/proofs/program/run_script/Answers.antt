@@ -1,7 +1,4 @@
-use Rattle.std.proofs.Common.{ap, refl, subst, sym}
-use Rattle.std.specs.Prelude.{Err}
-use Rattle.zeb_paths.specs.Walks.{telling_of}
-use Rattle.zeb_program.specs.Inputs.{IsInput}
+use Rattle.zeb_program.proofs.Cited.{ap, refl, subst, sym, Err, telling_of, IsInput}
 use Rattle.zeb_program.proofs.ScriptAnswerLemmas.{text_input, unread_script, silent_script}
 use Rattle.zeb_program.proofs.program.run_script.Goals as goal
 

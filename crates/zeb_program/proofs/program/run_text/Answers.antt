@@ -1,7 +1,4 @@
-use Rattle.std.specs.Prelude.{IsOk}
-use Rattle.zeb_paths.specs.Walks.{telling_of}
-use Rattle.zeb_profile.specs.Profiles.{profile_of}
-use Rattle.std.proofs.Common.{subst}
+use Rattle.zeb_program.proofs.Cited.{subst, IsOk, telling_of, profile_of}
 use Rattle.zeb_program.proofs.ScriptAnswerLemmas.{is_given, cut_profile, faulty_script, alone_script, ran_script, stopped_script}
 use Rattle.zeb_program.proofs.program.run_text.Goals as goal
 

@@ -1,8 +1,4 @@
-use Rattle.std.proofs.Common.{◌≡◌, ◌∙◌, ap, rules, subst, sym}
-use Rattle.std.specs.Prelude.{Err, Ok}
-use Rattle.zeb_program.specs.PrivateWordRuns.{ClosesAloud, EndsSession}
-use Rattle.zeb_program.specs.Statuses.{greater}
-use Rattle.zeb_program.specs.declared.statuses.Status.{Status}
+use Rattle.zeb_program.proofs.Cited.{◌≡◌, ◌∙◌, ap, rules, subst, sym, Err, Ok, ClosesAloud, EndsSession, greater, Status}
 use Rattle.zeb_program.proofs.StatusLemmas.{max_greater}
 use Rattle.zeb_program.proofs.register_lines.end_session.Goals as goal
 

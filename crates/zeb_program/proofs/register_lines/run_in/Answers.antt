@@ -1,14 +1,4 @@
-use Rattle.std.proofs.Common.{◌≡◌, false, refl}
-use Rattle.sqlite.specs.Held.{state}
-use Rattle.sqlite.specs.State.{HasCleanDisk}
-use Rattle.zeb_paths.specs.Walks.{telling_of}
-use Rattle.zeb_program.specs.Answers.{AnswersBatch, Writes}
-use Rattle.zeb_program.specs.Doing.{StopsPart}
-use Rattle.zeb_program.specs.OverTables.{LinesOver}
-use Rattle.zeb_program.specs.declared.statuses.Status.{Status}
-use Rattle.zeb_program.specs.Serving.{LeadsOn}
-use Rattle.zeb_program.specs.PrivateWordRuns.{ClosesAloud, RunsIn, StopsIn}
-use Rattle.zeb_register.proofs.Calls.{on_err}
+use Rattle.zeb_program.proofs.Cited.{state, HasCleanDisk, ◌≡◌, false, refl, telling_of, AnswersBatch, Writes, StopsPart, LinesOver, ClosesAloud, RunsIn, StopsIn, LeadsOn, Status, on_err}
 use Rattle.zeb_program.proofs.ToldLemmas.{session_grows}
 use Rattle.zeb_program.proofs.SessionLemmas.{both_ok, ended_err, ended_ok, left_batch}
 use Rattle.zeb_program.proofs.register_lines.run_in.Goals as goal

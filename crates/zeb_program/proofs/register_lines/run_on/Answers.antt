@@ -1,8 +1,4 @@
-use Rattle.std.proofs.Common.{◌≡◌, false}
-use Rattle.std.specs.Prelude.{IfOk}
-use Rattle.zeb_paths.specs.Walks.{telling_of}
-use Rattle.zeb_program.specs.Doing.{DoesBatch}
-use Rattle.zeb_program.specs.PrivateWordRuns.{EndsStarved, LeavesHeld, RunsIn, StopsIn}
+use Rattle.zeb_program.proofs.Cited.{◌≡◌, false, IfOk, telling_of, DoesBatch, EndsStarved, LeavesHeld, RunsIn, StopsIn}
 use Rattle.zeb_program.proofs.LayoutLemmas.{in_blocks, in_leaves}
 use Rattle.zeb_program.proofs.register_lines.run_on.Goals as goal
 

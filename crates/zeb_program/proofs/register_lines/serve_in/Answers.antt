@@ -1,13 +1,5 @@
-use Rattle.std.proofs.Common.{◌≡◌, false, refl, subst}
-use Rattle.std.specs.Prelude.{IfSome}
-use Rattle.std.specs.Io.KnownBytes.{IsAtEnd}
-use Rattle.sqlite.specs.Held.{state}
-use Rattle.sqlite.specs.State.{HasCleanDisk}
-use Rattle.zeb_paths.specs.Walks.{telling_of}
-use Rattle.zeb_program.specs.Closings.{TellsClosed}
-use Rattle.zeb_program.specs.Doing.{DoesShell, ServesText, StopsText}
+use Rattle.zeb_program.proofs.Cited.{state, HasCleanDisk, ◌≡◌, false, refl, subst, IsAtEnd, IfSome, telling_of, TellsClosed, DoesShell, ServesText, StopsText, ClosesAloud, ServesIn, StopsServing}
 use Rattle.zeb_program.specs.declared.line_input.LineFault.TheVariants.{Memory}
-use Rattle.zeb_program.specs.PrivateWordRuns.{ClosesAloud, ServesIn, StopsServing}
 use Rattle.zeb_program.proofs.ToldLemmas.{session_grows}
 use Rattle.zeb_program.proofs.SessionLemmas.{both_err, ended_err, ended_ok, ended_failed, ended_whole, left_shell}
 use Rattle.zeb_program.proofs.register_lines.serve_in.Goals as goal

@@ -1,5 +1,4 @@
-use Rattle.zeb_program.proofs.Cited.{◌∙◌, ap, state, HasCleanDisk, first_line, LineOver}
-use Rattle.zeb_paths.specs.Walks.{telling_of}
+use Rattle.zeb_program.proofs.Cited.{◌∙◌, ap, state, HasCleanDisk, first_line, LineOver, telling_of}
 use Rattle.zeb_program.proofs.DoneLemmas.{done_text, no_text_done}
 use Rattle.zeb_program.proofs.ShellLemmas.{no_text_answer, text_answer}
 use Rattle.zeb_program.proofs.ShellOverLemmas.{no_text_over, text_over}

@@ -1,5 +1,4 @@
-use Rattle.zeb_program.proofs.Cited.{◌≡◌, Err, refl, rules, state, LineOver, Memory}
-use Rattle.zeb_paths.specs.Walks.{telling_of}
+use Rattle.zeb_program.proofs.Cited.{◌≡◌, Err, refl, rules, state, LineOver, Memory, telling_of}
 use Rattle.zeb_program.proofs.DoneLemmas.{done_next}
 use Rattle.zeb_program.proofs.LineStopLemmas.{stopped_next, stopped_still}
 use Rattle.zeb_program.proofs.LineInputLemmas.{ends_read}

@@ -1,6 +1,4 @@
-use Rattle.zeb_program.proofs.Cited.{◌≡◌, ◌∙◌, ◌+◌, inr, refl, rules, subst₂, IfErr, IfSome, state, HasCleanDisk, conditions, version_of, Writes, first_line, LineOver, Memory}
-use Rattle.zeb_paths.specs.Walks.{telling_of}
-use Rattle.zeb_program.specs.Doing.{DoesLine, KeepsUnread}
+use Rattle.zeb_program.proofs.Cited.{◌≡◌, ◌∙◌, ◌+◌, inr, refl, rules, subst₂, IfErr, IfSome, state, HasCleanDisk, conditions, version_of, Writes, first_line, LineOver, Memory, telling_of, DoesLine, KeepsUnread}
 use Rattle.zeb_program.proofs.DoneLemmas.{done_unread, none_next, served_line, served_part, served_start}
 use Rattle.zeb_program.proofs.LineStopLemmas.{stopped_still}
 use Rattle.zeb_program.proofs.LineInputLemmas.{ends_before}

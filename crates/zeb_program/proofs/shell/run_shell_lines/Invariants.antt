@@ -1,5 +1,4 @@
-use Rattle.zeb_program.proofs.Cited.{◌≡◌, false, state, HasCleanDisk, LineOver}
-use Rattle.zeb_paths.specs.Walks.{telling_of}
+use Rattle.zeb_program.proofs.Cited.{◌≡◌, false, state, HasCleanDisk, LineOver, telling_of}
 use Rattle.zeb_program.proofs.DoneLemmas.{HasServed}
 use Rattle.zeb_program.proofs.ShellLemmas.{Serves}
 use Rattle.zeb_program.proofs.ShellOverLemmas.{Goes}

@@ -1,5 +1,4 @@
-use Rattle.zeb_program.proofs.Cited.{◌∙◌, ap, Err}
-use Rattle.zeb_paths.specs.Walks.{telling_of}
+use Rattle.zeb_program.proofs.Cited.{◌∙◌, ap, Err, telling_of}
 use Rattle.zeb_program.proofs.ShellTextLemmas.{read_by, read_sound, served_all, served_part}
 use Rattle.zeb_program.proofs.shell.serve_lines.Goals as goal
 use Rattle.zeb_engine.specs.Sessions.{conditions_in}

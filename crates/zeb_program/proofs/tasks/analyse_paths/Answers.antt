@@ -1,9 +1,5 @@
-use Rattle.std.proofs.Common.{◌≡◌, ◌∙◌, ◌<◌, ◌^◌, Err, Ok, ap, arith, map, refl, rules, string_bytes, subst, sym}
-use Rattle.zeb_engine.specs.Analysed.{HasLines}
+use Rattle.zeb_program.proofs.Cited.{◌≡◌, ◌∙◌, ◌<◌, ◌^◌, Err, Ok, ap, arith, map, refl, rules, string_bytes, subst, sym, HasLines, telling_of, StandsFor, records_in, unmarked_of, warning_of}
 use Rattle.zeb_engine.proofs.AnalysedReplies.{is_analysed, is_counted, is_printed, shown_reply}
-use Rattle.zeb_paths.specs.Walks.{telling_of}
-use Rattle.zeb_program.specs.PrivateServing.{StandsFor}
-use Rattle.zeb_program.specs.Warnings.{records_in, unmarked_of, warning_of}
 use Rattle.zeb_program.specs.declared.faults.Fault.TheVariants.{Refused}
 use Rattle.zeb_profile.specs.Indexes.{index_names}
 use Rattle.zeb_program.proofs.WarningLemmas.{lines_counted}

@@ -1,11 +1,4 @@
-use Rattle.std.specs.Prelude.{IfErr, OnErr}
-use Rattle.sqlite.specs.Held.{state}
-use Rattle.zeb_register.specs.Calls.{ChangesNothing}
-use Rattle.zeb_program.specs.FaultAnswers.{GivesAnswer}
-use Rattle.zeb_program.specs.OverTables.{ServesOver}
-use Rattle.zeb_program.specs.PrivateFaults.{IsUnread}
-use Rattle.zeb_program.specs.Serving.{AnswersFrom}
-use Rattle.zeb_program.specs.TaskAnswers.{AnswersCommand}
+use Rattle.zeb_program.proofs.Cited.{state, IfErr, OnErr, GivesAnswer, ServesOver, IsUnread, AnswersFrom, AnswersCommand, ChangesNothing}
 use Rattle.zeb_program.proofs.OverLemmas.{as_given, given_read, given_refused, gives}
 use Rattle.zeb_program.proofs.TaskLemmas.{given_command}
 use Rattle.zeb_program.proofs.tasks.ask.Goals as goal

@@ -1,7 +1,4 @@
-use Rattle.std.proofs.Common.{inl, refl, subst, sym}
-use Rattle.sqlite.specs.Held.{state}
-use Rattle.zeb_paths.specs.Walks.{telling_of}
-use Rattle.zeb_program.specs.TaskAnswers.{ReadsWhole, paths_of}
+use Rattle.zeb_program.proofs.Cited.{state, inl, refl, subst, sym, telling_of, ReadsWhole, paths_of}
 use Rattle.zeb_program.proofs.OverLemmas.{analysed_task_over, asked_task_over, changed_task_over}
 use Rattle.zeb_program.proofs.TaskLemmas.{analysed_files, analysed_task, analysis_reaches, asked_reaches, asked_task, change_reaches, changed_task}
 use Rattle.zeb_program.proofs.WarningLemmas.{below_task, served_whole}

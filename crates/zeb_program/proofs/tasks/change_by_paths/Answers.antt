@@ -1,14 +1,5 @@
-use Rattle.std.proofs.Common.{◌≡◌, ◌∙◌, ℕ, List, Err, ap, map, rules, string_bytes, subst, sym}
-use Rattle.std.specs.Prelude.{IfErr}
-use Rattle.sqlite.specs.Held.{state}
-use Rattle.zeb_change.specs.Conditions.{conditions}
-use Rattle.zeb_image.specs.NameOf.{name_bytes}
-use Rattle.zeb_paths.specs.Walks.{telling_of}
-use Rattle.zeb_register.specs.Formats.{version_of}
-use Rattle.zeb_program.specs.PrivateFiles.{sure_bytes}
+use Rattle.zeb_program.proofs.Cited.{state, ◌≡◌, ◌∙◌, ℕ, List, Err, ap, map, rules, string_bytes, subst, sym, IfErr, conditions, name_bytes, telling_of, AreFilesOf, ChangesOver, IsUnread, sure_bytes, version_of}
 use Rattle.zeb_program.specs.FaultAnswers.{Reaches}
-use Rattle.zeb_program.specs.OverTables.{AreFilesOf, ChangesOver}
-use Rattle.zeb_program.specs.PrivateFaults.{IsUnread}
 use Rattle.zeb_program.proofs.OverLemmas.{as_given, changed_last, changed_leaves, changed_over, changed_paths, given_reaches, given_still, unread_paths}
 use Rattle.zeb_program.proofs.ReaderLemmas.{blamed_untold, sure_files, sure_given}
 use Rattle.zeb_program.proofs.tasks.change_by_paths.Goals as goal

@@ -1,4 +1,4 @@
-use Rattle.std.proofs.Common.{refl, ◌∙◌, sym}
+use Rattle.zeb_program.proofs.Cited.{refl, ◌∙◌, sym}
 use Rattle.zeb_program.proofs.WarningLemmas.{none_at_end, none_at_fault, record_is_long, record_there, told_record}
 use Rattle.zeb_program.proofs.warnings.read_record.Goals as goal
 

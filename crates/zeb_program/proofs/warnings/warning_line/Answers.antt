@@ -1,4 +1,4 @@
-use Rattle.std.proofs.Common.{rules, append_assoc}
+use Rattle.zeb_program.proofs.Cited.{rules, append_assoc}
 use Rattle.zeb_program.proofs.warnings.warning_line.Goals as goal
 
 pub returns : goal.returns

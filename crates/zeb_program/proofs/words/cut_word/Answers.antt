@@ -1,4 +1,4 @@
-use Rattle.std.proofs.Common.{◌∙◌}
+use Rattle.zeb_program.proofs.Cited.{◌∙◌}
 use Rattle.zeb_program.proofs.WordLemmas.{split_word, whole_word}
 use Rattle.zeb_program.proofs.words.cut_word.Goals as goal
 

@@ -1,6 +1,4 @@
-use Rattle.zeb_packed.proofs.Cited.{List, subst, sym, state, Row, TermCount, packed_blocks, rows_told}
-use Rattle.zeb_packed.specs.PrivatePackedRows.{EndsCounting, TellTerms}
-use Rattle.zeb_register.specs.Terms.{ListsBefore}
+use Rattle.zeb_packed.proofs.Cited.{List, subst, sym, state, Row, TermCount, packed_blocks, rows_told, EndsCounting, TellTerms, ListsBefore}
 use Rattle.zeb_packed.proofs.DictTerms.{before_hide, before_listed, first_taken}
 use Rattle.zeb_packed.proofs.blocks.BlocksLayout.terms_before.Goals as goal
 

@@ -1,5 +1,4 @@
-use Rattle.zeb_packed.proofs.Cited.{List, subst, state, Row, rows_told}
-use Rattle.zeb_packed.specs.PrivatePackedRows.{EndsCounting, TellTerms}
+use Rattle.zeb_packed.proofs.Cited.{List, subst, state, Row, rows_told, EndsCounting, TellTerms}
 use Rattle.zeb_packed.proofs.DictTerms.{from_hide, from_listed, first_taken}
 use Rattle.zeb_packed.proofs.blocks.BlocksLayout.terms_from.Goals as goal
 

@@ -1,5 +1,4 @@
-use Rattle.zeb_packed.proofs.Cited.{subst, state, Row, rows_told}
-use Rattle.zeb_packed.specs.PrivatePackedRows.{EndsCounting, TellTerms}
+use Rattle.zeb_packed.proofs.Cited.{subst, state, Row, rows_told, EndsCounting, TellTerms}
 use Rattle.zeb_packed.proofs.DictTerms.{all_hide, all_listed}
 use Rattle.zeb_packed.proofs.blocks.BlocksLayout.terms_of.Goals as goal
 

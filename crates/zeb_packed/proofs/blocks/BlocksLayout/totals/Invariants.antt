@@ -1,5 +1,4 @@
-use Rattle.zeb_packed.proofs.Cited.{◌≡◌, ◌⊎◌, ◌<◌, ◌^◌, List, false, length, take, sum_by, state, HasCleanDisk, IsUnchanged, Survives, Posting, ChangesNothing, capped, blocks_of, packed_blocks, IsStore, Rises}
-use Rattle.zeb_register.specs.Terms.{AreListed}
+use Rattle.zeb_packed.proofs.Cited.{◌≡◌, ◌⊎◌, ◌<◌, ◌^◌, List, false, length, take, sum_by, state, HasCleanDisk, IsUnchanged, Survives, Posting, ChangesNothing, capped, blocks_of, packed_blocks, IsStore, Rises, AreListed}
 use Rattle.zeb_packed.proofs.blocks.BlocksLayout.totals.Given as goal
 
 abbrev pub invariant-loop-term : goal.invariant-loop-term

@@ -1,5 +1,4 @@
-use Rattle.zeb_packed.proofs.Cited.{rules, sym, subst, LiesIn}
-use Rattle.zeb_register.proofs.RowFaults.{refused_rows}
+use Rattle.zeb_packed.proofs.Cited.{rules, sym, subst, LiesIn, refused_rows}
 use Rattle.zeb_packed.proofs.HeldTurns.{not_counted, not_followed, not_found, not_left, unit_turned}
 use Rattle.zeb_packed.proofs.packed_parts.Held.changed.Goals as goal
 

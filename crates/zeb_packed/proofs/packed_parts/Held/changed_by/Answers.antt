@@ -1,5 +1,4 @@
-use Rattle.zeb_packed.proofs.Cited.{packed_blocks, ◌≡◌, ◌∙◌, ◌+◌, arith, drop, drop-cons, get_or, refl, rules, subst, suc, sym, LiesIn, units_of, TurnsUnits, no_change, refused_so}
-use Rattle.zeb_register.proofs.ContentTurns.{none_left}
+use Rattle.zeb_packed.proofs.Cited.{packed_blocks, ◌≡◌, ◌∙◌, ◌+◌, arith, drop, drop-cons, get_or, refl, rules, subst, suc, sym, LiesIn, units_of, TurnsUnits, no_change, refused_so, none_left}
 use Rattle.zeb_packed.proofs.UnitTurns.{same_after, turns_from}
 use Rattle.zeb_packed.proofs.packed_parts.Held.changed_by.Goals as goal
 

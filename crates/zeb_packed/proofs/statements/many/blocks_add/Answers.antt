@@ -1,8 +1,6 @@
-use Rattle.zeb_packed.proofs.Cited.{rules, map, store_schema, Changes, blocks_tree, changed_so, refused_keeps, violated}
+use Rattle.zeb_packed.proofs.Cited.{rules, map, store_schema, Changes, blocks_tree, changed_so, refused_keeps, violated, state, AreLacking, GainsAll, new_block_row}
 use Rattle.zeb_packed.proofs.ManyBlocks.{adds_blocks, blocks_lacked}
 use Rattle.zeb_packed.proofs.ManyRows.{GainsNumbered, gains_all, ran_goes, ran_so}
-use Rattle.zeb_packed.specs.PrivateNewRows.{AreLacking, GainsAll, new_block_row}
-use Rattle.sqlite.specs.Held.{state}
 use Rattle.zeb_packed.proofs.statements.many.blocks_add.Goals as goal
 
 pub returns-clause-call : goal.returns-clause-call

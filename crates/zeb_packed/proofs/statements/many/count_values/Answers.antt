@@ -1,6 +1,5 @@
-use Rattle.zeb_packed.proofs.Cited.{◌∙◌, ◌++◌, Row, ap, sym}
+use Rattle.zeb_packed.proofs.Cited.{◌∙◌, ◌++◌, Row, ap, sym, new_count_row}
 use Rattle.zeb_packed.proofs.NewValues.{one_more}
-use Rattle.zeb_packed.specs.PrivateNewRows.{new_count_row}
 use Rattle.zeb_packed.proofs.statements.many.count_values.Goals as goal
 
 pub loop-one-preserved : goal.loop-one-preserved

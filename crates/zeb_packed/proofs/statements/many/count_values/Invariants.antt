@@ -1,7 +1,5 @@
 -- The values of the rows so far.
-use Rattle.zeb_packed.proofs.Cited.{◌≡◌, map, take}
-use Rattle.sqlite.specs.Values.{bound}
-use Rattle.zeb_packed.specs.PrivateNewRows.{joined, new_count_row}
+use Rattle.zeb_packed.proofs.Cited.{◌≡◌, map, take, bound, joined, new_count_row}
 use Rattle.zeb_packed.proofs.statements.many.count_values.Given as goal
 
 abbrev pub invariant-loop-one : goal.invariant-loop-one

@@ -1,8 +1,6 @@
-use Rattle.zeb_packed.proofs.Cited.{rules, map, store_schema, Changes, dict_tree, changed_so, refused_keeps}
+use Rattle.zeb_packed.proofs.Cited.{rules, map, store_schema, Changes, dict_tree, changed_so, refused_keeps, state, GainsAll, new_count_row}
 use Rattle.zeb_packed.proofs.ManyCounts.{adds_counts}
 use Rattle.zeb_packed.proofs.ManyRows.{GainsNumbered, gains_all, ran_goes, ran_so}
-use Rattle.zeb_packed.specs.PrivateNewRows.{GainsAll, new_count_row}
-use Rattle.sqlite.specs.Held.{state}
 use Rattle.zeb_packed.proofs.statements.many.counts_add.Goals as goal
 
 pub returns-clause-call : goal.returns-clause-call

@@ -1,6 +1,5 @@
-use Rattle.zeb_packed.proofs.Cited.{◌≡◌, rules, pos, List, Row, take, register_code, IsRestFrom, IsListOf, dict_tree, register_of, query_keeps, column_is}
+use Rattle.zeb_packed.proofs.Cited.{◌≡◌, rules, pos, List, Row, take, register_code, IsRestFrom, IsListOf, dict_tree, register_of, query_keeps, column_is, read_inside}
 use Rattle.zeb_packed.proofs.PackedStatements.{from_silent, lists_from}
-use Rattle.zeb_register.proofs.Calls.{read_inside}
 use Rattle.zeb_packed.proofs.statements.packed_changes.dict_from.Goals as goal
 
 pub returns-clause-call : goal.returns-clause-call
