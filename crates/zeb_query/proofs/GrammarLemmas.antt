@@ -1,6 +1,5 @@
 -- Steps of a reader of queries, in the words of the grammar.
-use Rattle.zeb_query.proofs.Cited.{◌≡◌, ◌≢◌, ℕ, suc, ◌<◌, ◌+◌, true, false, List, [], ◌∷◌, ◌++◌, Option, Some, None, length, cond, eqb, refl, ap, sym, subst, ◌∙◌, arith, append_assoc, option_and_then, nat_lt, map, list_all, before_first, after_first, position_or_len, nat_tests, map-append, length-map, length-append, Rest, Spelling, Plain, Quoted, Bad, OperatorWord, Keyword, AttributeSet, Attribute, TermType, ResultSet, Operator, number_of, keyword_of, if_any, is_equals_sign, has_equals, is_good, is_good_spelling, IsStructure, is_attribute, is_attribute_of_set, is_typed, under, heads, no_head, or_else, with_type, text_of, is_term, is_named, is_pair, parameter_count, is_structure, is_structure_of_set, AttributeValue, HeadValue, TreeValue, TermValue, NamedValue, PairValue, Word, left, word_of, fault_of, first_keyword, ReadsWord, IsSpec, SpellsAttribute, SpellsHead, SpellsParameters, SpellsOperator, SpellsSet, Spells, Due, Start, Structures, MoreWords, words_then, fault, Step, Allowed, Refused, step, structure_step, start_step, And, Or, Not, Proximity, ConnectiveValue, connective_of, ◌&&◌}
-use Rattle.std.proofs.lemmas.List.Folds.{list_all-append}
+use Rattle.zeb_query.proofs.Cited.{◌≡◌, ◌≢◌, ℕ, suc, ◌<◌, ◌+◌, true, false, List, [], ◌∷◌, ◌++◌, Option, Some, None, length, cond, eqb, refl, ap, sym, subst, ◌∙◌, arith, append_assoc, ◌-◌, zero, nil_from_length, operator_step, IsQuery, option_and_then, nat_lt, map, list_all, before_first, after_first, position_or_len, nat_tests, length-map, length-append, Rest, Spelling, Plain, Quoted, Bad, OperatorWord, Keyword, AttributeSet, Attribute, TermType, ResultSet, Operator, number_of, keyword_of, if_any, is_equals_sign, has_equals, is_good, is_good_spelling, IsStructure, is_attribute, is_attribute_of_set, under, heads, no_head, or_else, with_type, text_of, is_term, is_named, is_pair, parameter_count, is_structure, is_structure_of_set, AttributeValue, HeadValue, TreeValue, TermValue, NamedValue, PairValue, Word, left, word_of, fault_of, first_keyword, ReadsText, ReadsWord, IsSpec, SpellsAttribute, SpellsHead, SpellsMore, SpellsParameters, SpellsOperator, SpellsSet, Spells, SpellsUnder, Due, Start, Structures, MoreWords, words_then, fault, Step, Allowed, Refused, step, structure_step, start_step, And, Or, Not, Proximity, ConnectiveValue, connective_of, ◌&&◌}
 use Rattle.zeb_query.specs.Grammar.{kind_and_value}
 
 -- the type and value of a word without `=`, and of one with it
@@ -118,26 +117,16 @@ under-under a b (TermValue place head text) = ap (λ h. TermValue place h text) 
 under-under a b (NamedValue place head name) = ap (λ h. NamedValue place h name) (sym (heads-assoc a b head))
 under-under a b (PairValue place head connective left right) = ap (λ h. PairValue place h connective left right) (sym (heads-assoc a b head))
 
--- one more piece of a head: its words are the keyword and what follows
-spells_more : (start rest after : Rest) (head piece : HeadValue) (words : List Word) → left rest ≡ words ++ left after → ((more : List Word) (tree : TreeValue) → IsStructure more tree → IsStructure (words ++ more) (under piece tree)) → SpellsHead start rest head → SpellsHead start after (heads head piece)
-spells_more start rest after head piece words is spells s = record {
-  words = s.words ++ words;
-  is = s.is ∙ ap (λ ws. s.words ++ ws) is ∙ sym (append_assoc s.words words (left after));
+-- one more piece of a head
+pub spells_more : (start rest after : Rest) (old new : HeadValue) → SpellsHead start rest old → SpellsMore rest after old new → SpellsHead start after new
+spells_more start rest after old new s m = subst (λ head. SpellsHead start after head) (sym m.new_is) (record {
+  words = s.words ++ (m.keyword ∷ m.words);
+  is = s.is ∙ ap (λ ws. s.words ++ ws) m.is ∙ sym (append_assoc s.words (m.keyword ∷ m.words) (left after));
   spells = λ more tree spelled.
-      subst (λ ws. IsStructure ws (under (heads head piece) tree)) (sym (append_assoc s.words words more))
-      (subst (λ t. IsStructure (s.words ++ (words ++ more)) t) (under-under head piece tree)
-      (s.spells (words ++ more) (under piece tree) (spells more tree spelled)));
-}
-
-pub spells_more_attribute : (start rest middle after : Rest) (head : HeadValue) (a : AttributeValue) (attr : Word) → ReadsWord rest middle attr → keyword_of attr ≡ Some Attribute → SpellsAttribute middle after a → SpellsHead start rest head → SpellsHead start after (heads head (record { attributes = a ∷ []; term_type = None }))
-spells_more_attribute start rest middle after head a attr reads found at s =
-    spells_more start rest after head (record { attributes = a ∷ []; term_type = None }) (attr ∷ at.words)
-    (reads.is ∙ ap (λ ws. attr ∷ ws) at.is) (λ more tree spelled. at.spells attr more tree found spelled) s
-
-pub spells_more_type : (start rest middle after : Rest) (head : HeadValue) (keyword w : Word) → ReadsWord rest middle keyword → keyword_of keyword ≡ Some TermType → ReadsWord middle after w → is_good w ≡ true → SpellsHead start rest head → SpellsHead start after (heads head (with_type w.text))
-spells_more_type start rest middle after head keyword w reads found word good s =
-    spells_more start rest after head (with_type w.text) (keyword ∷ w ∷ [])
-    (reads.is ∙ ap (λ ws. keyword ∷ ws) word.is) (λ more tree spelled. is_typed keyword w more tree found good spelled) s
+      subst (λ ws. IsStructure ws (under (heads old m.piece) tree)) (sym (append_assoc s.words (m.keyword ∷ m.words) more))
+      (subst (λ t. IsStructure (s.words ++ (m.keyword ∷ (m.words ++ more))) t) (under-under old m.piece tree)
+      (s.spells (m.keyword ∷ (m.words ++ more)) (under m.piece tree) (m.spells more tree spelled)));
+})
 
 pub heads-with_type : (h : HeadValue) (t : List ℕ) → record { attributes = h.attributes; term_type = Some t } ≡ heads h (with_type t)
 heads-with_type h t = ap (λ attributes. record { attributes = attributes; term_type = Some t }) (sym (append-nil h.attributes))
@@ -146,38 +135,53 @@ heads-to_no_head : (h : HeadValue) → heads h no_head ≡ h
 heads-to_no_head h = ap (λ attributes. record { attributes = attributes; term_type = h.term_type }) (append-nil h.attributes)
 
 -- a structure after its head
-spells_under : (start rest after : Rest) (head : HeadValue) (words : List Word) (tree : TreeValue) → SpellsHead start rest head → left rest ≡ words ++ left after → IsStructure words tree → Spells start after (under head tree)
-spells_under start rest after head words tree s is spelled = record {
-  words = s.words ++ words;
-  is = s.is ∙ ap (λ ws. s.words ++ ws) is ∙ sym (append_assoc s.words words (left after));
-  spells = s.spells words tree spelled;
+pub spells_after : (start rest after : Rest) (head : HeadValue) (tree : TreeValue) → SpellsHead start rest head → SpellsUnder rest after head tree → Spells start after tree
+spells_after start rest after head tree s u =
+    subst (λ t. Spells start after t) (sym u.is_under) (record {
+      words = s.words ++ u.spelled.words;
+      is = s.is ∙ ap (λ ws. s.words ++ ws) u.spelled.is ∙ sym (append_assoc s.words u.spelled.words (left after));
+      spells = s.spells u.spelled.words u.bare u.spelled.spells;
+    })
+
+pub spells_term : (rest after : Rest) (head : HeadValue) (w : Word) (text : List ℕ) → ReadsWord rest after w → is_good w ≡ true → None ≡ keyword_of w → text ≡ w.text → SpellsUnder rest after head (TermValue w.place head text)
+spells_term rest after head w text reads good key same = record {
+  bare = TermValue w.place no_head w.text;
+  is_under = ap (λ t. TermValue w.place head t) same ∙ ap (λ h. TermValue w.place h w.text) (sym (heads-to_no_head head));
+  spelled = record { words = w ∷ []; is = reads.is; spells = is_term w good (sym key) };
 }
 
-pub spells_term : (start rest after : Rest) (head : HeadValue) (w : Word) (text : List ℕ) → SpellsHead start rest head → ReadsWord rest after w → is_good w ≡ true → None ≡ keyword_of w → text ≡ w.text → Spells start after (TermValue w.place head text)
-spells_term start rest after head w text s reads good key same =
-    subst (λ h. Spells start after (TermValue w.place h text)) (heads-to_no_head head)
-    (subst (λ t. Spells start after (TermValue w.place (heads head no_head) t)) (sym same)
-    (spells_under start rest after head (w ∷ []) (TermValue w.place no_head w.text) s reads.is (is_term w good (sym key))))
-
-pub spells_named : (start rest middle after : Rest) (head : HeadValue) (set name : Word) (text : List ℕ) → SpellsHead start rest head → ReadsWord rest middle set → Some ResultSet ≡ keyword_of set → ReadsWord middle after name → is_good name ≡ true → text ≡ name.text → Spells start after (NamedValue set.place head text)
-spells_named start rest middle after head set name text s reads key named good same =
-    subst (λ h. Spells start after (NamedValue set.place h text)) (heads-to_no_head head)
-    (subst (λ t. Spells start after (NamedValue set.place (heads head no_head) t)) (sym same)
-    (spells_under start rest after head (set ∷ name ∷ []) (NamedValue set.place no_head name.text) s (reads.is ∙ ap (λ ws. set ∷ ws) named.is) (is_named set name (sym key) good)))
-
--- one more parameter in front
-pub spells_next : (rest middle after : Rest) (text : List ℕ) (texts : List (List ℕ)) → SpellsParameters rest middle (text ∷ []) → SpellsParameters middle after texts → SpellsParameters rest after (text ∷ texts)
-spells_next rest middle after text texts s t = record {
-  words = s.words ++ t.words;
-  is = s.is ∙ ap (λ ws. s.words ++ ws) t.is ∙ sym (append_assoc s.words t.words (left after));
-  good = list_all-append is_good s.words t.words ∙ ap (λ b. b && list_all is_good t.words) s.good ∙ t.good;
-  texts_are = map-append text_of s.words t.words ∙ ap (λ ts. ts ++ map text_of t.words) s.texts_are ∙ ap (λ ts. text ∷ ts) t.texts_are;
+pub spells_named : (rest middle after : Rest) (head : HeadValue) (set : Word) (text : List ℕ) → ReadsWord rest middle set → keyword_of set ≡ Some ResultSet → ReadsText middle after text → SpellsUnder rest after head (NamedValue set.place head text)
+spells_named rest middle after head set text reads key name = record {
+  bare = NamedValue set.place no_head name.word.text;
+  is_under = ap (λ t. NamedValue set.place head t) name.text_is ∙ ap (λ h. NamedValue set.place h name.word.text) (sym (heads-to_no_head head));
+  spelled = record {
+    words = set ∷ name.word ∷ [];
+    is = reads.is ∙ ap (λ ws. set ∷ ws) name.reads.is;
+    spells = is_named set name.word key name.good;
+  };
 }
 
--- a single parameter
-pub spells_one : (rest after : Rest) (w : Word) (text : List ℕ) → ReadsWord rest after w → is_good w ≡ true → text ≡ w.text → SpellsParameters rest after (text ∷ [])
-spells_one rest after w text reads good same =
-    record { words = w ∷ []; is = reads.is; good = ap (λ b. b && true) good; texts_are = ap (λ t. t ∷ []) (sym same) }
+-- no parameters, and one more in front
+pub spells_no_more : (rest : Rest) → SpellsParameters rest rest []
+spells_no_more rest = record { words = []; is = refl; good = refl; texts_are = refl }
+
+pub spells_next : (rest middle after : Rest) (text : List ℕ) (texts : List (List ℕ)) → ReadsText rest middle text → SpellsParameters middle after texts → SpellsParameters rest after (text ∷ texts)
+spells_next rest middle after text texts r s = record {
+  words = r.word ∷ s.words;
+  is = r.reads.is ∙ ap (λ ws. r.word ∷ ws) s.is;
+  good = ap (λ b. b && list_all is_good s.words) r.good ∙ s.good;
+  texts_are = ap (λ t. t ∷ map text_of s.words) (sym r.text_is) ∙ ap (λ ts. text ∷ ts) s.texts_are;
+}
+
+-- the whole of a query, after which nothing is left
+pub spells_whole : (rest middle after : Rest) (set : Option (List ℕ)) (tree : TreeValue) → SpellsSet rest middle set → Spells middle after tree → left after ≡ [] → IsQuery (left rest) (record { attrset = set; tree = tree })
+spells_whole rest middle after set tree s t ended =
+    subst (λ ws. IsQuery ws (record { attrset = set; tree = tree }))
+    (sym (s.is ∙ ap (λ ws. s.words ++ ws) (t.is ∙ ap (λ ws. t.words ++ ws) ended ∙ append-nil t.words)))
+    (s.spells t.words tree t.spells)
+
+pub ended : (rest : Rest) → true ≡ eqb (length rest.words.now) 0 → left rest ≡ []
+ended rest e = ap (λ words. map word_of words) (nil_from_length rest.words.now (zero_from_test (length rest.words.now) e))
 
 -- as many parameters as the operator has
 pub count_of : (word : OperatorWord) (texts : List (List ℕ)) (connective : ConnectiveValue) → connective_of word texts ≡ Some connective → length texts ≡ parameter_count word
@@ -216,13 +220,39 @@ connective_with Proximity (a ∷ b ∷ c ∷ d ∷ f ∷ []) e = absurd (omega a
 connective_with Proximity (a ∷ b ∷ c ∷ d ∷ f ∷ g ∷ []) e = (_, refl)
 connective_with Proximity (a ∷ b ∷ c ∷ d ∷ f ∷ g ∷ h ∷ texts) e = absurd (omega arith)
 
-pub spells_pair : (start rest first after : Rest) (head : HeadValue) (word : OperatorWord) (place : ℕ) (connective : ConnectiveValue) (x y : TreeValue) → SpellsHead start rest head → SpellsOperator rest first word place connective → (middle : Rest) → Spells first middle x → Spells middle after y → Spells start after (PairValue place head connective x y)
-spells_pair start rest first after head word place connective x y s o middle l r =
-    subst (λ p. Spells start after (PairValue p head connective x y)) (sym o.place_is)
-    (subst (λ h. Spells start after (PairValue o.operator.place h connective x y)) (heads-to_no_head head)
-    (spells_under start rest after head (o.operator ∷ (o.words ++ (l.words ++ r.words))) (PairValue o.operator.place no_head connective x y) s
-    (o.is ∙ ap (λ ws. o.operator ∷ ws) (ap (λ ws. o.words ++ ws) (l.is ∙ ap (λ ws. l.words ++ ws) r.is ∙ sym (append_assoc l.words r.words (left after))) ∙ sym (append_assoc o.words (l.words ++ r.words) (left after))))
-    (is_pair o.operator word connective o.words l.words r.words x y o.keyword o.connective_is o.good l.spells r.spells)))
+-- the step of an operator, for which there is room
+operator_allowed : (room n : ℕ) (operator : OperatorWord) → (room ≡ 0 → ⊥) → operator_step room operator n ≡ Allowed (room - 1) (words_then (parameter_count operator) (suc (suc n)))
+operator_allowed zero n operator ne = absurd (ne refl)
+operator_allowed (suc room) n operator ne =
+    let less : room ≡ suc room - 1 = omega arith in
+    ap (λ r. Allowed r (words_then (parameter_count operator) (suc (suc n)))) less
+
+pub operator_goes : (operator : OperatorWord) (rest middle : Rest) (w : Word) → ReadsWord rest middle w → keyword_of w ≡ Some (Operator operator) → (middle.room ≡ 0 → ⊥) → (n : ℕ)
+    → fault_of rest (Structures (suc n)) ≡ fault middle.end (middle.room - 1) (words_then (parameter_count operator) (suc (suc n))) (left middle)
+operator_goes operator rest middle w reads found ne n =
+    ap (λ ws. fault rest.end rest.room (Structures (suc n)) ws) reads.is
+    ∙ ap (λ end. fault end rest.room (Structures (suc n)) (w ∷ left middle)) (sym reads.end)
+    ∙ ap (λ room. fault middle.end room (Structures (suc n)) (w ∷ left middle)) (sym reads.room)
+    ∙ fault-step middle.end middle.room (Structures (suc n)) w (left middle) _
+    (step-structure middle.room n w (good_from_keyword w (Operator operator) found) ∙ ap (λ key. structure_step middle.room key n) found ∙ operator_allowed middle.room n operator ne)
+
+-- a word that is no operator on sets is that of proximity
+pub is_proximity : (operator : OperatorWord) → connective_of operator [] ≡ None → operator ≡ Proximity
+is_proximity And e = absurd cc
+is_proximity Or e = absurd cc
+is_proximity Not e = absurd cc
+is_proximity Proximity e = refl
+
+pub spells_pair : (rest first middle after : Rest) (head : HeadValue) (word : OperatorWord) (place : ℕ) (connective : ConnectiveValue) (x y : TreeValue) → SpellsOperator rest first word place connective → Spells first middle x → Spells middle after y → SpellsUnder rest after head (PairValue place head connective x y)
+spells_pair rest first middle after head word place connective x y o l r = record {
+  bare = PairValue o.operator.place no_head connective x y;
+  is_under = ap (λ p. PairValue p head connective x y) o.place_is ∙ ap (λ h. PairValue o.operator.place h connective x y) (sym (heads-to_no_head head));
+  spelled = record {
+    words = o.operator ∷ (o.words ++ (l.words ++ r.words));
+    is = o.is ∙ ap (λ ws. o.operator ∷ ws) (ap (λ ws. o.words ++ ws) (l.is ∙ ap (λ ws. l.words ++ ws) r.is ∙ sym (append_assoc l.words r.words (left after))) ∙ sym (append_assoc o.words (l.words ++ r.words) (left after)));
+    spells = is_pair o.operator word connective o.words l.words r.words x y o.keyword o.connective_is o.good l.spells r.spells;
+  };
+}
 
 -- the start of a query without an attribute set is that of a structure
 pub start_step-structure : (room : ℕ) (k : Option Keyword) → k ≢ Some AttributeSet → start_step room k ≡ structure_step room k 0
@@ -244,11 +274,11 @@ fault-start end room (w ∷ ws) ne =
 pub spells_no_set : (rest : Rest) → SpellsSet rest rest None
 spells_no_set rest = record { words = []; is = refl; spells = λ more tree spelled. is_structure more tree spelled }
 
-pub spells_set : (rest middle after : Rest) (keyword w : Word) (text : List ℕ) → ReadsWord rest middle keyword → keyword_of keyword ≡ Some AttributeSet → ReadsWord middle after w → is_good w ≡ true → text ≡ w.text → SpellsSet rest after (Some text)
-spells_set rest middle after keyword w text reads found word good same =
-    subst (λ t. SpellsSet rest after (Some t)) (sym same)
+pub spells_set : (rest middle after : Rest) (keyword : Word) (text : List ℕ) → ReadsWord rest middle keyword → keyword_of keyword ≡ Some AttributeSet → ReadsText middle after text → SpellsSet rest after (Some text)
+spells_set rest middle after keyword text reads found name =
+    subst (λ t. SpellsSet rest after (Some t)) (sym name.text_is)
     (record {
-      words = keyword ∷ w ∷ [];
-      is = reads.is ∙ ap (λ ws. keyword ∷ ws) word.is;
-      spells = λ more tree spelled. is_structure_of_set keyword w more tree found good spelled;
+      words = keyword ∷ name.word ∷ [];
+      is = reads.is ∙ ap (λ ws. keyword ∷ ws) name.reads.is;
+      spells = λ more tree spelled. is_structure_of_set keyword name.word more tree found name.good spelled;
     })

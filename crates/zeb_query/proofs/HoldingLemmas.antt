@@ -1,8 +1,7 @@
 -- The attributes that hold, one attribute after another.
-use Rattle.zeb_query.proofs.Cited.{◌≡◌, ℕ, ◌+◌, ◌<◌, Bool, true, false, List, [], ◌∷◌, ◌++◌, Option, Some, None, length, get_or, take, cond, eqb, arith, ◌≤◌, refl, ap, sym, ◌∙◌, append_assoc, map, not, option_to_list, find, map-append, take_more, common_steps, AttributeValue, HeadValue, attribute_value, no_head, HoldingValue, is_other_set, is_other_kind, sets_in, or_else, value_held, held_with}
+use Rattle.zeb_query.proofs.Cited.{◌≡◌, ℕ, ◌+◌, ◌<◌, Bool, true, false, List, [], ◌∷◌, ◌++◌, Option, Some, None, length, get_or, take, cond, eqb, arith, ◌≤◌, refl, ap, sym, ◌∙◌, append_assoc, map, option_to_list, find, map-append, take_more, common_steps, AttributeValue, HeadValue, attribute_value, no_head, HoldingValue, is_other_set, is_other_kind, sets_in, or_else, value_held, held_with}
 use Rattle.zeb_query.specs.declared.queries.Attribute.{Attribute}
 use Rattle.zeb_query.specs.Attributes.{holding_of}
-use Rattle.zeb_query.proofs.GrammarLemmas.{append-nil}
 
 pub same_holding : {a a' : Option (List ℕ)} {b b' : Option ℕ} {c c' d d' e e' f f' g g' h h' i i' : Option (List ℕ)} → a ≡ a' → b ≡ b' → c ≡ c' → d ≡ d' → e ≡ e' → f ≡ f' → g ≡ g' → h ≡ h' → i ≡ i' →
     ◌≡◌ {A = HoldingValue}

@@ -1,11 +1,12 @@
 -- What only the contracts of private functions speak of; no public clause reaches it.
 -- What the functions below `plan` and `plan_scan` give: the parts of a plan, one after another, each by the public checks that refuse it.
 use Rattle.zeb_query.specs.Cited.{is_some, number_key, Symbol, Always, Asked, Compared, Entries, Find, Near, Profile, Proximity, Purpose, Record, Relation, Scan, Separation, Structure, Subject, Values}
-use Rattle.std.specs.Prelude.{Bool, Err, List, None, Ok, Option, Result, Some, [], codes, false, if◌then◌else◌, not, true, ℕ, ◌==◌, ◌||◌, bytes_eq}
+use Rattle.std.specs.Prelude.{Bool, Err, List, None, Ok, Option, Result, Some, [], codes, false, if◌then◌else◌, not, true, ℕ, ◌==◌, ◌||◌, bytes_eq, chars}
 use Rattle.zeb_query.specs.Grammar.{BooleanOf, HeadValue, NamedValue, PairValue, ParametersValue, ProximityOf, TermValue, TreeValue, few, heads, kept_text, many, number_of, operator_word}
 use Rattle.zeb_query.specs.Attributes.{HoldingValue, asks_number, completeness_of, holding_of, index_in, index_used, is_local_number, is_numeric, joined_words, patterns_asked, position_of, register_of, relation_of, structure_of, truncation_of}
 use Rattle.zeb_query.specs.Checks.{Check, Operand, Refusal, check, clash_check, distance_relations, index_check, kind_check, one_of, operand_of, orderings, refused, set_check, type_check, words_check, written}
-use Rattle.zeb_query.specs.Plans.{AlwaysOf, NearOf, NumberOf, PairOf, PlanValue, RecordNumberOf, ScanValue, TermOf, TermPlanValue, texts_asked}
+use Rattle.zeb_text.specs.Words.{words_of}
+use Rattle.zeb_query.specs.Plans.{AlwaysOf, NearOf, NumberOf, OrderedOf, PairOf, PlanValue, RecordNumberOf, ScanValue, TermOf, TermPlanValue, asked_with, texts_asked}
 
 -- a part after another, unless that one was refused
 infixl 10 ◌>>=◌
@@ -72,6 +73,11 @@ subject_index place subject = passed (index_check place subject) >>= λ _. Ok (i
 -- a term that has to be a number of at most so many digits
 abbrev pub number_in : ℕ → ℕ → List ℕ → Result ℕ Refusal
 number_in most place text = kept_or 126 place (Some text) (number_of most text)
+
+-- what words ask for that are compared by an order
+abbrev pub ordered_asked : Values → ℕ → List ℕ → Relation → TermPlanValue
+ordered_asked v index text relation =
+    asked_with (words_of (chars text)) index (register_of v) (OrderedOf index (register_of v) relation (joined_words text))
 
 unfoldable pub compared_plan : ℕ → List ℕ → Values → ℕ → Structure → List (List Symbol) → Relation → Result TermPlanValue Refusal
 compared_plan place text v index structure patterns relation =

@@ -14,7 +14,7 @@ use Rattle.zeb_query.specs.declared.grammar.Rest.{Rest}
 use Rattle.zeb_query.specs.declared.holding.Holding.{Holding}
 use Rattle.zeb_query.specs.Words.{Word}
 use Rattle.zeb_query.specs.PrivateWalk.{words_at, in_word, in_quotes, escaped, plain_word, quoted_word, with_front, Due, fault}
-use Rattle.zeb_query.specs.Grammar.{keyword_of, IsStructure, IsQuery, under, is_good, text_of, kind_and_value, connective_of, AttributeValue, ConnectiveValue, HeadValue, ParametersValue, TreeValue, or_else}
+use Rattle.zeb_query.specs.Grammar.{keyword_of, IsStructure, IsQuery, heads, under, is_good, text_of, kind_and_value, connective_of, AttributeValue, ConnectiveValue, HeadValue, ParametersValue, TreeValue, or_else}
 use Rattle.zeb_query.specs.Attributes.{HoldingValue, is_other_kind, is_other_set}
 
 -- ---- faults
@@ -93,6 +93,13 @@ pub record ReadsWord (rest after : Rest) (word : Word) : Type 0 where
   pub end : after.end ≡ rest.end
   pub room : after.room ≡ rest.room
 
+-- one word is read, whose text this is
+pub record ReadsText (rest after : Rest) (text : List ℕ) : Type 0 where
+  pub word : Word
+  pub reads : ReadsWord rest after word
+  pub good : is_good word ≡ true
+  pub text_is : text ≡ word.text
+
 -- a number and a text, without where the text lies in memory
 abbrev pub pair_value : Option (ℕ × Bor (List ℕ)) → Option (ℕ × List ℕ)
 pair_value None = None
@@ -123,6 +130,15 @@ pub record SpellsHead (rest after : Rest) (head : HeadValue) : Type 0 where
   pub is : left rest ≡ words ++ left after
   pub spells : (more : List Word) (tree : TreeValue) → IsStructure more tree → IsStructure (words ++ more) (under head tree)
 
+-- a keyword and the words after it put one more piece into a head, inside of all that stands there
+pub record SpellsMore (rest after : Rest) (old new : HeadValue) : Type 0 where
+  pub keyword : Word
+  pub words : List Word
+  pub piece : HeadValue
+  pub is : left rest ≡ keyword ∷ (words ++ left after)
+  pub new_is : new ≡ heads old piece
+  pub spells : (more : List Word) (tree : TreeValue) → IsStructure more tree → IsStructure (keyword ∷ (words ++ more)) (under piece tree)
+
 -- the words between are parameters
 pub record SpellsParameters (rest after : Rest) (texts : List (List ℕ)) : Type 0 where
   pub words : List Word
@@ -150,6 +166,12 @@ pub record Spells (rest after : Rest) (tree : TreeValue) : Type 0 where
   pub words : List Word
   pub is : left rest ≡ words ++ left after
   pub spells : IsStructure words tree
+
+-- the words between spell what is the tree under this head
+pub record SpellsUnder (rest after : Rest) (head : HeadValue) (tree : TreeValue) : Type 0 where
+  pub bare : TreeValue
+  pub is_under : tree ≡ under head bare
+  pub spelled : Spells rest after bare
 
 -- ---- the attributes that hold, one after another
 

@@ -1,12 +1,12 @@
 //! Reading the words of a text as a query, from the left, an operator before its operands.
 ghost use Rattle.std.specs.Prelude.{◌≡◌, ◌≢◌, List, ℕ, suc, ◌∷◌, Some, None, map, IfOk, OnOk, IfErr, true, string_bytes, [], option_map};
-ghost use Rattle.zeb_query.specs.Clauses.{Attribute as AttributeKeyword, TermType as TermTypeKeyword, Operator as OperatorKeyword, IsFault, WordOfQuery, word_of, left, first_keyword, fault_of, pair_value, IsSpec, SpellsAttribute, SpellsProximity, SpellsHead, SpellsParameters, SpellsOperator, SpellsSet, Spells, attribute_value, connective_value, head_value, parameters_value, tree_value, query_value, PairValue, IsQuery, kind_and_value, has_equals, heads, Start, Structures, SetOrSpec, Spec, MoreWords, fault, words_then, first_place, ReadsWord, is_good, Due, fault_at_end};
+ghost use Rattle.zeb_query.specs.Clauses.{Attribute as AttributeKeyword, TermType as TermTypeKeyword, Operator as OperatorKeyword, ResultSet as ResultSetKeyword, IsFault, WordOfQuery, word_of, left, first_keyword, fault_of, pair_value, IsSpec, SpellsAttribute, SpellsProximity, SpellsHead, SpellsMore, SpellsOperator, SpellsSet, Spells, SpellsUnder, attribute_value, connective_value, head_value, parameters_value, tree_value, query_value, IsQuery, kind_and_value, has_equals, heads, Start, Structures, SetOrSpec, Spec, MoreWords, fault, words_then, first_place, ReadsText, ReadsWord, is_good, Due, fault_at_end};
 
 use crate::diagnostics::{Condition, Site};
 use crate::digits::short_number;
 use crate::keywords::{Keyword, OperatorWord};
 use crate::words::{Spelling, Word};
-use crate::{Attribute, Connective, Head, Leaf, Operator, Parameters, Query, QueryFault, Tree};
+use crate::{Attribute, Connective, Head, Leaf, Parameters, Query, QueryFault, Tree};
 use std::alloc::{AllocError, Global};
 
 /// The greatest number of operators in a query, a limit of this project's own.
@@ -91,12 +91,13 @@ fn attribute_set_of<'a>(
         return Ok((None, rest));
     }
     let (_, after) = rest.word(alloc)?;
-    let (word, after) = after.word(alloc)?;
-    Ok((Some(word.text.clone()?), after))
+    let (text, after) = next_text(alloc, after)?;
+    Ok((Some(text), after))
 }
 
 /// A term, a named result set, or an operator and its operands, after the attributes and term types that hold for
 /// it.
+#[cycle(structure)]
 fn structure<'a>(alloc: Global, rest: Rest<'a>) -> Result<(Tree, Rest<'a>), QueryFault>
     ensures goes { IfOk result (λ read. (n : ℕ) →
         fault_of rest.entry (Structures (suc n)) ≡ fault_of read.1 (Structures n)) }
@@ -106,51 +107,85 @@ fn structure<'a>(alloc: Global, rest: Rest<'a>) -> Result<(Tree, Rest<'a>), Quer
 {
     let (head, rest) = head_of(alloc, rest)?;
     match rest.keyword() {
-        None => {
-            let (word, after) = rest.word(alloc)?;
-            let place = word.place;
-            let text = word.text.clone()?;
-            Ok((Tree::Term(Leaf { place, head, text }), after))
-        }
-        Some(Keyword::ResultSet) => {
-            let (word, after) = rest.word(alloc)?;
-            let place = word.place;
-            let (name, after) = after.word(alloc)?;
-            let text = name.text.clone()?;
-            Ok((Tree::Named(Leaf { place, head, text }), after))
-        }
-        Some(Keyword::Operator(operator)) => {
-            let (place, connective, after) = connective_of(alloc, operator, rest)?;
-            let (left, after) = structure(alloc, after)?;
-            let (right, after) = structure(alloc, after)?;
-            let tree = pair_tree(alloc, place, head, connective, left, right)?;
-            Ok((tree, after))
-        }
+        None => term_of(alloc, head, rest),
+        Some(Keyword::ResultSet) => named_of(alloc, head, rest),
+        Some(Keyword::Operator(operator)) => pair_of(alloc, head, operator, rest),
         Some(_) => Err(rest.unspelled(alloc)),
     }
 }
 
-fn pair_tree(
-    alloc: Global,
-    place: usize,
-    head: Head,
-    connective: Connective,
-    left: Tree,
-    right: Tree,
-) -> Result<Tree, AllocError>
-    ensures { IfOk result (λ tree. tree_value tree
-        ≡ PairValue place (head_value head) (connective_value connective)
-        (tree_value left) (tree_value right)) }
+/// The term at the front, under its head.
+fn term_of<'a>(alloc: Global, head: Head, rest: Rest<'a>) -> Result<(Tree, Rest<'a>), QueryFault>
+    requires { first_keyword (left rest) ≡ None }
+    ensures goes { IfOk result (λ read. (n : ℕ) →
+        fault_of rest.entry (Structures (suc n)) ≡ fault_of read.1 (Structures n)) }
+    ensures spelled { IfOk result
+        (λ read. SpellsUnder rest.entry read.1 (head_value head) (tree_value read.0)) }
+    ensures fails { IfErr result (λ e. (n : ℕ)
+        → IsFault e (fault_of rest.entry (Structures (suc n)))) }
 {
-    let left = Box::new(alloc, left)?;
-    let right = Box::new(alloc, right)?;
-    Ok(Tree::Pair {
+    let (word, after) = rest.word(alloc)?;
+    let place = word.place;
+    let text = word.text.clone()?;
+    Ok((Tree::Term(Leaf { place, head, text }), after))
+}
+
+/// The `@set` at the front and the name after it, under their head.
+fn named_of<'a>(alloc: Global, head: Head, rest: Rest<'a>) -> Result<(Tree, Rest<'a>), QueryFault>
+    requires { first_keyword (left rest) ≡ Some ResultSetKeyword }
+    ensures goes { IfOk result (λ read. (n : ℕ) →
+        fault_of rest.entry (Structures (suc n)) ≡ fault_of read.1 (Structures n)) }
+    ensures spelled { IfOk result
+        (λ read. SpellsUnder rest.entry read.1 (head_value head) (tree_value read.0)) }
+    ensures fails { IfErr result (λ e. (n : ℕ)
+        → IsFault e (fault_of rest.entry (Structures (suc n)))) }
+{
+    let (word, after) = rest.word(alloc)?;
+    let place = word.place;
+    let (text, after) = next_text(alloc, after)?;
+    Ok((Tree::Named(Leaf { place, head, text }), after))
+}
+
+/// The operator at the front and its operands, under their head.
+#[cycle(structure)]
+fn pair_of<'a>(
+    alloc: Global,
+    head: Head,
+    operator: OperatorWord,
+    rest: Rest<'a>,
+) -> Result<(Tree, Rest<'a>), QueryFault>
+    requires { first_keyword (left rest) ≡ Some (OperatorKeyword operator) }
+    ensures goes { IfOk result (λ read. (n : ℕ) →
+        fault_of rest.entry (Structures (suc n)) ≡ fault_of read.1 (Structures n)) }
+    ensures spelled { IfOk result
+        (λ read. SpellsUnder rest.entry read.1 (head_value head) (tree_value read.0)) }
+    ensures fails { IfErr result (λ e. (n : ℕ)
+        → IsFault e (fault_of rest.entry (Structures (suc n)))) }
+{
+    let (place, connective, after) = connective_of(alloc, operator, rest)?;
+    let (left, after) = operand(alloc, after)?;
+    let (right, after) = operand(alloc, after)?;
+    let tree = Tree::Pair {
         place,
         head,
         connective,
         left,
         right,
-    })
+    };
+    Ok((tree, after))
+}
+
+/// The structure at the front, in memory of its own.
+#[cycle(structure)]
+fn operand<'a>(alloc: Global, rest: Rest<'a>) -> Result<(Box<Tree>, Rest<'a>), QueryFault>
+    ensures goes { IfOk result (λ read. (n : ℕ) →
+        fault_of rest.entry (Structures (suc n)) ≡ fault_of read.1 (Structures n)) }
+    ensures spelled { IfOk result (λ read. Spells rest.entry read.1 (tree_value read.0.value)) }
+    ensures fails { IfErr result (λ e. (n : ℕ)
+        → IsFault e (fault_of rest.entry (Structures (suc n)))) }
+{
+    let (tree, after) = structure(alloc, rest)?;
+    Ok((Box::new(alloc, tree)?, after))
 }
 
 /// The attributes and term types at the front: `@attr [ SET ] SPEC` and `@term TYPE`, any number of them. Of several
@@ -171,23 +206,33 @@ fn head_of<'a>(alloc: Global, rest: Rest<'a>) -> Result<(Head, Rest<'a>), QueryF
     };
     loop {
         match rest.keyword() {
-            Some(Keyword::Attribute) => {
-                let (_, after) = rest.word(alloc)?;
-                let (attribute, after) = attribute_of(alloc, after)?;
-                push_attribute(&mut head, attribute)?;
-                rest = after;
-            }
-            Some(Keyword::TermType) => {
-                let (_, after) = rest.word(alloc)?;
-                let (word, after) = after.word(alloc)?;
-                head.term_type = Some(word.text.clone()?);
-                rest = after;
-            }
+            Some(Keyword::Attribute) => rest = read_attribute(alloc, &mut head, rest)?,
+            Some(Keyword::TermType) => rest = read_term_type(alloc, &mut head, rest)?,
             Some(Keyword::AttributeSet | Keyword::ResultSet | Keyword::Operator(_)) | None => {
                 return Ok((head, rest));
             }
         }
     }
+}
+
+/// Takes `@attr`, which stands at the front, and its attribute into the head.
+fn read_attribute<'a>(
+    alloc: Global,
+    head: &mut Head,
+    rest: Rest<'a>,
+) -> Result<Rest<'a>, QueryFault>
+    requires { first_keyword (left rest) ≡ Some AttributeKeyword }
+    ensures goes { IfOk result (λ after. (n : ℕ) →
+        fault_of rest.entry (Structures (suc n)) ≡ fault_of after (Structures (suc n))) }
+    ensures spelled { IfOk result
+        (λ after. SpellsMore rest.entry after (head_value head.old) (head_value head.new)) }
+    ensures fails { IfErr result (λ e. (n : ℕ)
+        → IsFault e (fault_of rest.entry (Structures (suc n)))) }
+{
+    let (_, after) = rest.word(alloc)?;
+    let (attribute, after) = attribute_of(alloc, after)?;
+    push_attribute(head, attribute)?;
+    Ok(after)
 }
 
 /// Puts an attribute inside of all that stand in the head.
@@ -198,6 +243,26 @@ fn push_attribute(head: &mut Head, attribute: Attribute) -> Result<(), AllocErro
 {
     head.attributes.push(attribute)?;
     Ok(())
+}
+
+/// Takes `@term`, which stands at the front, and its type into the head.
+fn read_term_type<'a>(
+    alloc: Global,
+    head: &mut Head,
+    rest: Rest<'a>,
+) -> Result<Rest<'a>, QueryFault>
+    requires { first_keyword (left rest) ≡ Some TermTypeKeyword }
+    ensures goes { IfOk result (λ after. (n : ℕ) →
+        fault_of rest.entry (Structures (suc n)) ≡ fault_of after (Structures (suc n))) }
+    ensures spelled { IfOk result
+        (λ after. SpellsMore rest.entry after (head_value head.old) (head_value head.new)) }
+    ensures fails { IfErr result (λ e. (n : ℕ)
+        → IsFault e (fault_of rest.entry (Structures (suc n)))) }
+{
+    let (_, after) = rest.word(alloc)?;
+    let (text, after) = next_text(alloc, after)?;
+    head.term_type = Some(text);
+    Ok(after)
 }
 
 /// `[ SET ] SPEC`, what follows `@attr`: a word without `=` is the set.
@@ -277,11 +342,9 @@ fn connective_of<'a>(
         room: after.room - 1,
         ..after
     };
-    match operator {
-        OperatorWord::And => Ok((place, Connective::Boolean(Operator::And), after)),
-        OperatorWord::Or => Ok((place, Connective::Boolean(Operator::Or), after)),
-        OperatorWord::Not => Ok((place, Connective::Boolean(Operator::Not), after)),
-        OperatorWord::Proximity => {
+    match operator.on_sets() {
+        Some(operator) => Ok((place, Connective::Boolean(operator), after)),
+        None => {
             let (parameters, after) = parameters_of(alloc, after)?;
             Ok((place, Connective::Proximity(parameters), after))
         }
@@ -295,12 +358,12 @@ fn parameters_of<'a>(alloc: Global, rest: Rest<'a>) -> Result<(Parameters, Rest<
         (λ read. SpellsProximity rest.entry read.1 (parameters_value read.0)) }
     ensures fails { IfErr result (λ e. (n : ℕ) → IsFault e (fault_of rest.entry (words_then 6 n))) }
 {
-    let (exclusion, rest) = parameter(alloc, rest)?;
-    let (distance, rest) = parameter(alloc, rest)?;
-    let (ordered, rest) = parameter(alloc, rest)?;
-    let (relation, rest) = parameter(alloc, rest)?;
-    let (which_code, rest) = parameter(alloc, rest)?;
-    let (unit_code, rest) = parameter(alloc, rest)?;
+    let (exclusion, rest) = next_text(alloc, rest)?;
+    let (distance, rest) = next_text(alloc, rest)?;
+    let (ordered, rest) = next_text(alloc, rest)?;
+    let (relation, rest) = next_text(alloc, rest)?;
+    let (which_code, rest) = next_text(alloc, rest)?;
+    let (unit_code, rest) = next_text(alloc, rest)?;
     let parameters = Parameters {
         exclusion,
         distance,
@@ -312,12 +375,12 @@ fn parameters_of<'a>(alloc: Global, rest: Rest<'a>) -> Result<(Parameters, Rest<
     Ok((parameters, rest))
 }
 
-/// A word of any kind.
-fn parameter<'a>(alloc: Global, rest: Rest<'a>) -> Result<(String, Rest<'a>), QueryFault>
+/// The text of the next word, whatever that is.
+fn next_text<'a>(alloc: Global, rest: Rest<'a>) -> Result<(String, Rest<'a>), QueryFault>
     ensures goes { IfOk result (λ read. (k n : ℕ) → fault_of rest.entry (MoreWords k n)
         ≡ fault_of read.1 (words_then k n)) }
-    ensures spelled { IfOk result
-        (λ read. SpellsParameters rest.entry read.1 (string_bytes read.0 ∷ [])) }
+    ensures reads { IfOk result
+        (λ read. ReadsText rest.entry read.1 (string_bytes read.0)) }
     ensures fails { IfErr result (λ e. (k n : ℕ)
         → IsFault e (fault_of rest.entry (MoreWords k n))) }
 {

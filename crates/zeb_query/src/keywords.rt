@@ -1,6 +1,6 @@
 //! The keywords of the format, as words of a text.
-ghost use Rattle.std.specs.Prelude.{◌≡◌};
-ghost use Rattle.zeb_query.specs.Clauses.{operator_word, connective_value, keyword_of, operator_named, word_of};
+ghost use Rattle.std.specs.Prelude.{◌≡◌, [], option_map};
+ghost use Rattle.zeb_query.specs.Clauses.{operator_word, BooleanOf, connective_of, connective_value, keyword_of, operator_named, word_of};
 
 use crate::words::{Spelling, Word};
 use crate::{Connective, Operator};
@@ -26,6 +26,20 @@ pub enum OperatorWord {
     Or,
     Not,
     Proximity,
+}
+
+impl OperatorWord {
+    /// The operator on sets that the word is; `@prox` is none.
+    pub(crate) fn on_sets(self) -> Option<Operator>
+        ensures { option_map BooleanOf result ≡ connective_of self [] }
+    {
+        match self {
+            OperatorWord::And => Some(Operator::And),
+            OperatorWord::Or => Some(Operator::Or),
+            OperatorWord::Not => Some(Operator::Not),
+            OperatorWord::Proximity => None,
+        }
+    }
 }
 
 impl Connective {

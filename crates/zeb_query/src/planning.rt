@@ -157,12 +157,26 @@ fn compared(
     if relation == Relation::Equal {
         return Ok(matching(site.alloc, values, index, structure, patterns)?);
     }
+    Ok(ordered(site.alloc, text, values, index, relation)?)
+}
+
+/// The plan of a term whose words are compared by an order.
+fn ordered(
+    alloc: Global,
+    text: &str,
+    values: &Values,
+    index: u32,
+    relation: Relation,
+) -> Result<TermPlan, AllocError>
+    ensures { IfOk result (λ plan. plans.term_plan_value plan
+        ≡ steps.ordered_asked values.now index text.now relation) }
+{
     let register = values.register();
-    let words = words(site.alloc, text)?;
+    let words = words(alloc, text)?;
     if words.is_empty() {
         return Ok(TermPlan::NoWords { index, register });
     }
-    let start = join(site.alloc, &words)?;
+    let start = join(alloc, &words)?;
     Ok(TermPlan::Ordered {
         index,
         register,

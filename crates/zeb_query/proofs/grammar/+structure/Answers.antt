@@ -1,37 +1,50 @@
-use Rattle.zeb_query.proofs.Cited.{Some, ◌∙◌, ap, subst, sym, arith, first_keyword, word_of, Spells, head_value}
-use Rattle.zeb_query.proofs.GrammarLemmas.{spells_term, spells_named, spells_pair, left_after, less_after}
+use Rattle.zeb_query.proofs.Cited.{◌∙◌, suc, arith, head_value, IfOk-weaker}
+use Rattle.zeb_query.proofs.GrammarLemmas.{spells_after, spells_pair, left_after, less_after}
 use Rattle.zeb_query.proofs.grammar.+structure.Goals as goal
 
-pub structure-requires : goal.structure-requires
-structure-requires t c =
-    let head = c.in_ok-head.ensures.spelled in
-    let operator = c.in_ok-place-in-Some-Operator.ensures.spelled in
-    omega (arith, left_after c.args.rest c.in_ok-head.rest head.words head.is, less_after c.in_ok-head.rest c.in_ok-place-in-Some-Operator.after operator.operator operator.words operator.is)
+pub structure-returns-in-None-clause-spelled : goal.structure-returns-in-None-clause-spelled
+structure-returns-in-None-clause-spelled t c =
+    IfOk-weaker c.term_of.result _ _ (λ read under. spells_after _ _ _ _ _ c.in_ok-head.ensures.spelled under) c.term_of.ensures.spelled
 
-pub structure-requires-in-Some-Operator : goal.structure-requires-in-Some-Operator
-structure-requires-in-Some-Operator t c =
-    let head = c.in_ok-head.ensures.spelled in
-    let operator = c.in_ok-place-in-Some-Operator.ensures.spelled in
-    let left = c.in_ok-left-in-Some-Operator.ensures.spelled in
+pub structure-returns-in-Some-ResultSet-clause-spelled : goal.structure-returns-in-Some-ResultSet-clause-spelled
+structure-returns-in-Some-ResultSet-clause-spelled t c =
+    IfOk-weaker c.named_of.result _ _ (λ read under. spells_after _ _ _ _ _ c.in_ok-head.ensures.spelled under) c.named_of.ensures.spelled
+
+pub structure-returns-in-Some-Operator-clause-spelled : goal.structure-returns-in-Some-Operator-clause-spelled
+structure-returns-in-Some-Operator-clause-spelled t c =
+    IfOk-weaker c.pair_of.result _ _ (λ read under. spells_after _ _ _ _ _ c.in_ok-head.ensures.spelled under) c.pair_of.ensures.spelled
+
+pub pair_of-operand-requires : goal.pair_of-operand-requires
+pair_of-operand-requires t c =
+    let operator = c.in_ok-place.ensures.spelled in
+    omega (arith, less_after c.args.rest c.in_ok-place.after operator.operator operator.words operator.is)
+
+pub pair_of-operand-requires-2 : goal.pair_of-operand-requires-2
+pair_of-operand-requires-2 t c =
+    let operator = c.in_ok-place.ensures.spelled in
+    let left = c.in_ok-left.ensures.spelled in
     omega (
       arith,
-      left_after c.args.rest c.in_ok-head.rest head.words head.is,
-      less_after c.in_ok-head.rest c.in_ok-place-in-Some-Operator.after operator.operator operator.words operator.is,
-      left_after c.in_ok-place-in-Some-Operator.after c.in_ok-left-in-Some-Operator.after left.words left.is,
+      less_after c.args.rest c.in_ok-place.after operator.operator operator.words operator.is,
+      left_after c.in_ok-place.after c.in_ok-left.after left.words left.is,
     )
 
-pub returns-in_ok-text-in-None-clause-spelled : goal.returns-in_ok-text-in-None-clause-spelled
-returns-in_ok-text-in-None-clause-spelled t c =
-    spells_term c.args.rest c.in_ok-head.rest c.in_ok-word-in-None.after (head_value c.in_ok-head.head) (word_of c.in_ok-word-in-None.word.now) _ c.in_ok-head.ensures.spelled c.in_ok-word-in-None.ensures.reads c.in_ok-word-in-None.ensures.good (c.in-None.ensures ∙ ap first_keyword c.in_ok-word-in-None.ensures.reads.is) c.in_ok-text-in-None.ensures.cases
+pub pair_of-returns-clause-spelled : goal.pair_of-returns-clause-spelled
+pair_of-returns-clause-spelled t c =
+    spells_pair c.args.rest _ _ c.in_ok-right.after (head_value c.args.head) _ _ _ _ _
+    c.in_ok-place.ensures.spelled c.in_ok-left.ensures.spelled c.in_ok-right.ensures.spelled
 
-pub returns-in_ok-text-in-Some-ResultSet-clause-spelled : goal.returns-in_ok-text-in-Some-ResultSet-clause-spelled
-returns-in_ok-text-in-Some-ResultSet-clause-spelled t c =
-    spells_named c.args.rest c.in_ok-head.rest c.in_ok-word-in-Some-ResultSet.after c.in_ok-name-in-Some-ResultSet.after (head_value c.in_ok-head.head) (word_of c.in_ok-word-in-Some-ResultSet.word.now) (word_of c.in_ok-name-in-Some-ResultSet.name.now) _ c.in_ok-head.ensures.spelled c.in_ok-word-in-Some-ResultSet.ensures.reads
-    (ap (λ k. Some k) (sym c.in-Some-ResultSet.field-0-is) ∙ c.in-Some-ResultSet.ensures ∙ ap first_keyword c.in_ok-word-in-Some-ResultSet.ensures.reads.is) c.in_ok-name-in-Some-ResultSet.ensures.reads c.in_ok-name-in-Some-ResultSet.ensures.good c.in_ok-text-in-Some-ResultSet.ensures.cases
+pub structure-returns-in-None-clause-goes : goal.structure-returns-in-None-clause-goes
+structure-returns-in-None-clause-goes t c =
+    IfOk-weaker c.term_of.result _ _ (λ read goes n. c.in_ok-head.ensures.goes n ∙ goes n) c.term_of.ensures.goes
 
-pub returns-in_ok-tree-in-Some-Operator-clause-spelled : goal.returns-in_ok-tree-in-Some-Operator-clause-spelled
-returns-in_ok-tree-in-Some-Operator-clause-spelled t c =
-    subst (λ tree. Spells c.args.rest c.in_ok-right-in-Some-Operator.after tree) (sym c.in_ok-tree-in-Some-Operator.ensures)
-    (spells_pair c.args.rest c.in_ok-head.rest _ c.in_ok-right-in-Some-Operator.after (head_value c.in_ok-head.head) _ _ _ _ _
-    c.in_ok-head.ensures.spelled c.in_ok-place-in-Some-Operator.ensures.spelled
-    c.in_ok-left-in-Some-Operator.after c.in_ok-left-in-Some-Operator.ensures.spelled c.in_ok-right-in-Some-Operator.ensures.spelled)
+pub structure-returns-in-Some-ResultSet-clause-goes : goal.structure-returns-in-Some-ResultSet-clause-goes
+structure-returns-in-Some-ResultSet-clause-goes t c =
+    IfOk-weaker c.named_of.result _ _ (λ read goes n. c.in_ok-head.ensures.goes n ∙ goes n) c.named_of.ensures.goes
+
+pub structure-returns-in-Some-Operator-clause-goes : goal.structure-returns-in-Some-Operator-clause-goes
+structure-returns-in-Some-Operator-clause-goes t c =
+    IfOk-weaker c.pair_of.result _ _ (λ read goes n. c.in_ok-head.ensures.goes n ∙ goes n) c.pair_of.ensures.goes
+
+pub pair_of-returns-clause-goes : goal.pair_of-returns-clause-goes
+pair_of-returns-clause-goes t c = λ n. c.in_ok-place.ensures.goes n ∙ c.in_ok-left.ensures.goes (suc n) ∙ c.in_ok-right.ensures.goes n

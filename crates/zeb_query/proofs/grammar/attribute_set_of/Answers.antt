@@ -9,5 +9,5 @@ returns-then-ne-clause-spelled c = spells_no_set c.args.rest
 pub returns-clause-spelled : goal.returns-clause-spelled
 returns-clause-spelled c =
     let found : first_keyword (left c.args.rest) ≡ Some AttributeSet = search rules in
-    spells_set c.args.rest c.in_ok-after.after c.in_ok-word.after (word_of c.in_ok-after.field-0-0.now) (word_of c.in_ok-word.word.now) _ c.in_ok-after.ensures.reads
-    (sym (ap first_keyword c.in_ok-after.ensures.reads.is) ∙ found) c.in_ok-word.ensures.reads c.in_ok-word.ensures.good c.in_ok-clone.ensures.cases
+    spells_set c.args.rest c.in_ok-after.after c.in_ok-text.after (word_of c.in_ok-after.field-0-0.now) _ c.in_ok-after.ensures.reads
+    (sym (ap first_keyword c.in_ok-after.ensures.reads.is) ∙ found) c.in_ok-text.ensures.reads

@@ -1,5 +1,5 @@
 use Rattle.zeb_query.proofs.Cited.{◌∙◌}
-use Rattle.zeb_query.proofs.GrammarLemmas.{spells_next}
+use Rattle.zeb_query.proofs.GrammarLemmas.{spells_next, spells_no_more}
 use Rattle.zeb_query.proofs.grammar.parameters_of.Goals as goal
 
 pub returns-clause-goes : goal.returns-clause-goes
@@ -9,6 +9,6 @@ returns-clause-goes c = λ n.
 
 pub returns-clause-spelled : goal.returns-clause-spelled
 returns-clause-spelled c =
-    spells_next _ _ _ _ _ c.in_ok-exclusion.ensures.spelled (spells_next _ _ _ _ _ c.in_ok-distance.ensures.spelled
-    (spells_next _ _ _ _ _ c.in_ok-ordered.ensures.spelled (spells_next _ _ _ _ _ c.in_ok-relation.ensures.spelled
-    (spells_next _ _ _ _ _ c.in_ok-which_code.ensures.spelled c.in_ok-unit_code.ensures.spelled))))
+    spells_next _ _ _ _ _ c.in_ok-exclusion.ensures.reads (spells_next _ _ _ _ _ c.in_ok-distance.ensures.reads
+    (spells_next _ _ _ _ _ c.in_ok-ordered.ensures.reads (spells_next _ _ _ _ _ c.in_ok-relation.ensures.reads
+    (spells_next _ _ _ _ _ c.in_ok-which_code.ensures.reads (spells_next _ _ _ _ _ c.in_ok-unit_code.ensures.reads (spells_no_more _))))))
