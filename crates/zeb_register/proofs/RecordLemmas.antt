@@ -1,6 +1,8 @@
 -- Rows of records as the list of a database's records, and as one of them.
-use Rattle.zeb_register.proofs.Cited.{Row, column, row_cmp, value_cmp, State, Int, Text, Blob, all_has, Has, ◌≡◌, ◌⊎◌, ◌∙◌, ◌<◌, ◌≤◌, ℕ, ℤ, pos, false, List, [], ◌∷◌, map, take, slice_get, Some, None, string_bytes, inl, inr, refl, sym, ap, ap₂, subst, Ordering, Less, Equal, Greater, nat_cmp, arith, ranked, is_lt, ordering_then, Record, HasRow, IsListOf, IsStore, records_tree, IsRest, first_three, AreReadable, IsFirstFrom, IsNumberOf, record_shown, IsRecordShown, IsRestAtLeast}
+use Rattle.zeb_register.proofs.Cited.{Row, column, row_cmp, value_cmp, State, Int, Text, Blob, all_has, Has, ◌≡◌, ◌⊎◌, ◌∙◌, ◌<◌, ◌≤◌, ℕ, ℤ, pos, false, List, [], ◌∷◌, map, take, Option, Some, None, string_bytes, inl, inr, refl, sym, ap, ap₂, subst, Ordering, Less, Equal, Greater, nat_cmp, arith, ranked, is_lt, ordering_then, Record, HasRow, IsListOf, IsStore, records_tree, IsRest, first_three, AreReadable, IsFirstFrom, IsNumberOf, record_shown, IsRecordShown, IsRestAtLeast}
 use Rattle.std.specs.List.Sorted.{IsStrictlySortedBy}
+use Rattle.zeb_register.specs.PrivateFirstRows.{AreShown, ShowsFound, ShowsRecord}
+use Rattle.zeb_register.proofs.Columns.{rows_at_least}
 use Rattle.zeb_register.proofs.RecordStatements.{record_rest}
 use Rattle.zeb_register.proofs.TermRows.{int_at, up_to}
 
@@ -27,11 +29,11 @@ module _ (s : State) (db : ℤ) (store : IsStore s) where
 
 -- ---- the first of the rows from a number on
 
-first_of : (all : List Row) (row : Row) → slice_get (take 1 all) 0 ≡ Some row → (rest : List Row) × (all ≡ row ∷ rest)
-first_of [] row h = absurd (cc)
-first_of (r ∷ rest) row h = let e : r ≡ row = cc in (rest, ap (λ x. x ∷ rest) e)
+first_of : (all : List Row) (row : Row) → Has (take 1 all) row → (rest : List Row) × (all ≡ row ∷ rest)
+first_of [] row h = absurd h
+first_of (r ∷ rest) row h = elim h [ inl same ↦ (rest, ap (λ x. x ∷ rest) (sym same)) | inr later ↦ absurd later ]
 
-none_of : (all : List Row) → slice_get (take 1 all) 0 ≡ None → all ≡ []
+none_of : (all : List Row) → take 1 all ≡ [] → all ≡ []
 none_of [] h = refl
 none_of (r ∷ rest) h = absurd (cc)
 
@@ -56,12 +58,12 @@ module _ (s : State) (db : ℤ) (store : IsStore s) (start : ℕ) (all : List Ro
   listed : (n : ℕ) (record' : IsNumberOf s.now.trees db (pos n)) → is_lt (nat_cmp n start) ≡ false → Has all (Int (pos n) ∷ Text record'.0 ∷ Blob record'.1 ∷ [])
   listed n record' from = (are.each (Int (pos n) ∷ Text record'.0 ∷ Blob record'.1 ∷ [])).1 (record'.2, ap is_lt (int_at n start) ∙ from)
 
-  pub first_shown : (row : Row) → slice_get (take 1 all) 0 ≡ Some row → AreReadable s.now.trees db → IsRecordShown row
+  first_shown : (row : Row) → Has (take 1 all) row → AreReadable s.now.trees db → IsRecordShown row
   first_shown row first readable =
       let whole = first_of all row first in
       row_shown s db store row ((are.each row).0 (subst (λ l. Has l row) (sym whole.1) (inl refl))).0 readable
 
-  pub first_record : (row : Row) (found : Record) → slice_get (take 1 all) 0 ≡ Some row → record_shown found ≡ first_three row → IsFirstFrom s.now.trees db start (Some found)
+  first_record : (row : Row) (found : Record) → Has (take 1 all) row → record_shown found ≡ first_three row → IsFirstFrom s.now.trees db start (Some found)
   unfolding IsStrictlySortedBy
   first_record row found first shown =
       let whole = first_of all row first in
@@ -87,8 +89,21 @@ module _ (s : State) (db : ℤ) (store : IsStore s) (start : ℕ) (all : List Ro
             ],
       )
 
-  pub none_left : slice_get (take 1 all) 0 ≡ None → IsFirstFrom s.now.trees db start None
+  none_left : take 1 all ≡ [] → IsFirstFrom s.now.trees db start None
   none_left none n record' = elim (below_or n start) [
     | inl low ↦ low
     | inr from ↦ absurd (subst (λ l. Has l (Int (pos n) ∷ Text record'.0 ∷ Blob record'.1 ∷ [])) (none_of all none) (listed n record' from))
   ]
+
+-- what is read of the row with the least number from the start on
+module _ (s : State) (db : ℤ) (store : IsStore s) (start : ℕ) {column stored : ℤ} {rows items : List Row} (known : column ≡ db) (is : stored ≡ pos start) (same : rows ≡ items)
+    (read : (all : List Row) × IsListOf (IsRestAtLeast records_tree (Int column ∷ []) stored s.now.trees) all × (items ≡ take 1 all)) where
+  are : IsListOf (IsRestAtLeast records_tree (Int db ∷ []) (pos start) s.now.trees) read.0
+  are = rows_at_least s.now.trees records_tree column db stored (pos start) read.0 known is read.1
+
+  pub first_told : (found : Option Record) → ShowsFound ShowsRecord rows found → IsFirstFrom s.now.trees db start found
+  first_told None none = none_left s db store start read.0 are (sym (same ∙ read.2) ∙ none)
+  first_told (Some found) it = first_record s db store start read.0 are it.0 found (subst (λ l. Has l it.0) (sym it.2 ∙ same ∙ read.2) (inl refl)) it.3
+
+  pub rows_shown : AreReadable s.now.trees db → AreShown IsRecordShown rows
+  rows_shown readable row here = first_shown s db store start read.0 are row (subst (λ l. Has l row) (same ∙ read.2) here) readable

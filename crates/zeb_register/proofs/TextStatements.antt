@@ -1,5 +1,5 @@
 -- The statements on the texts that the store keeps of itself, each with what it is compiled to.
-use Rattle.zeb_register.proofs.Cited.{VALUE, IsPlain, command_of, InsertOr, Row, column, Values, State, Executes, Term, lit, col, Trees, Null, Int, Text, has_got, Has, Replace, ◌≡◌, ◌∙◌, arith, sym, ap, subst, map, drop, ℕ, List, [], ◌∷◌, codes, refl, true, false, Ok, inl, inr, slice_get, Some, None, store_schema, meta_table, Replaces, HasRow, IsListOf, IsStore, Changes, meta_tree, entry, IsEntryOf, IsValueRow}
+use Rattle.zeb_register.proofs.Cited.{VALUE, IsPlain, command_of, InsertOr, Row, column, Values, State, Executes, Term, lit, col, Null, Int, Text, Has, Replace, ◌≡◌, ◌∙◌, arith, sym, ap, subst, map, drop, ℕ, List, [], ◌∷◌, codes, refl, true, false, Ok, inl, inr, store_schema, meta_table, Replaces, IsListOf, IsStore, Changes, meta_tree, entry, IsEntryOf, IsValueRow}
 use Rattle.zeb_register.specs.declared.meta.TheConstants.{PUT}
 use Rattle.sqlite.specs.Listing.{understood}
 use Rattle.sqlite.specs.State.{Shown}
@@ -60,17 +60,3 @@ lists_value name old new rows store shown =
           (value.0, is, (h.0, subst (λ y. Has (trees 0) (Int h.0 ∷ Text name ∷ y)) is h.1)),
       λ h. (h.2.0, subst (λ y. Has (trees 0) (Int h.2.0 ∷ Text name ∷ y)) (sym h.1) h.2.1, tt),
     )) (subst (IsListOf P) (sym got.2) got.1)
-
-pub value_found : (trees : Trees) (name : List ℕ) (rows : List Row) (row : Row) (value : List ℕ) → IsListOf (IsValueRow trees name) rows → slice_get rows 0 ≡ Some row → column row 0 ≡ Text value
-    → HasRow trees meta_tree (entry name value)
-value_found trees name rows row value list first is =
-    let found = (list.each row).0 (has_got rows 0 row first) in
-    let same : found.0 ≡ value = let e : Text found.0 ≡ Text value = ap (λ (r : Row). column r 0) (sym found.1) ∙ is in cc in
-    subst (λ v. HasRow trees meta_tree (entry name v)) same found.2
-
-pub no_value : (trees : Trees) (name : List ℕ) (rows : List Row) → IsListOf (IsValueRow trees name) rows → slice_get rows 0 ≡ None → (value : List ℕ) → ¬ HasRow trees meta_tree (entry name value)
-no_value trees name rows list none value there = never rows none ((list.each (Text value ∷ [])).1 (value, refl, there))
-  where
-    never : (rows : List Row) → slice_get rows 0 ≡ None → Has rows (Text value ∷ []) → ⊥
-    never [] none h = h
-    never (r ∷ rows) none h = cc

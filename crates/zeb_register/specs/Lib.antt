@@ -17,6 +17,7 @@ pub mod PlainRows
 pub mod PackedBlocks
 pub mod PrivateRowStatements
 pub mod PrivateRowPlaces
+pub mod PrivateFirstRows
 pub mod PrivatePackedRows
 pub mod PlainUnits
 pub mod PackedUnits

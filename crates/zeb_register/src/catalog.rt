@@ -7,8 +7,9 @@ ghost use Rattle.sqlite.specs.State.{IsUnchanged};
 ghost use Rattle.zeb_register.specs.Store.{databases_tree, TakesDatabase};
 ghost use Rattle.zeb_register.specs.Catalog.{IsDatabaseOf, AreCountedDatabases, PutsDatabase};
 ghost use Rattle.zeb_register.specs.Catalog.{AreDatabases, AreReadableDatabases};
-ghost use Rattle.zeb_register.specs.PrivateCatalog.{listed_row};
+ghost use Rattle.zeb_register.specs.PrivateCatalog.{IsIdOf, listed_row};
 ghost use Rattle.zeb_register.specs.PrivateRowPlaces.{first_three};
+ghost use Rattle.zeb_register.specs.PrivateFirstRows.{AreShown, BeginsWithId, IsCountedRow, ShowsDatabase, ShowsFound, ShowsId};
 ghost use Rattle.zeb_register.specs.PrivateRowStatements.{IsDatabaseShown};
 ghost use Rattle.sqlite_rules.specs.Lists.{Has};
 ghost use Rattle.zeb_register.specs.Calls.{GoesOn, OnlyReads};
@@ -70,13 +71,29 @@ pub fn database_of<S: Alter>(
     ensures refused { IsDueRefusalOf S.Store conn.old conn.new result }
 {
     let rows = database_rows(conn, name)?;
+    Ok(first_database(&rows)?)
+}
+
+/// The database that the first row shows, or `None` where there is no row.
+fn first_database(rows: &[Row]) -> Result<Option<Database>, RowFault>
+    ensures ok { IfOk result (ShowsFound ShowsDatabase rows.now) }
+    ensures honest { result ≡ Err RowFault.Damaged → ¬ AreShown IsCountedRow rows.now }
+{
     match rows.first() {
-        Some(row) => Ok(Some(Database {
-            id: DatabaseId(read_integer(row, 0)?),
-            last: read_number(row, 1)?,
-        })),
+        Some(row) => Ok(Some(counted_in(row)?)),
         None => Ok(None),
     }
+}
+
+/// The id and the last number of a database, as a row shows them.
+fn counted_in(row: &Row) -> Result<Database, RowFault>
+    ensures ok { IfOk result (ShowsDatabase row.now) }
+    ensures honest { result ≡ Err RowFault.Damaged → ¬ IsCountedRow row.now }
+{
+    Ok(Database {
+        id: DatabaseId(read_integer(row, 0)?),
+        last: read_number(row, 1)?,
+    })
 }
 
 /// All databases, rising by the bytes of their names.
@@ -155,17 +172,44 @@ pub fn database_put<S: Alter>(
         (state S.Store tx.new.conn.now) result }
 {
     let last = stored(last)?;
-    let rows = database_rows_inside(tx, name)?;
-    match rows.first() {
-        Some(row) => {
-            let id = read_integer(row, 0)?;
-            last_set(tx, id, last)?;
-            Ok(DatabaseId(id))
+    match id_inside(tx, name)? {
+        Some(id) => {
+            last_set(tx, id.column(), last)?;
+            Ok(id)
         }
         None => {
             database_add(tx, name, last)?;
             Ok(DatabaseId(tx.last_insert_rowid()))
         }
+    }
+}
+
+/// The id of the database of this name, or `None`, whatever its last number is.
+fn id_inside<S: Alter>(
+    tx: &mut Transaction<'_, S>,
+    name: &str,
+) -> Result<Option<DatabaseId>, RegFault>
+    ensures same { tx.new.conn.ghost_name ≡ tx.old.conn.ghost_name }
+    ensures call { InsideOf S.Store tx.old.conn tx.new.conn result (λ _. OnlyReads) }
+    ensures value { TellsInsideOf S.Store tx.old.conn tx.new.conn result
+        (λ trees. IsIdOf trees name.now) }
+    ensures honest { InStoreOf S.Store tx.old.conn tx.new.conn
+        (λ _. result ≢ Err RegFault.Damaged) }
+    ensures opened { IsOpenDamageInside (state S.Store tx.old.conn.now)
+        (state S.Store tx.new.conn.now) result }
+{
+    let rows = database_rows_inside(tx, name)?;
+    Ok(first_id(&rows)?)
+}
+
+/// The id with which the first row begins, or `None` where there is no row.
+fn first_id(rows: &[Row]) -> Result<Option<DatabaseId>, RowFault>
+    ensures ok { IfOk result (ShowsFound ShowsId rows.now) }
+    ensures honest { result ≡ Err RowFault.Damaged → ¬ AreShown BeginsWithId rows.now }
+{
+    match rows.first() {
+        Some(row) => Ok(Some(DatabaseId(read_integer(row, 0)?))),
+        None => Ok(None),
     }
 }
 

@@ -8,6 +8,7 @@ ghost use Rattle.zeb_register.specs.Sql.{Loses, Replaces, IsListOf};
 ghost use Rattle.zeb_register.specs.Store.{records_tree, record_row, HasNumber, SharesRecord, IsRest};
 ghost use Rattle.sqlite_rules.specs.Lists.{Has};
 ghost use Rattle.zeb_register.specs.PrivateRowPlaces.{first_three};
+ghost use Rattle.zeb_register.specs.PrivateFirstRows.{AreShown, IsElderShown, ShowsElder, ShowsFound, ShowsRecord};
 ghost use Rattle.zeb_register.specs.Kept.{IsElderOf, IsIdentOf, AreNumbered, AreReadableIdents, AreReadable, record_shown};
 ghost use Rattle.zeb_register.specs.Kept.{IsFirstFrom, IsRecordCount};
 ghost use Rattle.zeb_register.specs.PrivateRowStatements.{IsRecordShown};
@@ -15,6 +16,7 @@ ghost use Rattle.zeb_register.specs.Calls.{OnlyReads};
 ghost use Rattle.zeb_register.specs.Clauses.{TellsByNumber, TellsByNumberInside};
 ghost use Rattle.zeb_register.specs.Connections.{InsideOf, IsDueRefusalInsideOf, IsDueRefusalOf, IsHonestInsideOf, IsHonestOf, OnStoreOf, ReadingOf, TellsInsideOf, TellsOf, WritesOf};
 
+use crate::meta::first_text;
 use crate::statements::inside::{nothing_inside, rows_from_inside};
 use crate::statements::postings::nothing_of;
 use crate::statements::records::{count_rows, elder_rows, ident_rows, record_rows, rows_from};
@@ -97,13 +99,29 @@ pub fn record_of_ident<S: Alter>(
     ensures refused { IsDueRefusalInsideOf S.Store tx.old.conn tx.new.conn result }
 {
     let rows = elder_rows(tx, db.column(), ident)?;
+    Ok(first_elder(&rows)?)
+}
+
+/// What the first row shows of the record that was looked up, or `None` where there is no row.
+fn first_elder(rows: &[Row]) -> Result<Option<Elder>, RowFault>
+    ensures ok { IfOk result (ShowsFound ShowsElder rows.now) }
+    ensures honest { result ≡ Err RowFault.Damaged → ¬ AreShown IsElderShown rows.now }
+{
     match rows.first() {
-        Some(row) => Ok(Some(Elder {
-            sysno: read_number(row, 0)?,
-            bytes: read(row, 1)?,
-        })),
+        Some(row) => Ok(Some(elder_of(row)?)),
         None => Ok(None),
     }
+}
+
+/// What a row shows of the record that was looked up.
+fn elder_of(row: &Row) -> Result<Elder, RowFault>
+    ensures ok { IfOk result (ShowsElder row.now) }
+    ensures honest { result ≡ Err RowFault.Damaged → ¬ IsElderShown row.now }
+{
+    Ok(Elder {
+        sysno: read_number(row, 0)?,
+        bytes: read(row, 1)?,
+    })
 }
 
 /// The identifier of the record of a system number, or `None`.
@@ -127,10 +145,7 @@ pub fn ident_of<S: Alter>(
         return Ok(None);
     };
     let rows = ident_rows(conn, db.column(), sysno)?;
-    match rows.first() {
-        Some(row) => Ok(Some(read(row, 0)?)),
-        None => Ok(None),
-    }
+    Ok(first_text(&rows)?)
 }
 
 /// How many records a database has; `2^63 - 1`, the greatest number that a column stores, where there are more.
@@ -171,10 +186,7 @@ pub fn record_from<S: Alter>(
         return Ok(None);
     };
     let rows = rows_from(conn, db.column(), start)?;
-    match rows.first() {
-        Some(row) => Ok(Some(record_of(row)?)),
-        None => Ok(None),
-    }
+    Ok(first_record(&rows)?)
 }
 
 /// The same inside a transaction.
@@ -197,10 +209,7 @@ pub fn record_from_inside<S: Alter>(
         return Ok(None);
     };
     let rows = rows_from_inside(tx, db.column(), start)?;
-    match rows.first() {
-        Some(row) => Ok(Some(record_of(row)?)),
-        None => Ok(None),
-    }
+    Ok(first_record(&rows)?)
 }
 
 /// The records of a database, in rising order of their system numbers.
@@ -220,6 +229,17 @@ pub fn records<S: Alter>(
 {
     let rows = record_rows(conn, db.column())?;
     Ok(records_of(alloc, &rows)?)
+}
+
+/// The record that the first row shows, or `None` where there is no row.
+fn first_record(rows: &[Row]) -> Result<Option<Record>, RowFault>
+    ensures ok { IfOk result (ShowsFound ShowsRecord rows.now) }
+    ensures honest { result ≡ Err RowFault.Damaged → ¬ AreShown IsRecordShown rows.now }
+{
+    match rows.first() {
+        Some(row) => Ok(Some(record_of(row)?)),
+        None => Ok(None),
+    }
 }
 
 /// The records that rows show.

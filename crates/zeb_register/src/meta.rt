@@ -1,16 +1,17 @@
 //! Texts that the store keeps of itself, each under a name.
 
-ghost use Rattle.std.specs.Prelude.{◌≡◌};
+ghost use Rattle.std.specs.Prelude.{◌≡◌, IfOk};
 ghost use Rattle.sqlite.specs.State.{IsUnchanged};
 ghost use Rattle.zeb_register.specs.Sql.{Replaces};
 ghost use Rattle.zeb_register.specs.Store.{meta_tree, entry, IsEntryOf, IsValueOf, AreReadableTexts};
+ghost use Rattle.zeb_register.specs.PrivateFirstRows.{AreShown, IsTextShown, ShowsFound, ShowsText};
 ghost use Rattle.zeb_register.specs.Connections.{IsDueRefusalOf, IsHonestOf, ReadingOf, TellsOf, WritesOf};
 
-use crate::RegFault;
 use crate::statements::texts::text_rows;
 use crate::statements::writing::write;
 use crate::values::read;
-use sqlite::{Alter, Connection, Error, Transaction, params};
+use crate::{RegFault, RowFault};
+use sqlite::{Alter, Connection, Error, Row, Transaction, params};
 
 const PUT: &str = "INSERT OR REPLACE INTO meta VALUES (?1, ?2)";
 
@@ -25,6 +26,14 @@ pub fn meta_of<S: Alter>(conn: &mut Connection<S>, name: &str) -> Result<Option<
     ensures refused { IsDueRefusalOf S.Store conn.old conn.new result }
 {
     let rows = text_rows(conn, name)?;
+    Ok(first_text(&rows)?)
+}
+
+/// The text that the first row shows, or `None` where there is no row.
+pub(crate) fn first_text(rows: &[Row]) -> Result<Option<String>, RowFault>
+    ensures ok { IfOk result (ShowsFound ShowsText rows.now) }
+    ensures honest { result ≡ Err RowFault.Damaged → ¬ AreShown IsTextShown rows.now }
+{
     match rows.first() {
         Some(row) => Ok(Some(read(row, 0)?)),
         None => Ok(None),
