@@ -9,15 +9,15 @@ use zeb_blocks::{Damaged, Posting, Postings, push_block, records_in, spell};
 
 /// A block's number and its bytes, and the postings that they spell there: system number, unit and place.
 static ROWS: &str = "\
-0: 1 2 2 -> 1.2.2
-0: 1 2 2 0 1 1 -> 1.2.2 1.3.1
-0: 1 2 2 0 0 3 -> 1.2.2 1.2.5
-0: 1 2 2 254 1 1 1 -> 1.2.2 255.1.1
-1: 0 2 2 -> 256.2.2
+0: 1 2 2 -> 1.2.2;
+0: 1 2 2 0 1 1 -> 1.2.2;1.3.1;
+0: 1 2 2 0 0 3 -> 1.2.2;1.2.5;
+0: 1 2 2 254 1 1 1 -> 1.2.2;255.1.1;
+1: 0 2 2 -> 256.2.2;
 # The longest numbers, and the greatest of nine bytes.
 72057594037927935: 255 1 128 128 128 128 128 128 128 128 128 1 255 255 255 255 255 255 255 255 255 1 -> \
-18446744073709551615.9223372036854775808.18446744073709551615
-0: 1 255 255 255 255 255 255 255 255 127 1 -> 1.9223372036854775807.1
+18446744073709551615.9223372036854775808.18446744073709551615;
+0: 1 255 255 255 255 255 255 255 255 127 1 -> 1.9223372036854775807.1;
 # Bytes that are refused. In the last but one a number has eleven bytes; no system number of so high a block as the last fits 64 bits.
 0:  -> damaged
 0: 0 2 2 -> damaged
@@ -33,19 +33,22 @@ static ROWS: &str = "\
 
 fn bytes_of(alloc: Global, text: &str) -> Result<Vec<u8>, AllocError> {
     let mut bytes = Vec::new(alloc);
-    for number in text.split(' ').filter(|number| !number.is_empty()) {
+    if text.is_empty() {
+        return Ok(bytes);
+    }
+    for number in text.split(' ') {
         bytes.push(number.parse().unwrap_or(0))?;
     }
     Ok(bytes)
 }
 
 fn listed(alloc: Global, postings: &[Posting]) -> Result<String, AllocError> {
-    let mut listed = Vec::new(alloc);
+    let mut listed = String::new(alloc);
     for posting in postings {
         let (sysno, seq, pos) = (posting.sysno, posting.seq, posting.pos);
-        listed.push(format!(in alloc; "{sysno}.{seq}.{pos}")?)?;
+        write!(listed, "{sysno}.{seq}.{pos};")?;
     }
-    listed.join(alloc, " ")
+    Ok(listed)
 }
 
 /// Whether the bytes put the postings behind those of a list, and say of how many records they are.
@@ -83,14 +86,17 @@ fn damaged_line(alloc: Global, block: u64, bytes: &[u8]) -> Result<String, Alloc
     }
 }
 
+/// What is said of a block's bytes.
+fn block_line(alloc: Global, block: u64, bytes: &[u8]) -> Result<String, AllocError> {
+    match Postings::read(block, bytes) {
+        Ok(postings) => sound_line(alloc, block, bytes, postings),
+        Err(Damaged) => damaged_line(alloc, block, bytes),
+    }
+}
+
 fn answer(alloc: Global, text: &str) -> Result<String, AllocError> {
     let (block, bytes) = text.split_once(": ").unwrap_or((text, ""));
-    let block = block.parse().unwrap_or(0);
-    let bytes = bytes_of(alloc, bytes)?;
-    match Postings::read(block, &bytes) {
-        Ok(postings) => sound_line(alloc, block, &bytes, postings),
-        Err(Damaged) => damaged_line(alloc, block, &bytes),
-    }
+    block_line(alloc, block.parse().unwrap_or(0), &bytes_of(alloc, bytes)?)
 }
 
 #[test]

@@ -1,42 +1,89 @@
 //! A worked leaf both ways, and what is found in it.
+
+use crate::rows::{number, rows_hold, text_of};
+use std::alloc::{AllocError, Global};
 use std::test::Fail;
-use zeb_leaf::{LeafReader, find, read_leaf, spell_leaf};
+use zeb_leaf::{Entry, Held, LeafFault, LeafReader, find, read_leaf, spell_leaf};
 
 /// Two terms that share three bytes, and a second block of the other: `mob` in block 0, `moby` in blocks 0 and 2, there in 256 records.
-const LEAF: &[u8] = &[
+static LEAF: &[u8] = &[
     0, 3, b'm', b'o', b'b', 0, 1, 3, 1, 2, 2, //
     3, 1, b'y', 0, 1, 3, 1, 2, 2, //
     4, 0, 2, 0x80, 2, 3, 0, 2, 2,
 ];
 
+/// The entries of the leaf, where these spell it; the first one that a walk gives; and what is found in so many bytes of the leaf, of a term in a
+/// block.
+static ROWS: &str = "\
+entries -> mob Held { block: 0, records: 1, bytes: [1, 2, 2] }%0a\
+moby Held { block: 0, records: 1, bytes: [1, 2, 2] }%0a\
+moby Held { block: 2, records: 256, bytes: [0, 2, 2] }%0a
+walk -> mob Held { block: 0, records: 1, bytes: [1, 2, 2] }%0a
+29 moby 2 -> Ok(Some(Held { block: 2, records: 256, bytes: [0, 2, 2] }))
+29 moby 1 -> Ok(None)
+8 moby 1 -> Err(Malformed)
+";
+
+fn push_entry(lines: &mut String, term: &[u8], held: Held<'_>) -> Result<(), AllocError> {
+    let term = text_of(term);
+    writeln!(lines, "{term} {held:?}")
+}
+
+fn lines_of(alloc: Global, entries: &[Entry]) -> Result<String, AllocError> {
+    let mut lines = String::new(alloc);
+    for entry in entries {
+        let held = Held {
+            block: entry.block,
+            records: entry.records,
+            bytes: entry.bytes.as_slice(),
+        };
+        push_entry(&mut lines, entry.term.as_slice(), held)?;
+    }
+    Ok(lines)
+}
+
+/// The entries of the leaf, where these spell it.
+fn entries_line(alloc: Global) -> Result<String, AllocError> {
+    let Ok(entries) = read_leaf(alloc, LEAF) else {
+        return Err(AllocError);
+    };
+    if spell_leaf(alloc, &entries)?.as_slice() == LEAF {
+        lines_of(alloc, &entries)
+    } else {
+        String::from_str(alloc, "other bytes")
+    }
+}
+
+/// The first entry that a walk gives.
+fn walk_line(alloc: Global) -> Result<String, AllocError> {
+    let mut reader = LeafReader::new(alloc, LEAF);
+    let Ok(Some(held)) = reader.next() else {
+        return Err(AllocError);
+    };
+    let mut line = String::new(alloc);
+    push_entry(&mut line, reader.term(), held)?;
+    Ok(line)
+}
+
+/// What is found in so many bytes of the leaf, of a term in a block.
+fn found_line(alloc: Global, count: &str, text: &str) -> Result<String, AllocError> {
+    let leaf = LEAF.get(..number(count)).unwrap_or(&[]);
+    let (term, block) = text.split_once(' ').unwrap_or((text, ""));
+    match find(alloc, leaf, term.as_bytes(), block.parse().unwrap_or(0)) {
+        Err(LeafFault::Memory) => Err(AllocError),
+        found => format!(in alloc; "{found:?}"),
+    }
+}
+
+fn answer(alloc: Global, text: &str) -> Result<String, AllocError> {
+    match text.split_once(' ') {
+        Some((count, text)) => found_line(alloc, count, text),
+        None if text == "walk" => walk_line(alloc),
+        None => entries_line(alloc),
+    }
+}
+
 #[test]
 fn leaf_is_read_and_written(rt: HostRuntime) -> Result<(), Fail> {
-    let entries = read_leaf(rt.alloc(), LEAF).ok().ok_or("a leaf")?;
-    assert_eq!(rt; entries.len(), 3);
-    assert!(rt; entries[2].term.as_slice() == b"moby".as_slice());
-    assert_eq!(rt; entries[2].block, 2);
-    assert_eq!(rt; entries[2].records, 256);
-    assert!(rt; entries[2].bytes.as_slice() == [0, 2, 2].as_slice());
-    let bytes = spell_leaf(rt.alloc(), entries.as_slice())?;
-    assert!(rt; bytes.as_slice() == LEAF);
-    Ok(())
-}
-
-#[test]
-fn block_is_found(rt: HostRuntime) -> Result<(), Fail> {
-    let found = find(rt.alloc(), LEAF, b"moby", 2).ok().ok_or("a leaf")?;
-    assert_eq!(rt; found.ok_or("an entry")?.records, 256);
-    let found = find(rt.alloc(), LEAF, b"moby", 1).ok().ok_or("a leaf")?;
-    assert!(rt; found.is_none());
-    assert!(rt; find(rt.alloc(), &LEAF[..8], b"moby", 1).is_err());
-    Ok(())
-}
-
-#[test]
-fn walk_goes_entry_by_entry(rt: HostRuntime) -> Result<(), Fail> {
-    let mut reader = LeafReader::new(rt.alloc(), LEAF);
-    let first = reader.next().ok().ok_or("a leaf")?.ok_or("an entry")?;
-    assert!(rt; reader.term() == b"mob".as_slice());
-    assert!(rt; first.bytes == [1, 2, 2].as_slice());
-    Ok(())
+    rows_hold(rt.alloc(), ROWS, answer)
 }

@@ -1,17 +1,17 @@
 //! Streams of records: what is read, what is left, and readers that fail or give little at a time.
 
-use crate::rows::{bytes_of, number, rows_hold};
+use crate::rows::{add, bytes_of, number, rows_hold, rows_hold_at_each_beginning};
 use std::alloc::{AllocError, Global};
 use std::io;
 use std::io::{ErrorKind, Read};
 use std::test::Fail;
-use worked_samples::{name_of, record};
+use worked_samples::name_of;
 use zeb_marc::{FromRead, Marc, MarcFault, RecordBuf, Slice, Source, next_record};
 
 /// How the bytes of some parts are given, and what is read, up to the end or a failed read: a sample by its name, another record by its
 /// length, or a fault; and whether the source has `failed`. The bytes are given by a `slice` or a `reader` of it, by a reader of at most so many
 /// bytes at a time, by one that is `failing` behind the last byte or `interrupted` once before the first, or `bytewise`, by one of single bytes
-/// that fails behind the last, and then it is told how often it was asked.
+/// that fails behind the last. Of single bytes it is told how many there were, and how many times more the reader was asked.
 static ROWS: &str = "\
 slice moby+\r%0a+cafe+ %0a+cut -> moby, cafe, Truncated, end
 slice moby+\r%0a+cafe+ %0a+\x1a -> moby, cafe, Truncated, end
@@ -33,7 +33,7 @@ reader 63 of cafe -> Truncated, end
 failing 63 of cafe -> ReadFault, failed
 interrupted moby -> ReadFault, failed
 # A sound reader never fails.
-1 moby+cafe -> moby, cafe, end
+1 moby+cafe -> moby, cafe, end, 173+1 reads
 2 moby+cafe -> moby, cafe, end
 7 moby+cafe -> moby, cafe, end
 108 moby+cafe -> moby, cafe, end
@@ -53,18 +53,26 @@ failing 65536 * \x20 -> TooManySeparators, ReadFault, failed
 failing 65535 * \x20 -> ReadFault, failed
 failing xxxx -> ReadFault, failed
 # A reader is asked no more often than the answers need bytes, and once for its failure.
-bytewise moby -> moby, ReadFault, failed, 110 reads
-bytewise 65535 * \x20+\x20 -> TooManySeparators, ReadFault, failed, 65537 reads
-bytewise 65535 * \x20 -> ReadFault, failed, 65536 reads
-bytewise 65535 * \x20+xxxxx -> LengthDigits, ReadFault, failed, 65541 reads
-bytewise 65535 * \x20+00025 -> LengthRange, ReadFault, failed, 65541 reads
-bytewise 65535 * \x20+99999nam a2200025 a 4500\x1e+99973 * \x20+\x1d -> 99999, ReadFault, failed, 165535 reads
+bytewise moby -> moby, ReadFault, failed, 109+1 reads
+bytewise 65535 * \x20+\x20 -> TooManySeparators, ReadFault, failed, 65536+1 reads
+bytewise 65535 * \x20 -> ReadFault, failed, 65535+1 reads
+bytewise 65535 * \x20+xxxxx -> LengthDigits, ReadFault, failed, 65540+1 reads
+bytewise 65535 * \x20+00025 -> LengthRange, ReadFault, failed, 65540+1 reads
+bytewise 65535 * \x20+99999nam a2200025 a 4500\x1e+99973 * \x20+\x1d -> 99999, ReadFault, failed, 165534+1 reads
 # Nor is it asked again once it has told its end, but for the next record.
-ended  -> end, 1 reads
-ended moby -> moby, end, 110 reads
-ended 63 of cafe -> Truncated, end, 65 reads
-ended xxxx -> Truncated, end, 6 reads
+1  -> end, 0+1 reads
+1 moby -> moby, end, 109+1 reads
+1 63 of cafe -> Truncated, end, 63+2 reads
+1 xxxx -> Truncated, end, 4+2 reads
 ";
+
+/// Of each beginning of `moby`, and of `cafe`.
+static IN_THE_FIRST: &str = "\
+bytewise N of moby -> ReadFault, failed, N+1 reads
+failing N of moby -> ReadFault, failed
+";
+
+static IN_THE_SECOND: &str = "failing moby+N of cafe -> moby, ReadFault, failed\n";
 
 /// A reader that gives at most so many bytes at a time, and fails once, where so many are left. It counts how often it is asked.
 #[derive(Drop)]
@@ -118,31 +126,27 @@ fn reading_text(
 /// What is read of a source, up to its end or a failed read.
 fn readings<S: Source>(alloc: Global, stream: &[u8], source: &mut S) -> Result<String, AllocError> {
     let mut buffer = RecordBuf::new(alloc)?;
-    let mut found = Vec::new(alloc);
+    let mut found = String::new(alloc);
     let mut is_end = false;
     for _ in 0..9 {
         if is_end || source.has_failed() {
             break;
         }
         let answer = next_record(source, &mut buffer);
-        is_end = answer == Ok(None);
-        found.push(reading_text(alloc, answer, stream, buffer.bytes())?)?;
+        is_end = matches!(answer, Ok(None));
+        let text = reading_text(alloc, answer, stream, buffer.bytes())?;
+        add(&mut found, ", ", &text)?;
     }
     if source.has_failed() {
-        found.push(String::from_str(alloc, "failed")?)?;
+        add(&mut found, ", ", "failed")?;
     }
-    found.join(alloc, ", ")
+    Ok(found)
 }
 
-fn answer(alloc: Global, text: &str) -> Result<String, AllocError> {
-    let (how, parts) = text.split_once(' ').unwrap_or((text, ""));
-    let stream = bytes_of(alloc, parts)?;
-    let bytes = stream.as_slice();
+/// What is read of a reader that gives the bytes in portions.
+fn portioned(alloc: Global, how: &str, bytes: &[u8]) -> Result<String, AllocError> {
     let (most, fails_before) = match how {
-        "slice" => return readings(alloc, bytes, &mut Slice::new(bytes)),
-        "reader" => return readings(alloc, bytes, &mut FromRead::new(bytes)),
         "bytewise" => (1, Some(0)),
-        "ended" => (1, None),
         "failing" => (4096, Some(0)),
         "interrupted" => (4096, Some(bytes.len())),
         most => (number(most), None),
@@ -153,12 +157,26 @@ fn answer(alloc: Global, text: &str) -> Result<String, AllocError> {
         fails_before,
         reads: 0,
     };
-    let found = readings(alloc, bytes, &mut FromRead::new(&mut reader))?;
-    let reads = reader.reads;
-    match how {
-        "bytewise" | "ended" => format!(in alloc; "{found}, {reads} reads"),
-        _ => Ok(found),
+    let mut found = readings(alloc, bytes, &mut FromRead::new(&mut reader))?;
+    if most == 1 {
+        let more = reader.reads.saturating_sub(bytes.len());
+        write!(found, ", {}+{more} reads", bytes.len())?;
     }
+    Ok(found)
+}
+
+/// What is read of bytes that are given so.
+fn given(alloc: Global, how: &str, bytes: &[u8]) -> Result<String, AllocError> {
+    match how {
+        "slice" => readings(alloc, bytes, &mut Slice::new(bytes)),
+        "reader" => readings(alloc, bytes, &mut FromRead::new(bytes)),
+        _ => portioned(alloc, how, bytes),
+    }
+}
+
+fn answer(alloc: Global, text: &str) -> Result<String, AllocError> {
+    let (how, parts) = text.split_once(' ').unwrap_or((text, ""));
+    given(alloc, how, &bytes_of(alloc, parts)?)
 }
 
 #[test]
@@ -169,20 +187,6 @@ fn streams_are_read(rt: HostRuntime) -> Result<(), Fail> {
 /// However many bytes of both records stand before it, a failed read is a fault, and no end.
 #[test]
 fn a_read_may_fail_behind_each_byte(rt: HostRuntime) -> Result<(), Fail> {
-    let mut rows = String::new(rt.alloc());
-    for count in 0..record("moby").len() {
-        let reads = count.saturating_add(1);
-        writeln!(
-            rows,
-            "bytewise {count} of moby -> ReadFault, failed, {reads} reads"
-        )?;
-        writeln!(rows, "failing {count} of moby -> ReadFault, failed")?;
-    }
-    for count in 0..record("cafe").len() {
-        writeln!(
-            rows,
-            "failing moby+{count} of cafe -> moby, ReadFault, failed"
-        )?;
-    }
-    rows_hold(rt.alloc(), &rows, answer)
+    rows_hold_at_each_beginning(rt.alloc(), "moby", IN_THE_FIRST, answer)?;
+    rows_hold_at_each_beginning(rt.alloc(), "cafe", IN_THE_SECOND, answer)
 }

@@ -3,7 +3,7 @@
 mod samples;
 
 use self::samples::READINGS;
-use crate::rows::{repeated, rows_hold};
+use crate::rows::{add, repeated, rows_hold};
 use std::alloc::{AllocError, Global};
 use std::test::Fail;
 use zeb_text::{
@@ -73,37 +73,58 @@ match hash ends a#a#a#a#a#a#a#a#a#a#a#a#a#a#a#a#a#a#a#a = 5000 * a -> true
 match hash ends a#a#a#a#a#a#a#a#a#a#a#a#a#a#a#a#a#a#a#b = 5000 * a -> false
 ";
 
+fn words_line(alloc: Global, text: &str) -> Result<String, AllocError> {
+    words(alloc, text)?.join(alloc, ",")
+}
+
+fn numbers_line(alloc: Global, text: &str) -> Result<String, AllocError> {
+    let mut listed = String::new(alloc);
+    for number in numbers(text) {
+        add(&mut listed, ",", &number.to_string(alloc)?)?;
+    }
+    Ok(listed)
+}
+
+/// Puts a part of a reading behind the others.
+fn add_part(reading: &mut String, part: &str) -> Result<(), AllocError> {
+    reading.push('|')?;
+    reading.push_str(part)
+}
+
 /// What a text folds to, its words and its numbers.
 fn reading(alloc: Global, text: &str) -> Result<String, AllocError> {
-    let folded = fold(alloc, text)?;
-    let words = words(alloc, text)?.join(alloc, ",")?;
-    let mut listed = Vec::new(alloc);
-    for number in numbers(text) {
-        listed.push(number.to_string(alloc)?)?;
-    }
-    let numbers = listed.join(alloc, ",")?;
-    format!(in alloc; "{folded}|{words}|{numbers}")
+    let mut reading = fold(alloc, text)?;
+    add_part(&mut reading, &words_line(alloc, text)?)?;
+    add_part(&mut reading, &numbers_line(alloc, text)?)?;
+    Ok(reading)
+}
+
+/// A star, where the pattern matches these parts of a text as one.
+fn star(alloc: Global, pattern: &Pattern, parts: [&str; 2]) -> Result<&'static str, AllocError> {
+    let is_match = pattern.matches(&parts.concat(alloc)?);
+    Ok(if is_match { "*" } else { "" })
 }
 
 /// The word, where the pattern matches it, with the stars that the pattern has at its ends: an `x` more there matches only
 /// under a star.
 fn shown(alloc: Global, pattern: &Pattern, word: &str) -> Result<String, AllocError> {
-    let before = pattern.matches(format!(in alloc; "x{word}")?.as_str());
-    let after = pattern.matches(format!(in alloc; "{word}x")?.as_str());
-    let left = if before { "*" } else { "" };
-    let right = if after { "*" } else { "" };
+    let left = star(alloc, pattern, ["x", word])?;
+    let right = star(alloc, pattern, [word, "x"])?;
     let middle = if pattern.matches(word) { word } else { "?" };
     format!(in alloc; "{left}{middle}{right}")
 }
 
 fn all_shown(alloc: Global, term: &str, patterns: &[Pattern]) -> Result<String, AllocError> {
     let plain = words(alloc, term)?;
-    let mut listed = Vec::new(alloc);
+    let mut listed = String::new(alloc);
     for (at, pattern) in patterns.iter().enumerate() {
-        let word = plain.get(at).map_or("no word", |word| word.as_str());
-        listed.push(shown(alloc, pattern, word)?)?;
+        let word = match plain.get(at) {
+            Some(word) => word.as_str(),
+            None => "no word",
+        };
+        add(&mut listed, ",", &shown(alloc, pattern, word)?)?;
     }
-    listed.join(alloc, ",")
+    Ok(listed)
 }
 
 fn cut_of(name: &str) -> Cut {
@@ -116,9 +137,31 @@ fn cut_of(name: &str) -> Cut {
     }
 }
 
+fn spread_of(name: &str) -> Spread {
+    match name {
+        "each" => Spread::Each,
+        _ => Spread::Ends,
+    }
+}
+
 /// Whether a pattern matches a text.
 fn match_text(alloc: Global, pattern: &Pattern, text: &str) -> Result<String, AllocError> {
     pattern.matches(&repeated(alloc, text)?).to_string(alloc)
+}
+
+/// What is asked of patterns that are joined.
+fn of_joined(
+    alloc: Global,
+    asked: &str,
+    patterns: &[Pattern],
+    text: &str,
+) -> Result<String, AllocError> {
+    let pattern = join_patterns(alloc, patterns)?;
+    match asked {
+        "literal" => String::from_str(alloc, pattern.literal().unwrap_or("star")),
+        "prefix" => String::from_str(alloc, pattern.prefix()),
+        _ => match_text(alloc, &pattern, text),
+    }
 }
 
 /// What is asked of the patterns of a term.
@@ -126,19 +169,10 @@ fn of_patterns(alloc: Global, asked: &str, text: &str) -> Result<String, AllocEr
     let (cut, text) = text.split_once(' ').unwrap_or((text, ""));
     let (spread, text) = text.split_once(' ').unwrap_or((text, ""));
     let (term, other) = text.split_once(" = ").unwrap_or((text, ""));
-    let spread = match spread {
-        "each" => Spread::Each,
-        _ => Spread::Ends,
-    };
-    let patterns = pattern_words(alloc, term, cut_of(cut), spread)?;
-    if asked == "patterns" {
-        return all_shown(alloc, term, &patterns);
-    }
-    let pattern = join_patterns(alloc, &patterns)?;
+    let patterns = pattern_words(alloc, term, cut_of(cut), spread_of(spread))?;
     match asked {
-        "literal" => String::from_str(alloc, pattern.literal().unwrap_or("star")),
-        "prefix" => String::from_str(alloc, pattern.prefix()),
-        _ => match_text(alloc, &pattern, other),
+        "patterns" => all_shown(alloc, term, &patterns),
+        _ => of_joined(alloc, asked, &patterns, other),
     }
 }
 
