@@ -1,15 +1,36 @@
 -- The statements that find the own key of the leaf behind a key, each with what it is compiled to.
-use Rattle.zeb_leaves.proofs.Cited.{Row, column, Trees, Int, Text, ◌≡◌, ◌++◌, ◌∷◌, ℕ, ℤ, pos, true, false, List, [], refl, arith, IsUpTo, own_key, HasBlockFrom, IsRest, IsStore, State, Shown, blocks_tree}
+use Rattle.zeb_leaves.proofs.Cited.{Row, column, Trees, Int, Text, ◌≡◌, ◌++◌, ◌∷◌, ℕ, ℤ, pos, true, false, List, [], map, codes, inl, inr, refl, arith, IsUpTo, own_key, HasBlockFrom, IsRest, IsStore, State, Shown, blocks_tree}
 use Rattle.std.specs.Ordering.{is_lt}
 use Rattle.sqlite.specs.Listing.{understood}
 use Rattle.sqlite.specs.Order.{value_cmp}
 use Rattle.sqlite_tied.specs.Compute.{everything}
 use Rattle.zeb_leaves.specs.declared.statements_inside.TheConstants.{OF_TERMS_FROM, OF_TERM_FROM}
-use Rattle.zeb_leaves.proofs.LeafStatements.{ShowsLeastKey, first_so, key_names, least_key_shown, term_order}
-use Rattle.zeb_register.proofs.PostingStatements.{register_of}
+use Rattle.zeb_leaf_rows.proofs.LeafStatements.{first_of, first_so, leaf_places, term_order}
+use Rattle.zeb_leaves.specs.PrivateLeafReads.{ShowsLeast}
+use Rattle.zeb_register.proofs.KeyOrder.{not_lower}
+use Rattle.zeb_register.proofs.PostingStatements.{blocks, register_of}
 use Rattle.zeb_register.proofs.PrefixSelects.{IsAfter}
 use Rattle.zeb_register.proofs.Refusals.{IsQuery}
 use Rattle.zeb_register.proofs.StatementForms.{Condition, at_least, equals, keyed_from, one_row, rising, shows}
+use Rattle.zeb_register.proofs.ValueKinds.{are_fit}
+
+-- an own key is shown by these places, alone
+abbrev pub key_names : List (List ℕ)
+key_names = codes "term" ∷ codes "block" ∷ []
+
+-- they are the own keys of the rows that would show the least
+abbrev pub ShowsLeastKey : (Row → Type 0) → List Row → Type 0
+ShowsLeastKey P rows = (leaves : List Row) × (rows ≡ map own_key leaves) × ShowsLeast P leaves
+
+-- the own key of the least is shown
+least_key_shown : (old : State) → IsStore old → (db idx reg : ℤ) (rest : Row) (more : List Condition) → are_fit blocks (register_of db idx reg ++ rest) (keyed_from 1 0 3 ++ more) ≡ true
+    → (text : List ℕ) → IsQuery text (register_of db idx reg ++ rest) 9 (keyed_from 1 0 3 ++ more) (shows term_order) (rising term_order) one_row key_names
+    → (new : State) (rows : List Row) → Shown text (register_of db idx reg ++ rest) old new rows → ShowsLeastKey (IsAfter (old.now.trees 9) (register_of db idx reg) rest more) rows
+least_key_shown old store db idx reg rest more fit text q new rows shown =
+    elim (first_of old store db idx reg rest more fit term_order key_names (rising term_order) (λ row other. IsUpTo (own_key other) row) (λ r s low. not_lower (own_key (map (column s) leaf_places)) (own_key (map (column r) leaf_places)) low) text q new rows shown) [
+      | inl none ↦ ([], none.0, none.1)
+      | inr first ↦ (map (column first.0) leaf_places ∷ [], first.1, first.2)
+    ]
 
 -- ---- of one term
 

@@ -31,7 +31,9 @@ pub use Rattle.zeb_leaf.specs.declared.entries.Entry.{Entry}
 pub use Rattle.zeb_register.specs.Covering.{Covers, HasEntriesAt, IsUpTo, LacksEntriesAt, ShowsEntries, leaf_key, own_key}
 pub use Rattle.zeb_register.specs.HeldLeaves.{AreAloneIn, HoldsLeaves, IsAnyLeaf, IsLeafAlone}
 pub use Rattle.zeb_register.specs.LeafUnits.{AreLeavesMiscounted, AreLeavesWhole, HasMalformedLeaf, IsLeafMalformed, IsLeafOf, LeavesCount, LeavesRead, LeavesReadBlock}
-pub use Rattle.zeb_leaves.specs.PrivateLeafReads.{HasBlockFrom, IsCovering, IsFirst, IsGreatest, IsLastOf, IsLeafAt, IsLeafIn, IsLeast, IsNextBehind, IsUncovered, ShowsFirst, ShowsGreatest, ShowsLast, ShowsLeast, ShowsSome, TellsKey, TellsSome}
+pub use Rattle.zeb_leaf_rows.specs.LeafRows.{HasBlockFrom, IsLastOf, IsLeafAt, IsLeafIn, IsUncovered, ShowsSome}
+pub use Rattle.zeb_leaf_rows.specs.PrivateLeafRows.{IsCovering, IsGreatest}
+pub use Rattle.zeb_leaves.specs.PrivateLeafReads.{IsLeast, IsNextBehind, ShowsLast, TellsKey, TellsSome}
 pub use Rattle.zeb_register.specs.Readings.{HasRecordOf, IsAt, IsEntryOf, IsPartMalformed, LacksSum, PartReads, SayPart, SaysPart, SumsRecords}
 pub use Rattle.zeb_register.proofs.BlockUnits.{none_rises}
 pub use Rattle.zeb_register.proofs.ContentChanges.{integers_apart, posting_total}

@@ -4,7 +4,7 @@ use Rattle.sqlite_rules.proofs.ListLemmas.{has_filtered, has_kept}
 use Rattle.std.proofs.Common.{◌^◌}
 use Rattle.std.proofs.lemmas.Bool.{cases_lt, eq-eqb, eqb-true}
 use Rattle.std.specs.List.Sorted.{IsStrictlySortedBy}
-use Rattle.zeb_leaves.proofs.CoveringLeaves.{leaf_shape}
+use Rattle.zeb_leaf_rows.proofs.CoveringLeaves.{leaf_shape}
 use Rattle.zeb_leaves.proofs.OneCover.{entries_at}
 use Rattle.zeb_leaves.proofs.OneLeaf.{one_leaf}
 use Rattle.zeb_leaves.proofs.SpanLists.{is_of, its, its_has}

@@ -10,7 +10,7 @@ use Rattle.sqlite.specs.Query.{as_count, limited}
 use Rattle.sqlite.specs.Term.{Term, eval}
 use Rattle.sqlite.proofs.Callers.{reads_as}
 use Rattle.sqlite_value.proofs.OrderLemmas.{value_cmp_total}
-use Rattle.zeb_leaves.proofs.LeafStatements.{falling_keys, known, leaf_names, leaf_places, term_order, two_lower}
+use Rattle.zeb_leaf_rows.proofs.LeafStatements.{falling_keys, known, leaf_names, leaf_places, term_order, two_lower}
 use Rattle.zeb_register.proofs.Cited.{has_got}
 use Rattle.zeb_register.proofs.PostingStatements.{blocks, blocks_keys, blocks_static, register_of}
 use Rattle.zeb_register.proofs.PrefixSelects.{IsAfter, after_key}

@@ -3,7 +3,7 @@ use Rattle.zeb_leaves.proofs.Cited.{Row, row_cmp, row_cmp_total, Has, has_right,
 use Rattle.std.proofs.Common.{Bool}
 use Rattle.std.specs.List.Sorted.{IsStrictlySortedBy}
 use Rattle.zeb_leaves.proofs.CountedTerms.{Counted, lower_term, none_counted}
-use Rattle.zeb_leaves.proofs.LeafShapes.{leaf_row}
+use Rattle.zeb_leaf_rows.proofs.LeafShapes.{leaf_row}
 use Rattle.zeb_leaves.proofs.NearLists.{in_front, none_enough}
 use Rattle.zeb_leaves.proofs.NearTerms.{IsDone, Leaves, enough_listed, hidden_next, listed, until_hides, until_told}
 use Rattle.zeb_leaves.proofs.OneCover.{up_to_then}

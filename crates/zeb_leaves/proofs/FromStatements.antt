@@ -5,7 +5,7 @@ use Rattle.sqlite.specs.Listing.{understood}
 use Rattle.sqlite.specs.Order.{value_cmp}
 use Rattle.sqlite_tied.specs.Compute.{everything}
 use Rattle.zeb_leaves.specs.declared.rows_from.TheConstants.{FROM}
-use Rattle.zeb_leaves.proofs.LeafStatements.{leaf_names, leaf_places, term_order, two_lower}
+use Rattle.zeb_leaf_rows.proofs.LeafStatements.{leaf_names, leaf_places, term_order, two_lower}
 use Rattle.zeb_register.proofs.PostingStatements.{blocks, blocks_keys, blocks_static, register_of}
 use Rattle.zeb_register.proofs.PrefixSelects.{IsAfter, lists_after}
 use Rattle.zeb_register.proofs.Refusals.{IsQuery}

@@ -1,9 +1,8 @@
 -- Calls that look for a leaf inside a transaction, one after the other.
-use Rattle.zeb_leaves.proofs.Cited.{Row, Trees, State, Shown, HasCleanDisk, ◌≡◌, ◌⊎◌, ◌∙◌, ◌<◌, ◌+◌, ℕ, ℤ, pos, List, Ok, Err, Result, Option, arith, subst, IsFirst, IsLastOf, IsStore, ShowsLast}
-use Rattle.std.proofs.Common.{◌+ℤ◌, ◌^◌, of_z, to_z, w64}
-use Rattle.std.proofs.lemmas.Int.{ints}
+use Rattle.zeb_leaves.proofs.Cited.{Row, Trees, State, Shown, HasCleanDisk, ◌≡◌, ◌⊎◌, ◌∙◌, ◌∷◌, ℕ, List, [], Ok, Err, Result, Some, None, Option, arith, IsLastOf, IsStore, ShowsLast, ShowsSome, TellsSome}
 use Rattle.sqlite.specs.State.{FailsToQuery, IsTooLate, Survives}
 use Rattle.sqlite.specs.declared.error.Error.{Error}
+use Rattle.zeb_leaf_rows.proofs.CoveringLeaves.{never_last}
 use Rattle.zeb_register.proofs.Calls.{goes_keeps, query_keeps, reads_goes}
 use Rattle.zeb_register.proofs.CallsInTurn.{quiet_then}
 use Rattle.zeb_register.specs.Calls.{Inside, OnlyReads}
@@ -27,6 +26,13 @@ pub finds : {sql : List ℕ} {params : Row} (Q : Trees → Option Row → Type 0
 finds Q old new (Ok found) so shows clean inside store = let it = shows.last clean in so it.0 found store it.1 it.2
 finds Q old new (Err fault) so shows clean inside store = tt
 
+-- it tells whether there is a row, by the rows that are shown
+pub shown_some : (P Q : Row → Type 0) (rows : List Row) (found : Option Row) → ((row : Row) → P row → Q row) → ((row : Row) → Q row → P row) → IsLastOf rows found → ShowsSome P rows → TellsSome Q found
+shown_some P Q [] None so back is none = λ row there. none row (back row there)
+shown_some P Q (r ∷ rows) None so back is some = absurd (let e : r ∷ rows ≡ [] = is in cc)
+shown_some P Q [] (Some row) so back is none = absurd (never_last row is)
+shown_some P Q (r ∷ rows) (Some row) so back is some = (some.0, so some.0 some.1)
+
 -- ---- one call behind another
 
 pub reads_then : (a b c : State) → OnlyReads a b → OnlyReads b c → OnlyReads a c
@@ -43,14 +49,3 @@ inside_then a b c x (Err e) first second = record {
   err = λ clean inside. let before = first.ok (omega (arith, second.crash.clean)) inside in goes_keeps a b c (reads_goes a b before) (second.err clean before.mode);
   crash = quiet_then a b c first.crash second.crash;
 }
-
--- ---- the end behind a block, as it is added in the code
-
-abbrev pub next_number : ℕ → ℤ
-next_number block = to_z w64 (of_z w64 (to_z w64 block +ℤ pos 1))
-
-pub next_is : (block : ℕ) → block < 2 ^ 56 → next_number block ≡ pos (block + 1)
-next_is block small = omega (arith, ints)
-
-pub up_to_next : (P : ℤ → Row → Type 0) (Before : Row → Row → Type 0) (block : ℕ) (found : Option Row) → block < 2 ^ 56 → IsFirst Before (P (next_number block)) found → IsFirst Before (P (pos (block + 1))) found
-up_to_next P Before block found small = subst (λ (z : ℤ). IsFirst Before (P z) found) (next_is block small)

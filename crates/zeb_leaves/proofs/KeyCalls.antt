@@ -7,7 +7,7 @@ use Rattle.std.specs.Prelude.{Vec}
 use Rattle.std.specs.declared.alloc.Global.{Global}
 use Rattle.zeb_keys.proofs.Rising.{texts_apart}
 use Rattle.zeb_leaf.specs.declared.entries.Held.{Held}
-use Rattle.zeb_leaves.proofs.CoveringLeaves.{leaf_shape}
+use Rattle.zeb_leaf_rows.proofs.CoveringLeaves.{leaf_shape}
 use Rattle.zeb_register.proofs.KeyOrder.{greater_is, key_order}
 use Rattle.zeb_leaves.proofs.SaidLists.{block_said, list_of_parts}
 use Rattle.zeb_leaves.proofs.SpanEntries.{AreHeld, HeldIn, all_spans, in_leaf}

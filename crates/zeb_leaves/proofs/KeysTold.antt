@@ -1,8 +1,8 @@
 -- The own key of a leaf, which a statement tells alone.
 use Rattle.zeb_leaves.proofs.Cited.{Row, ◌≡◌, ◌∙◌, ◌∷◌, Some, None, Option, List, [], map, refl, sym, ap, subst, IsLastOf, IsLeast, TellsKey, own_key}
 use Rattle.std.specs.Option.{option_map}
-use Rattle.zeb_leaves.proofs.CoveringLeaves.{never_last}
-use Rattle.zeb_leaves.proofs.LeafStatements.{ShowsLeastKey}
+use Rattle.zeb_leaf_rows.proofs.CoveringLeaves.{never_last}
+use Rattle.zeb_leaves.proofs.BehindStatements.{ShowsLeastKey}
 use Rattle.zeb_leaves.specs.PrivateLeafReads.{ShowsLeast}
 use Rattle.zeb_leaves.specs.PrivateLeafWrites.{HidesEnd, IsEndAt}
 use Rattle.zeb_leaves.specs.PrivateTermReads.{End}

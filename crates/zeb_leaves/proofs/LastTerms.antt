@@ -9,7 +9,7 @@ use Rattle.std.specs.Ordering.{is_lt}
 use Rattle.zeb_leaves.proofs.CountedTerms.{Counted, CountedBy, counted_turned, falling, lower_turned, none_counted}
 use Rattle.zeb_leaves.proofs.FallingKeys.{block_less, by_key, falling_apart, falling_total, falls, falls_total, fits_back, key_before, key_up, least_below, less_up_key}
 use Rattle.zeb_leaves.proofs.FirstTerms.{key_less, less_key}
-use Rattle.zeb_leaves.proofs.LeafShapes.{leaf_row}
+use Rattle.zeb_leaf_rows.proofs.LeafShapes.{leaf_row}
 use Rattle.zeb_leaves.proofs.NearLists.{few_others, in_front, none_enough}
 use Rattle.zeb_leaves.proofs.NearTerms.{IsDone, Leaves, counted_there, enough_listed, listed, until_hides, until_told}
 use Rattle.zeb_leaves.proofs.OneCover.{up_to_then}

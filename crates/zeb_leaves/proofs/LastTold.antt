@@ -8,14 +8,14 @@ use Rattle.std.specs.Prelude.{IfSome, Vec}
 use Rattle.std.specs.declared.alloc.Global.{Global}
 use Rattle.sqlite.specs.Effect.{Database}
 use Rattle.sqlite.specs.Order.{value_cmp}
-use Rattle.zeb_leaves.proofs.CoveringLeaves.{Leaves, below_is_lower, below_up, from_leaf, leaf_shape}
+use Rattle.zeb_leaf_rows.proofs.CoveringLeaves.{Leaves, below_is_lower, below_up, from_leaf, leaf_shape}
 use Rattle.zeb_leaves.proofs.FallingKeys.{by_key, key_before, keys_total}
 use Rattle.zeb_leaves.proofs.FirstTerms.{key_less}
 use Rattle.zeb_leaves.proofs.LastTerms.{StandsBelow, last_hides, last_told, leafless}
 use Rattle.zeb_leaves.proofs.OneLeaf.{one_leaf}
 use Rattle.zeb_leaves.proofs.OwnLeaves.{key_behind}
 use Rattle.zeb_leaves.proofs.TermsTold.{from_least}
-use Rattle.zeb_leaves.specs.PrivateLeafReads.{IsOfTermsBelow}
+use Rattle.zeb_leaf_rows.specs.PrivateLeafRows.{IsOfTermsBelow}
 use Rattle.zeb_leaves.specs.PrivateNearCalls.{HidesBeside, IsSide, ListsBeside}
 use Rattle.zeb_leaves.specs.PrivateNearTerms.{CountBelow, HideBelow}
 use Rattle.zeb_leaves.specs.declared.near_terms.Side.TheVariants.{Below}

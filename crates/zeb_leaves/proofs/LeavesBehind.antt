@@ -6,8 +6,8 @@ use Rattle.sqlite.specs.Order.{value_cmp}
 use Rattle.zeb_keys.proofs.Rising.{texts_apart}
 use Rattle.zeb_register.proofs.BetweenLemmas.{up_to}
 use Rattle.zeb_register.proofs.KeyOrder.{greater_is, key_order}
-use Rattle.zeb_leaves.proofs.CoveringLeaves.{Leaves, from_is, leaf_from, leaf_shape, shape_from}
-use Rattle.zeb_leaves.proofs.LeafShapes.{leaf_row}
+use Rattle.zeb_leaf_rows.proofs.CoveringLeaves.{Leaves, from_is, leaf_from, leaf_shape, shape_from}
+use Rattle.zeb_leaf_rows.proofs.LeafShapes.{leaf_row}
 use Rattle.zeb_leaves.proofs.OwnLeaves.{lt_less}
 
 -- ---- texts above another

@@ -1,12 +1,7 @@
 pub mod Cited
-pub mod LeafStatements
-pub mod LeafShapes
-pub mod CoveringLeaves
-pub mod CoveringCalls
-pub mod KeysTold
-pub mod OnlyLeaf
-pub mod InsideCalls
 pub mod BehindStatements
+pub mod KeysTold
+pub mod InsideCalls
 pub mod OneCover
 pub mod OneLeaf
 pub mod TermEntries

@@ -10,7 +10,7 @@ use Rattle.zeb_leaves.specs.PrivateNearRows.{ListsBack, ListsFront}
 use Rattle.zeb_leaves.specs.declared.near_rows.TheConstants.{FIRST, LAST}
 use Rattle.zeb_leaves.proofs.FallingRows.{falling_shown}
 use Rattle.zeb_leaves.proofs.FromStatements.{from_more, IsFromRow}
-use Rattle.zeb_leaves.proofs.LeafStatements.{IsUnder, below_more, falling_keys, leaf_names, leaf_places, term_order, two_lower}
+use Rattle.zeb_leaf_rows.proofs.LeafStatements.{IsUnder, below_more, falling_keys, leaf_names, leaf_places, term_order, two_lower}
 use Rattle.zeb_register.proofs.PostingStatements.{blocks, blocks_keys, blocks_static, register_of}
 use Rattle.zeb_register.proofs.PrefixSelects.{IsAfter, lists_after}
 use Rattle.zeb_register.proofs.Refusals.{IsQuery}

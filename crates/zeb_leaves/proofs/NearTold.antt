@@ -5,7 +5,7 @@ use Rattle.std.specs.Prelude.{IfOk, IfSome, Vec}
 use Rattle.std.specs.declared.alloc.Global.{Global}
 use Rattle.sqlite.specs.State.{Survives}
 use Rattle.sqlite.specs.Tree.{Trees}
-use Rattle.zeb_leaves.proofs.CoveringLeaves.{Leaves, leaf_shape}
+use Rattle.zeb_leaf_rows.proofs.CoveringLeaves.{Leaves, leaf_shape}
 use Rattle.zeb_leaves.proofs.FirstTerms.{first_hides, first_told, none_first, uncovered_start}
 use Rattle.zeb_leaves.proofs.OneLeaf.{one_leaf}
 use Rattle.zeb_leaves.proofs.TermsTold.{row_so}

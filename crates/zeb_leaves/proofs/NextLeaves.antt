@@ -5,7 +5,7 @@ use Rattle.sqlite.specs.Order.{value_cmp}
 use Rattle.zeb_leaf.specs.Spans.{key_cmp}
 use Rattle.zeb_register.proofs.BetweenLemmas.{up_to}
 use Rattle.zeb_register.proofs.KeyOrder.{key_order}
-use Rattle.zeb_leaves.proofs.CoveringLeaves.{Leaves, from_leaf, leaf_from, leaf_shape}
+use Rattle.zeb_leaf_rows.proofs.CoveringLeaves.{Leaves, from_leaf, leaf_from, leaf_shape}
 use Rattle.zeb_leaves.proofs.LeavesBehind.{above_is}
 use Rattle.zeb_leaves.proofs.OwnLeaves.{lt_less}
 use Rattle.zeb_leaves.specs.PrivateSpans.{ShowsKey}

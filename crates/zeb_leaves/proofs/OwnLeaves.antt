@@ -8,7 +8,7 @@ use Rattle.std.specs.Ordering.{is_lt}
 use Rattle.zeb_leaf.specs.Spans.{key_cmp}
 use Rattle.zeb_register.proofs.KeyOrder.{key_order}
 use Rattle.zeb_register.proofs.LeafReadings.{entries_total, one_shown}
-use Rattle.zeb_leaves.proofs.LeafShapes.{leaf_row}
+use Rattle.zeb_leaf_rows.proofs.LeafShapes.{leaf_row}
 use Rattle.zeb_register.proofs.LeafSums.{shown_rises}
 use Rattle.zeb_leaves.proofs.OneCover.{covers_itself, entries_at, one_cover, same_key, up_to_then}
 use Rattle.zeb_leaves.proofs.SpanEntries.{HasOwnIn, own_joined}

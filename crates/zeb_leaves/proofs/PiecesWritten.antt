@@ -11,7 +11,7 @@ use Rattle.zeb_register.specs.Store.{Changes, KeepsLists}
 use Rattle.zeb_register.specs.UnitChanges.{IsTold}
 use Rattle.zeb_register.specs.declared.registers.KeyChanges.{KeyChanges}
 use Rattle.zeb_register.specs.declared.registers.RegisterOf.{RegisterOf}
-use Rattle.zeb_leaves.proofs.CoveringLeaves.{leaf_shape}
+use Rattle.zeb_leaf_rows.proofs.CoveringLeaves.{leaf_shape}
 use Rattle.zeb_leaves.proofs.MergedSayings.{has_of, of_has, put_at}
 use Rattle.zeb_leaves.proofs.OneLeaf.{one_leaf}
 use Rattle.zeb_leaves.proofs.PartedLeaves.{key_at, parts_keys}

@@ -5,7 +5,7 @@ use Rattle.std.proofs.lemmas.List.{append-nil}
 use Rattle.zeb_leaf.specs.Cuts.{AreCut, BeginsAt, IsCutOff}
 use Rattle.zeb_leaf.specs.declared.entries.TheConstants.{FULL_BYTES}
 use Rattle.zeb_leaf.specs.declared.parting.NewLeaf.{NewLeaf}
-use Rattle.zeb_leaves.proofs.LeafShapes.{leaf_row}
+use Rattle.zeb_leaf_rows.proofs.LeafShapes.{leaf_row}
 use Rattle.zeb_leaves.specs.LeafChanges.{ArePartedFrom, IsPart}
 use Rattle.zeb_leaves.specs.PrivateLeafWrites.{AreFilled, IfToldPuts, IfToldPutsEntries, IsFilled, IsNewRow, IsRowOfOne, PutsEntries, PutsLeaves}
 use Rattle.zeb_register.proofs.Calls.{changes_so}

@@ -1,5 +1,5 @@
 -- What calls that read neighbouring terms answer, by the leaves that they found.
-use Rattle.zeb_leaves.proofs.Cited.{Row, column, Has, Int, Text, ◌≡◌, ◌≢◌, ◌↔◌, ◌∙◌, ◌<◌, ◌+◌, ◌++◌, ◌∷◌, ℕ, pos, false, true, List, [], Ok, Err, Result, Some, drop, length, refl, sym, ap, subst, inl, inr, arith, Ordering, Less, Equal, Greater, nat_cmp, nat_list_cmp_total, slice_cmp, ordering_reverse, value_cmp-Text, Posting, Entry, State, Covers, IsLeafAt, IsLeafIn, IsStore, IsUncovered, leaf_key, own_key}
+use Rattle.zeb_leaves.proofs.Cited.{Row, column, row_cmp, Has, Int, Text, ◌≡◌, ◌≢◌, ◌↔◌, ◌∙◌, ◌<◌, ◌+◌, ◌++◌, ◌∷◌, ℕ, pos, false, true, List, [], Ok, Err, Result, Some, drop, length, refl, sym, ap, subst, inl, inr, arith, Ordering, Less, Equal, Greater, nat_cmp, nat_list_cmp_total, slice_cmp, ordering_reverse, value_cmp-Text, Posting, Entry, State, Covers, IsLeafAt, IsLeafIn, IsStore, IsUncovered, leaf_key, own_key}
 use Rattle.std.proofs.Common.{get_or}
 use Rattle.std.proofs.lemmas.List.{drop_more}
 use Rattle.std.specs.List.Sorted.{IsStrictlySortedBy}
@@ -9,7 +9,7 @@ use Rattle.std.specs.declared.alloc.Global.{Global}
 use Rattle.sqlite.specs.Effect.{Database}
 use Rattle.sqlite.specs.Order.{value_cmp}
 use Rattle.zeb_leaf.specs.declared.entries.Held.{Held}
-use Rattle.zeb_leaves.proofs.CoveringLeaves.{Leaves, from_leaf, leaf_from, leaf_shape, shape_from}
+use Rattle.zeb_leaf_rows.proofs.CoveringLeaves.{Leaves, from_leaf, leaf_from, leaf_shape, shape_from}
 use Rattle.zeb_leaves.proofs.SpanEntries.{HeldIn, all_spans}
 use Rattle.zeb_leaves.proofs.SpanLists.{said_of_held, span_listed, span_unsaid}
 use Rattle.zeb_leaves.proofs.SpanRuns.{last_up}
@@ -19,7 +19,8 @@ use Rattle.zeb_register.specs.Units.{HasMalformedBetween, ListsBetween}
 use Rattle.zeb_register.specs.Formats.{packed_leaves}
 use Rattle.zeb_leaves.specs.KeyReads.{AreEntriesBetween, SayParts}
 use Rattle.zeb_leaves.specs.PrivateSaid.{SayAll, SomeSaysNone}
-use Rattle.zeb_leaves.specs.PrivateSpans.{AreSpanLeaves, IsRowBetween, IsSpanLeaf, ShowAllSpans, ShowSpans, ShowsKey, ShowsSpan, SomeShowsNoKey}
+use Rattle.zeb_leaf_rows.specs.LeafRows.{IsOnlyLeaf, IsRowBetween}
+use Rattle.zeb_leaves.specs.PrivateSpans.{AreSpanLeaves, IsSpanLeaf, ShowAllSpans, ShowSpans, ShowsKey, ShowsSpan, SomeShowsNoKey}
 use Rattle.zeb_register.proofs.BetweenLemmas.{up_to}
 use Rattle.zeb_register.proofs.Selects.{list_so}
 use Rattle.zeb_register.specs.Answers.{Answers, IfDamaged, IfRefused}
@@ -46,6 +47,27 @@ no_text row none term block shows = none term (ap (λ (k : Row). column k 0) sho
 
 pub no_number : (row : Row) → ¬ ((n : ℕ) × (column row 1 ≡ Int (pos n))) → (term : List ℕ) (block : ℕ) → ¬ ShowsKey row term block
 no_number row none term block shows = none (block, ap (λ (k : Row). column k 1) shows)
+
+-- the one leaf that has all of neighbouring terms is alone among theirs
+one_rises : IsStrictlySortedBy row_cmp []
+unfolding IsStrictlySortedBy
+one_rises = tt
+
+pub only_spans : (Leaves : Row → Type 0) (first end : List ℕ) (leaf : Row) → IsOnlyLeaf Leaves first end leaf → (last : List ℕ) → end ≡ last ++ 0 ∷ [] → AreSpanLeaves Leaves first last (leaf ∷ [])
+only_spans Leaves first end leaf only last is = (
+  only.covers,
+  record {
+    each = λ other. (
+      λ here. absurd here,
+      λ it.
+          let out = only.alone other it.0 it.1 it.2 it.3 it.4.0 in
+          let inside = ap (λ e. is_lt (slice_cmp nat_cmp it.1 e)) is ∙ (up_to last it.1).1 it.4.1 in
+          let e : true ≡ false = sym inside ∙ out in
+          absurd (cc),
+    );
+    rising = one_rises;
+  },
+)
 
 -- no text stands between two that fall
 never_between : (first last t : List ℕ) → is_lt (slice_cmp nat_cmp last first) ≡ true → IsBetween first last t → ⊥

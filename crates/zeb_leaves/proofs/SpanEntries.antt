@@ -7,7 +7,7 @@ use Rattle.zeb_leaf.specs.Answers.{entry_of}
 use Rattle.zeb_leaf.specs.declared.entries.Held.{Held}
 use Rattle.zeb_register.proofs.KeyOrder.{key_order}
 use Rattle.zeb_register.proofs.LeafReadings.{entries_total, one_shown}
-use Rattle.zeb_leaves.proofs.LeafShapes.{leaf_row}
+use Rattle.zeb_leaf_rows.proofs.LeafShapes.{leaf_row}
 use Rattle.zeb_register.proofs.LeafSums.{shown_rises}
 use Rattle.zeb_leaves.proofs.SpanRuns.{behind_listed, below_end, below_or, covers_key, end_above, first_is, first_least, flipped_back, from_term, last_up, less_up, not_less_up, term_from, term_up, up_itself, up_less, up_not_less}
 use Rattle.zeb_leaves.proofs.OneCover.{covers_itself, entries_at, one_cover, up_to_then}

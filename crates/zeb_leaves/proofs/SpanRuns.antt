@@ -5,7 +5,7 @@ use Rattle.std.specs.Ordering.{is_lt}
 use Rattle.std.specs.List.Sorted.{IsStrictlySortedBy}
 use Rattle.sqlite.specs.Order.{value_cmp}
 use Rattle.zeb_register.proofs.KeyOrder.{greater_is, key_order}
-use Rattle.zeb_leaves.proofs.LeafShapes.{leaf_row}
+use Rattle.zeb_leaf_rows.proofs.LeafShapes.{leaf_row}
 use Rattle.zeb_leaves.proofs.OneCover.{same_key, up_to_then}
 use Rattle.zeb_leaves.specs.PrivateSpans.{IsSpanLeaf}
 use Rattle.zeb_register.proofs.BetweenLemmas.{up_to}

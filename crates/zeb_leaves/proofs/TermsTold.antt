@@ -7,7 +7,7 @@ use Rattle.std.specs.declared.alloc.Global.{Global}
 use Rattle.sqlite.specs.Effect.{Database}
 use Rattle.sqlite.specs.Order.{value_cmp}
 use Rattle.zeb_leaves.proofs.CountedTerms.{Counted, all_counted, none_there}
-use Rattle.zeb_leaves.proofs.CoveringLeaves.{Leaves, from_leaf, leaf_from, leaf_shape, shape_from}
+use Rattle.zeb_leaf_rows.proofs.CoveringLeaves.{Leaves, from_leaf, leaf_from, leaf_shape, shape_from}
 use Rattle.zeb_register.proofs.LeafReadings.{lacks_sum}
 use Rattle.zeb_leaves.proofs.OneLeaf.{one_leaf}
 use Rattle.zeb_leaves.proofs.OwnLeaves.{FromText, IsHidden, all_hide, all_owns}

@@ -3,7 +3,7 @@ use Rattle.std.specs.Prelude.{◌≢◌, ℕ, List, [], Option, Result, Vec, IfS
 use Rattle.std.specs.declared.alloc.Global.{Global}
 use Rattle.sqlite.specs.State.{State}
 use Rattle.sqlite.specs.Tree.{Trees}
-use Rattle.zeb_leaves.specs.PrivateLeafReads.{IsLeafIn}
+use Rattle.zeb_leaf_rows.specs.LeafRows.{IsLeafIn}
 use Rattle.zeb_leaves.specs.declared.near_terms.Side.{Side}
 use Rattle.zeb_leaves.specs.declared.near_terms.Side.TheVariants.{Below, From}
 use Rattle.zeb_register.specs.Answers.{TellsOr}

@@ -1,27 +1,14 @@
 -- What only the contracts of private functions speak of; no public clause reaches it: the leaves of neighbouring terms, and the entries that
 -- they have of these.
-use Rattle.std.specs.Prelude.{◌≡◌, ◌⊎◌, ◌++◌, ◌∷◌, ℕ, true, false, List, []}
-use Rattle.std.specs.Ordering.{is_lt, nat_cmp}
-use Rattle.std.specs.Cmp.Lexicographic.{slice_cmp}
-use Rattle.sqlite.specs.declared.types.Value.TheVariants.{Text}
-use Rattle.sqlite.specs.Order.{Row, column}
-use Rattle.sqlite.specs.Tree.{Trees}
+use Rattle.std.specs.Prelude.{◌≡◌, ◌⊎◌, ◌++◌, ◌∷◌, ℕ, List, []}
+use Rattle.sqlite.specs.Order.{Row}
 use Rattle.sqlite_rules.specs.Lists.{Has}
 use Rattle.zeb_leaf.specs.Spans.{AreInSpan}
 use Rattle.zeb_leaf.specs.declared.entries.Entry.{Entry}
 use Rattle.zeb_leaf.specs.declared.entries.Held.{Held}
 use Rattle.zeb_register.specs.Covering.{Covers, ShowsEntries, leaf_key, own_key}
-use Rattle.zeb_leaves.specs.PrivateLeafReads.{HasBlockFrom}
 use Rattle.zeb_register.specs.Between.{IsBetween}
-use Rattle.zeb_register.specs.PrivateBetweenRows.{IsRestBetween}
-use Rattle.zeb_register.specs.PrivateKeyColumns.{register_columns}
 use Rattle.zeb_register.specs.Sql.{IsListOf}
-use Rattle.zeb_register.specs.Store.{blocks_tree}
-use Rattle.zeb_register.specs.declared.registers.RegisterOf.{RegisterOf}
-
--- a row of the register with a term from one text on and below another, whose block isn't negative
-abbrev pub IsRowBetween : RegisterOf → (first end : List ℕ) → Trees → Row → Type 0
-IsRowBetween at first end trees row = IsRestBetween blocks_tree (register_columns at) first end trees row × HasBlockFrom 0 row
 
 module _ (Leaves : Row → Type 0) (first last : List ℕ) where
   -- a leaf whose own key has a term between the two, and that is Low
@@ -32,16 +19,6 @@ module _ (Leaves : Row → Type 0) (first last : List ℕ) where
   abbrev pub AreSpanLeaves : List Row → Type 0
   AreSpanLeaves [] = (leaf : Row) → ¬ Leaves leaf
   AreSpanLeaves (row ∷ rows) = Covers Leaves (leaf_key first 0) row × IsListOf (IsSpanLeaf (λ _. Unit {0})) rows
-
--- the row's own term is text, and below this one
-abbrev pub HasTermBelow : List ℕ → Row → Type 0
-HasTermBelow text row = (term : List ℕ) × (column row 0 ≡ Text term) × (is_lt (slice_cmp nat_cmp term text) ≡ true)
-
--- the leaf covers block 0 of the first text, and no leaf has an own key whose term stands from there on and below the end
-pub record IsOnlyLeaf (Leaves : Row → Type 0) (first end : List ℕ) (leaf : Row) : Type 0 where
-  pub covers : Covers Leaves (leaf_key first 0) leaf
-  pub alone : (other : Row) → Leaves other → (term : List ℕ) (block : ℕ) → own_key other ≡ leaf_key term block
-      → is_lt (slice_cmp nat_cmp term first) ≡ false → is_lt (slice_cmp nat_cmp term end) ≡ false
 
 -- the row's own key
 abbrev pub ShowsKey : Row → List ℕ → ℕ → Type 0

@@ -12,7 +12,7 @@ use Rattle.zeb_leaf.specs.Leaves.{IsLeaf}
 use Rattle.zeb_leaf.specs.Spans.{key_cmp}
 use Rattle.zeb_leaf.specs.declared.entries.Entry.{Entry}
 use Rattle.zeb_register.specs.Covering.{Covers, ShowsEntries, leaf_key, own_key}
-use Rattle.zeb_leaves.specs.PrivateLeafReads.{HasBlockFrom}
+use Rattle.zeb_leaf_rows.specs.LeafRows.{HasBlockFrom}
 use Rattle.zeb_leaves.specs.PrivateSpans.{ShowsKey, ShowsNone}
 use Rattle.zeb_register.specs.Readings.{SaysPart}
 use Rattle.zeb_register.specs.PrivateKeyColumns.{register_columns}

@@ -5,7 +5,7 @@ use Rattle.sqlite.specs.Order.{Row}
 use Rattle.sqlite.specs.State.{State}
 use Rattle.sqlite.specs.Tree.{Trees}
 use Rattle.zeb_leaf.specs.Spans.{key_cmp}
-use Rattle.zeb_leaves.specs.PrivateLeafReads.{IsLeafIn}
+use Rattle.zeb_leaf_rows.specs.LeafRows.{IsLeafIn}
 use Rattle.zeb_leaves.specs.PrivatePieces.{block_of}
 use Rattle.zeb_leaves.specs.PrivatePutPieces.{EndsLeaf}
 use Rattle.zeb_leaves.specs.PrivateTermReads.{End}

@@ -12,10 +12,10 @@ ghost use Rattle.zeb_register.specs.Units.{ListsTerms};
 
 use crate::said_postings::postings_said;
 use crate::spans::{span_leaves, spans_in};
-use crate::statements::some_row;
 use sqlite::{Alter, Connection};
 use std::alloc::Global;
 use zeb_blocks::Posting;
+use zeb_leaf_rows::some_row;
 use zeb_register::for_layouts::text_above;
 use zeb_register::{RegFault, RegisterOf};
 

@@ -3,8 +3,9 @@
 ghost use Rattle.std.specs.Prelude.{◌≡◌, ◌<◌, ◌++◌, ◌∷◌, ◌^◌, [], None, Some, IfErr, IfOk, IsTrue};
 ghost use Rattle.std.specs.Option.{option_map};
 ghost use Rattle.zeb_leaf.specs.declared.spans.BlockKey.{BlockKey as KeyOfBlock};
-ghost use Rattle.zeb_leaves.specs.PrivateLeafReads.{IsCovering, IsLeafAt, IsLeafIn, IsLeast};
-ghost use Rattle.zeb_leaves.specs.PrivateLeafReads.{IsNextBehind, IsUncovered, TellsKey};
+ghost use Rattle.zeb_leaf_rows.specs.LeafRows.{IsLeafAt, IsLeafIn, IsUncovered};
+ghost use Rattle.zeb_leaf_rows.specs.PrivateLeafRows.{IsCovering};
+ghost use Rattle.zeb_leaves.specs.PrivateLeafReads.{IsLeast, IsNextBehind, TellsKey};
 ghost use Rattle.zeb_leaves.specs.PrivateLeafWrites.{HidesEnd, IsEndAt};
 ghost use Rattle.zeb_leaves.specs.PrivateTermReads.{IsRowFrom};
 ghost use Rattle.zeb_register.specs.Answers.{Answers, IfDamaged};

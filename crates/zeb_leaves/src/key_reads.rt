@@ -10,7 +10,6 @@ ghost use Rattle.zeb_register.specs.Connections.{ReadingOf};
 ghost use Rattle.zeb_register.specs.Formats.{packed_leaves};
 ghost use Rattle.zeb_register.specs.Units.{ListsKey};
 
-use crate::covering::leaf_at;
 use crate::said_postings::postings_said;
 use crate::spans::{push_row_span, span_leaves, spans_in};
 use sqlite::{Alter, Connection, Row};
@@ -18,6 +17,7 @@ use std::alloc::Global;
 use zeb_blocks::Posting;
 use zeb_keys::Key;
 use zeb_leaf::{BlockKey, records_said};
+use zeb_leaf_rows::leaf_at;
 use zeb_register::for_layouts::text_above;
 use zeb_register::{DatabaseId, RegFault, RegisterOf, RowFault};
 

@@ -4,7 +4,7 @@ ghost use Rattle.std.specs.Prelude.{◌≡◌, ◌↔◌, ◌⊎◌, ◌≤◌, 
 ghost use Rattle.sqlite.specs.Held.{state};
 ghost use Rattle.sqlite.specs.Order.{Row as Columns};
 ghost use Rattle.sqlite.specs.State.{IsUnchanged};
-ghost use Rattle.zeb_leaves.specs.PrivateLeafReads.{IsLeafIn};
+ghost use Rattle.zeb_leaf_rows.specs.LeafRows.{IsLeafIn};
 ghost use Rattle.zeb_leaves.specs.PrivateNearCalls.{MayTellBeside};
 ghost use Rattle.zeb_leaves.specs.PrivateNearTerms.{AreEnoughAt, CountBelow, CountsDown, GoesDown, HideBelow};
 ghost use Rattle.zeb_leaves.specs.PrivateNearTerms.{HidesDown, StopsDown};
@@ -12,7 +12,6 @@ ghost use Rattle.zeb_leaves.specs.declared.near_terms.Side.TheVariants.{Below};
 ghost use Rattle.zeb_register.specs.Answers.{Answers, IfDamaged, IfRowDamaged};
 ghost use Rattle.zeb_register.specs.Connections.{IsReasonedOf, OnStoreOf, ReadingOf};
 
-use crate::covering::no_leaf;
 use crate::near_rows::{are_all, last_rows};
 use crate::own_entries::own_entries;
 use crate::spans::own_key;
@@ -20,6 +19,7 @@ use crate::until_enough::{are_enough, entries_until};
 use sqlite::{Alter, Connection, Row};
 use std::alloc::Global;
 use zeb_leaf::BlockKey;
+use zeb_leaf_rows::no_leaf;
 use zeb_register::{RegFault, RegisterOf, RowFault, TermCount};
 
 /// Whether no entry of a key below this one is of one of the `n` terms that are counted.

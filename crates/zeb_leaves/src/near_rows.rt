@@ -1,7 +1,7 @@
 //! The leaves nearest to a text, so many at most.
 
 ghost use Rattle.std.specs.Prelude.{◌<◌, ◌↔◌, IsTrue, length};
-ghost use Rattle.zeb_leaves.specs.PrivateLeafReads.{IsOfTermsBelow};
+ghost use Rattle.zeb_leaf_rows.specs.PrivateLeafRows.{IsOfTermsBelow};
 ghost use Rattle.zeb_leaves.specs.PrivateNearRows.{ListsBack, ListsFront};
 ghost use Rattle.zeb_leaves.specs.PrivateTermReads.{IsRowFrom};
 ghost use Rattle.zeb_register.specs.Connections.{IsReasonedErrorOf, ReadingOf};

@@ -11,10 +11,9 @@ ghost use Rattle.zeb_register.specs.Terms.{TellsBefore, TellsFrom};
 
 use crate::first_terms::first_within;
 use crate::last_terms::last_within;
-use crate::only_leaf::leaf_from;
-use crate::statements::some_row;
 use sqlite::{Alter, Connection, Row};
 use std::alloc::Global;
+use zeb_leaf_rows::{leaf_from, some_row};
 use zeb_register::{RegFault, RegisterOf, TermCount};
 
 /// On which side of a text terms are asked for.

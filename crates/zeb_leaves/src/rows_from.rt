@@ -3,16 +3,16 @@
 ghost use Rattle.std.specs.Prelude.{◌≡◌, ◌≢◌, ◌∷◌, List, Err};
 ghost use Rattle.sqlite.specs.State.{IsUnchanged};
 ghost use Rattle.zeb_register.specs.Covering.{leaf_key};
-ghost use Rattle.zeb_leaves.specs.PrivateLeafReads.{IsLeafIn, IsUncovered};
+ghost use Rattle.zeb_leaf_rows.specs.LeafRows.{IsLeafIn, IsUncovered};
 ghost use Rattle.zeb_leaves.specs.PrivateTermReads.{AreLeavesFrom, IsRowFrom};
 ghost use Rattle.zeb_register.specs.Answers.{Answers, IfDamaged};
 ghost use Rattle.zeb_register.specs.Connections.{IsReasonedErrorOf, IsReasonedOf, OnStoreOf, ReadingOf, TellsOf};
 ghost use Rattle.zeb_register.specs.PrivateRowStatements.{Lists};
 ghost use Rattle.zeb_register.specs.Sql.{IsListOf};
 
-use crate::covering::leaf_at;
 use sqlite::{Alter, Connection, Error, Row, params};
 use std::alloc::Global;
+use zeb_leaf_rows::leaf_at;
 use zeb_register::for_layouts::look_up;
 use zeb_register::{RegFault, RegisterOf};
 

@@ -7,20 +7,18 @@ ghost use Rattle.sqlite.specs.Order.{column};
 ghost use Rattle.sqlite.specs.State.{IsUnchanged};
 ghost use Rattle.sqlite.specs.declared.types.Value.TheVariants.{Blob, Text};
 ghost use Rattle.zeb_register.specs.Covering.{HasTextTerm, leaf_key};
-ghost use Rattle.zeb_leaves.specs.PrivateLeafReads.{IsLeafIn, IsUncovered};
-ghost use Rattle.zeb_leaves.specs.PrivateSpans.{AreSpanLeaves, IsRowBetween, ShowAllSpans, ShowSpans};
+ghost use Rattle.zeb_leaf_rows.specs.LeafRows.{IsLeafIn, IsRowBetween, IsUncovered};
+ghost use Rattle.zeb_leaves.specs.PrivateSpans.{AreSpanLeaves, ShowAllSpans, ShowSpans};
 ghost use Rattle.zeb_leaves.specs.PrivateSpans.{ShowsKey, ShowsNone, ShowsSpan, SomeShowsNoKey};
 ghost use Rattle.zeb_register.specs.Answers.{Answers, IfDamaged, IfRowDamaged};
 ghost use Rattle.zeb_register.specs.Connections.{IsReasonedOf, OnStoreOf, ReadingOf, TellsOf};
 ghost use Rattle.zeb_register.specs.Sql.{IsListOf};
 
-use crate::covering::leaf_at;
-use crate::only_leaf::only_leaf;
-use crate::statements::rows_between;
 use sqlite::types::ValueRef;
 use sqlite::{Alter, Connection, Row};
 use std::alloc::Global;
 use zeb_leaf::{BlockKey, Held, LeafFault, push_span};
+use zeb_leaf_rows::{leaf_at, only_leaf, rows_between};
 use zeb_register::for_layouts::{read_bytes, read_number};
 use zeb_register::{RegFault, RegisterOf, RowFault};
 

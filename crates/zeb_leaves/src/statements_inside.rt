@@ -3,17 +3,17 @@
 ghost use Rattle.std.specs.Prelude.{◌≡◌};
 ghost use Rattle.sqlite.specs.Held.{state};
 ghost use Rattle.sqlite.specs.Values.{bound};
-ghost use Rattle.zeb_leaves.specs.PrivateLeafReads.{IsGreatest, IsLeafIn, IsLeast, ShowsLast, TellsKey, TellsSome};
-ghost use Rattle.zeb_leaves.specs.PrivateLeafReads.{IsOfTermBelow, IsOfTermFrom, IsOfTermsBelow};
+ghost use Rattle.zeb_leaf_rows.specs.LeafRows.{IsLeafIn};
+ghost use Rattle.zeb_leaf_rows.specs.PrivateLeafRows.{IsGreatest, IsOfTermBelow, IsOfTermsBelow};
+ghost use Rattle.zeb_leaves.specs.PrivateLeafReads.{IsLeast, IsOfTermFrom, ShowsLast, TellsKey, TellsSome};
 ghost use Rattle.zeb_leaves.specs.PrivateTermReads.{IsRowFrom};
 ghost use Rattle.zeb_register.specs.Calls.{OnlyReads};
 ghost use Rattle.zeb_register.specs.Connections.{InsideOf, TellsInsideOf};
 ghost use Rattle.zeb_register.specs.Queries.{IsSilent};
 
-use crate::covering::last_row;
-use crate::statements::{ANY, OF_TERM, OF_TERMS_BELOW};
 use sqlite::types::ValueRef;
 use sqlite::{Alter, Error, Row, Transaction, params};
+use zeb_leaf_rows::{ANY, OF_TERM, OF_TERMS_BELOW, last_row};
 use zeb_register::RegisterOf;
 
 // The table's index has a row's own key: these two statements are answered from there, and no leaf is read.

@@ -3,7 +3,7 @@ use Rattle.sqlite.specs.Effect.{Database}
 use Rattle.std.proofs.lemmas.Result.{IfOk-weaker}
 use Rattle.zeb_leaves.proofs.InsideCalls.{inside_then}
 use Rattle.zeb_leaves.proofs.NextLeaves.{covers_up_to}
-use Rattle.zeb_leaves.specs.PrivateLeafReads.{IsOfTermsBelow}
+use Rattle.zeb_leaf_rows.specs.PrivateLeafRows.{IsOfTermsBelow}
 use Rattle.zeb_register.proofs.Calls.{store_same}
 use Rattle.zeb_leaves.proofs.inside.covering_leaf.Goals as goal
 

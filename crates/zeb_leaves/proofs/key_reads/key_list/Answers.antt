@@ -1,6 +1,6 @@
 use Rattle.zeb_leaves.proofs.Cited.{◌∙◌, ℕ, List, Err, ap, subst, rules, state, IsLeafOf, IsUncovered, leaf_key}
 use Rattle.zeb_leaf.specs.declared.entries.Held.{Held}
-use Rattle.zeb_leaves.proofs.OnlyLeaf.{below_above}
+use Rattle.zeb_leaf_rows.proofs.OnlyLeaf.{below_above}
 use Rattle.zeb_leaves.proofs.KeyCalls.{held_listed, held_malformed, lacking_malformed, uncovered_lacking, unread_lacking}
 use Rattle.zeb_leaves.specs.PrivateSaid.{SayAll, SomeSaysNone}
 use Rattle.zeb_leaves.specs.PrivateSpans.{AreSpanLeaves, SomeShowsNoKey}

@@ -1,0 +1,2 @@
+pub mod LeafRows
+pub mod PrivateLeafRows
