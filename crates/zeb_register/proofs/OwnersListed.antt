@@ -1,5 +1,6 @@
 -- The ids with which rows of a table begin, one after the other, beside the databases that are listed.
 use Rattle.zeb_register.proofs.Cited.{Database, Row, State, IsUnchanged, Trees, Int, ◌≡◌, ◌∙◌, ◌≤◌, ◌+◌, ◌≤ℤ◌, ◌<ℤ◌, ◌+ℤ◌, ℕ, ℤ, pos, List, [], ◌∷◌, length, Option, Some, None, refl, sym, ap, subst, subst₂, inl, inr, Ordering, Less, Equal, Greater, arith, int_cmp, int_ranked, ints, ListedDatabase, Ends, IsListedId, Owns, AreEnds, ShowsFirst, IsStore, IsLeastFrom}
+use Rattle.zeb_register.specs.PrivateRowReads.{IsFirst}
 use Rattle.zeb_register.proofs.Calls.{store_same}
 use Rattle.zeb_register.proofs.OwnerStatements.{cmp_below}
 
@@ -7,10 +8,6 @@ use Rattle.zeb_register.proofs.OwnerStatements.{cmp_below}
 
 abbrev pub TellsId : List Row → Option ℤ → Type 0
 TellsId rows found = (rows ≡ [] → found ≡ None) × ((id : ℤ) (more : List Row) → rows ≡ (Int id ∷ []) ∷ more → found ≡ Some id)
-
-abbrev pub IsFirst : (ℤ → ℤ → Type 0) → (ℤ → Type 0) → Option ℤ → Type 0
-IsFirst Up P None = (id : ℤ) → ¬ P id
-IsFirst Up P (Some id) = P id × ((other : ℤ) → P other → Up id other)
 
 pub first_told : (Up : ℤ → ℤ → Type 0) (P : ℤ → Type 0) (rows : List Row) (found : Option ℤ) → ShowsFirst Up P rows → TellsId rows found → IsFirst Up P found
 first_told Up P [] found none told = subst (IsFirst Up P) (sym (told.0 refl)) none
@@ -84,24 +81,29 @@ below_few (d ∷ listed) bound = omega (arith, few (int_cmp d.id.0 bound), below
 
 -- ---- from one id to the next
 
--- the id occurs, those below it are P, and none is above the last
-pub record IsReached (tree : ℕ) (trees : Trees) (P : ℤ → Type 0) (last id : ℤ) : Type 0 where
+-- the id occurs, those below it are listed, as many at least as turns were taken, and none is above the last
+pub record IsReached (tree : ℕ) (trees : Trees) (listed : List ListedDatabase) (last id : ℤ) (turn : ℕ) : Type 0 where
   pub owns : Owns tree trees id
-  pub lower : (other : ℤ) → Owns tree trees other → other <ℤ id → P other
+  pub lower : (other : ℤ) → Owns tree trees other → other <ℤ id → IsListedId listed other
   pub upper : (other : ℤ) → Owns tree trees other → other ≤ℤ last
+  pub turns : turn ≤ below listed id
 
-module _ (tree : ℕ) (trees : Trees) (P : ℤ → Type 0) where
+module _ (tree : ℕ) (trees : Trees) (listed : List ListedDatabase) where
+  abbrev P : ℤ → Type 0
+  P = IsListedId listed
+
   abbrev AllOwners : Type 0
   AllOwners = (other : ℤ) → Owns tree trees other → P other
 
-  pub first_reached : (ends : Ends) → AreEnds tree trees (Some ends) → IsReached tree trees P ends.last ends.first
+  pub first_reached : (ends : Ends) → AreEnds tree trees (Some ends) → IsReached tree trees listed ends.last ends.first 0
   first_reached ends are = record {
     owns = are.0;
     lower = λ other there low. absurd (let e = (are.1 other there).0 in omega (arith, ints, e, low));
     upper = λ other there. (are.1 other there).1;
+    turns = omega arith;
   }
 
-  module _ (last id : ℤ) (it : IsReached tree trees P last id) where
+  module _ (last id : ℤ) (turn : ℕ) (it : IsReached tree trees listed last id turn) where
     -- each id up to this one is P, where this one is
     up_to_id : P id → (other : ℤ) → Owns tree trees other → other ≤ℤ id → P other
     up_to_id here other there up = from (int_cmp other id) refl
@@ -122,8 +124,13 @@ module _ (tree : ℕ) (trees : Trees) (P : ℤ → Type 0) where
         from Equal is = let same : other ≡ id = int_ranked other id Equal is in up_to_id here other there (omega (arith, ints, same))
         from Greater is = let high : id <ℤ other = int_ranked other id Greater is in absurd (none other there (omega (arith, ints, high)))
 
-    pub next_reached : P id → (next : ℤ) → IsLeastFrom (Owns tree trees) (id +ℤ pos 1) (Some next) → IsReached tree trees P last next
-    next_reached here next first = record { owns = first.0; lower = λ other there low. from other there low (int_cmp other id) refl; upper = it.upper }
+    pub next_reached : P id → (next : ℤ) → IsLeastFrom (Owns tree trees) (id +ℤ pos 1) (Some next) → IsReached tree trees listed last next (turn + 1)
+    next_reached here next first = record {
+      owns = first.0;
+      lower = λ other there low. from other there low (int_cmp other id) refl;
+      upper = it.upper;
+      turns = omega (arith, it.turns, below_more listed id next here (let e = first.1 in omega (arith, ints, e)));
+    }
       where
         from : (other : ℤ) → Owns tree trees other → other <ℤ next → (o : Ordering) → o ≡ int_cmp other id → P other
         from other there low Less is = let less : other <ℤ id = int_ranked other id Less is in up_to_id here other there (omega (arith, ints, less))
@@ -132,14 +139,6 @@ module _ (tree : ℕ) (trees : Trees) (P : ℤ → Type 0) where
             let high : id <ℤ other = int_ranked other id Greater is in
             absurd (let e : next ≤ℤ other = first.2 other there (omega (arith, ints, high)) in omega (arith, ints, e, low))
 
--- a turn more, where the id is listed
-pub turn_more : (listed : List ListedDatabase) (P : ℤ → Type 0) (id next : ℤ) (turn : ℕ) → turn ≤ below listed id → IsListedId listed id → IsLeastFrom P (id +ℤ pos 1) (Some next) → turn + 1 ≤ below listed next
-turn_more listed P id next turn turns here first = omega (arith, turns, below_more listed id next here (let e = first.1 in omega (arith, ints, e)))
-
--- what rows show of tables that are the same, from a start that is the next number
-pub found_next : (tree : ℕ) (id : ℤ) {start : ℤ} (s0 s1 : State) (rows seen : List Row) (found : Option ℤ) → IsUnchanged s0 s1 → IsStore s0
-    → (IsStore s1 → ShowsFirst (λ a b. a ≤ℤ b) (λ other. Owns tree s1.now.trees other × (start ≤ℤ other)) rows) → seen ≡ rows → TellsId seen found → start ≡ id +ℤ pos 1
-    → IsLeastFrom (Owns tree s0.now.trees) (id +ℤ pos 1) found
-found_next tree id {start} s0 s1 rows seen found same store shows seen_is told is =
-    let at = same.0.now_is in
-    subst₂ (λ (d : Database) b. IsLeastFrom (Owns tree d.trees) b found) at is (least_from (Owns tree s1.now.trees) start found (first_seen (λ a b. a ≤ℤ b) _ rows seen found (shows (store_same s0 s1 at store)) seen_is told))
+-- what is told of tables that are the same, from a start that is the next number
+pub found_next : (tree : ℕ) (id : ℤ) {start : ℤ} (s0 s1 : State) (found : Option ℤ) → IsUnchanged s0 s1 → IsStore s0 → (IsStore s1 → IsLeastFrom (Owns tree s1.now.trees) start found) → start ≡ id +ℤ pos 1 → IsLeastFrom (Owns tree s0.now.trees) (id +ℤ pos 1) found
+found_next tree id s0 s1 found same store tells is = let at = same.0.now_is in subst₂ (λ (d : Database) b. IsLeastFrom (Owns tree d.trees) b found) at is (tells (store_same s0 s1 at store))

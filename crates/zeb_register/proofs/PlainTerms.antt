@@ -1,12 +1,15 @@
 -- The terms of a register as rows of postings show them, whatever the rows hold.
-use Rattle.zeb_register.proofs.Cited.{Row, column, State, Trees, Null, Int, Text, all_from, has_either, has_left, has_right, has_mapped, mapped_has, Has, row_cmp, ◌≡◌, ◌≢◌, ◌↔◌, ◌⊎◌, ◌∙◌, ◌<◌, ◌≤◌, ℕ, ℤ, pos, List, [], ◌∷◌, ◌++◌, drop, length, length-map, map, reverse, reverse-append, length-reverse, Less, nat_cmp, cases_Bool, slice_cmp, nat_list_cmp_total, is_lt, register_code, refl, sym, ap, subst, inl, inr, arith, Option, Some, None, String, string_bytes, IsUtf8, Global, Spot, Totals, capped, posting_at, posting_row, spot_cmp, Register, Posting, TermCount, store_schema, IsListOf, IsRest, IsStore, postings_tree, register_front, plain_rows, key_in, term_cmp, IsCount, AreCounts, IsInRecord, IsOccurrenceRow, IsShown}
+use Rattle.zeb_register.proofs.Cited.{Row, column, State, Trees, Null, Int, Text, all_from, has_either, has_left, has_right, has_mapped, mapped_has, Has, row_cmp, ◌≡◌, ◌≢◌, ◌↔◌, ◌⊎◌, ◌∙◌, ◌<◌, ◌≤◌, ℕ, ℤ, pos, List, [], ◌∷◌, ◌++◌, drop, length, length-map, map, reverse, reverse-append, length-reverse, Less, nat_cmp, cases_Bool, slice_cmp, nat_list_cmp_total, is_lt, register_code, refl, sym, ap, subst, inl, inr, arith, Option, Some, None, Result, Ok, Err, IfOk, String, string_bytes, IsUtf8, Global, Spot, Totals, capped, posting_at, posting_row, spot_cmp, Register, Posting, TermCount, store_schema, IsListOf, IsRest, IsStore, postings_tree, register_front, plain_rows, key_in, term_cmp, IsCount, AreCounts, IsInRecord, IsOccurrenceRow, IsShown}
+use Rattle.std.specs.declared.alloc.AllocError.{AllocError}
 use Rattle.std.specs.List.Sorted.{IsStrictlySortedBy}
 use Rattle.sqlite.specs.Effect.{Database}
 use Rattle.zeb_register.specs.declared.registers.RegisterOf.{RegisterOf}
-use Rattle.zeb_register.specs.PrivateKeyColumns.{HasTermOf}
 use Rattle.zeb_register.specs.PlainUnits.{AreAllShown, HasRowIn, HasShownNone, IsUnderKey, RowsCount}
 use Rattle.zeb_register.specs.PrivateRowTerms.{FindsNearest, HasTerm, HidesText, IsTermRow, ShowsNearest, ShowsTerm, SomeIsNoOccurrence}
-use Rattle.zeb_register.specs.Terms.{Comes, HidesBefore, HidesCount, HidesFrom, HidesNearest, HidesSome, ListsAll, ListsBefore, ListsCounts, ListsFrom, ListsNearest, SumsUp, shows_count}
+use Rattle.zeb_register.specs.PrivateNearest.{AreNearest, FindsCount, HasOn, HideNearest, HidesNext, IsNearer, IsNext, IsOn, in_order}
+use Rattle.zeb_register.specs.Terms.{Comes, HidesCount, HidesSome, ListsAll, ListsCounts, SumsUp, shows_count}
+use Rattle.zeb_register.specs.declared.terms.Way.{Way}
+use Rattle.zeb_register.specs.declared.terms.Way.TheVariants.{Up, Down}
 use Rattle.zeb_register.specs.Units.{ListsUnits}
 use Rattle.zeb_register.proofs.BetweenRows.{begins}
 use Rattle.zeb_register.proofs.CountLemmas.{comes_is, comes_not, comes_or, count_none, count_so, some_count, term_total}
@@ -43,7 +46,7 @@ list_counted trees db index register term list records lists count = record {
 }
 
 -- a count that isn't of a UTF-8 term, or of a row that shows no posting, can't be shown
-pub unshown_hides : (trees : Trees) (db : ℤ) (index : ℕ) (register : Register) (term : List ℕ) → HasShownNone trees db (key_in index register term) → HidesCount plain_rows trees db index register term
+unshown_hides : (trees : Trees) (db : ℤ) (index : ℕ) (register : Register) (term : List ℕ) → HasShownNone trees db (key_in index register term) → HidesCount plain_rows trees db index register term
 unshown_hides trees db index register term bad records shows = let it = shows.0.shown bad.0 bad.1 in bad.2 it.0 it.1
 
 row_counted : (trees : Trees) (db : ℤ) (index : ℕ) (register : Register) (term : List ℕ) (records : ℕ) → RowsCount trees db (key_in index register term) records
@@ -184,86 +187,35 @@ text_hidden P IsNearer (first ∷ rest) shows bad =
       ]),
     )
 
-module _ (trees : Trees) (db : ℤ) (index : ℕ) (register : Register) (IsOn : List ℕ → Type 0) (IsNearer : List ℕ → List ℕ → Type 0) where
-  abbrev HasIt : List ℕ → Type 0
-  HasIt term = (row : Row) × IsUnderKey trees db (key_in index register term) row
-
-  -- `IsDone` are the terms that were gone over, and `IsLeft` the others
-  module _ (IsDone IsLeft : List ℕ → Type 0) (left : (u : List ℕ) → IsDone u ⊎ IsLeft u) (apart : (u : List ℕ) → IsDone u → ¬ IsLeft u) (terms : List TermCount) (lists : ListsCounts plain_rows trees db index register (λ u. IsOn u × IsDone u) terms) where
-    unlisted : (u : List ℕ) → IsOn u → ((t : TermCount) → Has terms t → t.term ≢ u) → (HasIt u → ¬ IsLeft u) → RowsCount trees db (key_in index register u) 0
-    unlisted u on none gone = elim (left u) [
-      | inl done ↦ lists.others u (on, done) none
-      | inr later ↦ none_counted trees db index register u (λ row there. gone (row, there) later)
-    ]
-
-    -- all of them, where none is left, or n
-    pub nearest_listed : ((u : List ℕ) → ¬ IsNearer u u) → ((t u : List ℕ) → IsDone t → (¬ IsNearer t u) → ¬ IsLeft u) → (n : ℕ) → length terms ≤ n → ((length terms < n) → (u : List ℕ) → HasIt u → ¬ IsLeft u)
-        → ListsNearest plain_rows trees db index register IsOn IsNearer n terms
-    nearest_listed same reach n few none = record {
-      few = few;
-      are = record {
-        rising = lists.rising;
-        each = λ t h. let it = lists.each t h in ((it.0.0, inr (t, h, same t.term)), it.1, it.2);
-        others = λ u asked no'. unlisted u asked.0 no' (λ has. elim asked.1 [ inl some ↦ none some u has | inr t ↦ reach t.0.term u (lists.each t.0 t.1).0.1 t.2 ]);
-      };
-    }
-
-    module _ (next : List ℕ) (on : IsOn next) (found : HasIt next × IsLeft next) (first : (u : List ℕ) → HasIt u × IsLeft u → ¬ IsNearer u next) where
-      -- the count of the next one can't be shown
-      pub next_hides : HidesCount plain_rows trees db index register next → ((u : List ℕ) → IsDone u → IsNearer u next) → (n : ℕ) → length terms < n → HidesNearest plain_rows trees db index register IsOn IsNearer n
-      next_hides hidden nearer n few = hides_next plain_rows trees db index register IsOn IsNearer n next on hidden terms few (record {
-        rising = lists.rising;
-        each = λ t h. let it = lists.each t h in ((it.0.0, nearer t.term it.0.1), it.1, it.2);
-        others = λ u asked no'. unlisted u asked.0 no' (λ has later. first u (has, later) asked.1);
-      })
-
-      -- with the next one more are gone over
-      pub next_listed : (IsDone' : List ℕ → Type 0) → ((u : List ℕ) → IsDone u → IsDone' u) → IsDone' next → ((u : List ℕ) → IsDone' u → (u ≡ next) ⊎ (IsDone u ⊎ IsNearer u next))
-          → (t : TermCount) → t.term ≡ next → RowsCount trees db (key_in index register next) t.records → IsUtf8 next → (more : List TermCount) → ((u : TermCount) → Has more u ↔ (Has terms u ⊎ (u ≡ t)))
-          → IsStrictlySortedBy term_cmp more → ListsCounts plain_rows trees db index register (λ u. IsOn u × IsDone' u) more
-      next_listed IsDone' still done split t is counts text more has up = record {
-        rising = up;
-        each = λ u h. elim ((has u).0 h) [
-          | inl old ↦ (let it = lists.each u old in ((it.0.0, still u.term it.0.1), it.1, it.2))
-          | inr same ↦
-              let own : u.term ≡ next = ap (λ (x : TermCount). x.term) same ∙ is in
-              let many : u.records ≡ t.records = ap (λ (x : TermCount). x.records) same in
-              let counted : RowsCount trees db (key_in index register next) u.records = subst (RowsCount trees db (key_in index register next)) (sym many) counts in
-              subst (λ v. (IsOn v × IsDone' v) × (1 ≤ u.records) × shows_count plain_rows trees db (key_in index register v) u.records) (sym own)
-              ((on, done), row_counted trees db index register next u.records counted found.0.0 found.0.1, (counted, λ _. text))
-        ];
-        others = λ u asked no'. elim (split u asked.1) [
-          | inl same ↦ absurd (no' t ((has t).1 (inr refl)) (is ∙ sym same))
-          | inr other ↦ unlisted u asked.0 (λ v h. no' v ((has v).1 (inl h))) (λ it later. elim other [
-            | inl old ↦ apart u old later
-            | inr near ↦ first u (it, later) near
-          ])
-        ];
-      }
-
 -- a term that isn't UTF-8 has no count that can be shown
-pub text_hides : (trees : Trees) (db : ℤ) (index : ℕ) (register : Register) (term : List ℕ) → HasTerm trees db (pos index) (pos (register_code register)) term → (¬ IsUtf8 term) → HidesCount plain_rows trees db index register term
+text_hides : (trees : Trees) (db : ℤ) (index : ℕ) (register : Register) (term : List ℕ) → HasTerm trees db (pos index) (pos (register_code register)) term → (¬ IsUtf8 term) → HidesCount plain_rows trees db index register term
 text_hides trees db index register term has bad records shows = bad (shows.1 (row_counted trees db index register term records shows.0 has.0 has.1))
 
+-- ---- the term nearest to a text
+
+module _ (at : RegisterOf) (way : Way) (text : List ℕ) (trees : Trees) where
+  pub text_hides_next : HidesText (HasOn at way text trees) (IsNearer way) → HidesNext at way text trees
+  text_hides_next hides = (hides.0, (hides.1, hides.2), text_hides trees at.db.0 at.index at.register hides.0 hides.1.0 hides.3)
+
+  pub count_hides_next : (term : List ℕ) → IsNext at way text trees term → HasShownNone trees at.db.0 (key_in at.index at.register term) → HidesNext at way text trees
+  count_hides_next term next bad = (term, next, unshown_hides trees at.db.0 at.index at.register term bad)
+
+  pub next_counted : (term : List ℕ) → IsNext at way text trees term → IsUtf8 term → (t : TermCount) → (t.term ≡ term) × RowsCount trees at.db.0 (key_in at.index at.register term) t.records → FindsCount at way text trees (Some t)
+  next_counted term next utf8 t counted = subst (λ u. IsNext at way text trees u × RowsCount trees at.db.0 (key_in at.index at.register u) t.records × IsUtf8 u) (sym counted.0) (next, counted.1, utf8)
+
 -- what was found on tables as they were before, from a text as it is given
-module _ (at : RegisterOf) (IsBeside IsNearer : List ℕ → List ℕ → Type 0) (one two : Database) (same : one ≡ two) (given text : List ℕ) (is : given ≡ text) where
-  abbrev Beside : Database → List ℕ → List ℕ → Type 0
-  Beside d t u = HasTermOf at d.trees u × IsBeside u t
+module _ (at : RegisterOf) (way : Way) (one two : Database) (same : one ≡ two) (given text : List ℕ) (is : given ≡ text) where
+  pub found_now : (count other : Option TermCount) → count ≡ other → FindsCount at way given one.trees count → FindsCount at way text two.trees other
+  found_now count other also found =
+      subst (λ (d : Database). FindsCount at way text d.trees other) same (subst (λ t. FindsCount at way t one.trees other) is (subst (FindsCount at way given one.trees) also found))
 
-  pub found_now : (term other : Option (String Global)) → term ≡ other → FindsNearest (Beside one given) IsNearer term → FindsNearest (Beside two text) IsNearer other
-  found_now term other also found =
-      subst (λ (d : Database). FindsNearest (Beside d text) IsNearer other) same (subst (λ t. FindsNearest (Beside one t) IsNearer other) is (subst (FindsNearest (Beside one given) IsNearer) also found))
+  pub hidden_now : HidesNext at way given one.trees → HidesNext at way text two.trees
+  hidden_now hides = subst (λ (d : Database). HidesNext at way text d.trees) same (subst (λ t. HidesNext at way t one.trees) is hides)
 
-  pub hidden_now : HidesText (Beside one given) IsNearer → HidesText (Beside two text) IsNearer
-  hidden_now hides = subst (λ (d : Database). HidesText (Beside d text) IsNearer) same (subst (λ t. HidesText (Beside one t) IsNearer) is hides)
-
--- ---- those that don't come before a text
+-- ---- on a way from a text
 
 comes_not_or : (s t : List ℕ) → Comes s t ⊎ ¬ Comes s t
 comes_not_or s t = elim (cases_Bool (is_lt (slice_cmp nat_cmp s t))) [ inl is ↦ inl (comes_is s t is) | inr isnt ↦ inr ((comes_not s t).0 isnt) ]
-
-pub not_itself : (s : List ℕ) → ¬ Comes s s
-not_itself s h = never_itself nat_list_cmp_total s h
 
 comes_below : (s t u : List ℕ) → Comes s t → (¬ Comes u t) → Comes s u
 comes_below s t u low high = elim (comes_or u t) [
@@ -271,86 +223,132 @@ comes_below s t u low high = elim (comes_or u t) [
   | inr other ↦ elim other [ inl same ↦ subst (Comes s) (sym same) low | inr above ↦ nat_list_cmp_total.trans s t u low above ]
 ]
 
-above_own : (t : List ℕ) → Comes t (t ++ 0 ∷ [])
-above_own t = least_above (t ++ 0 ∷ []) t ((comes_not (t ++ 0 ∷ []) (t ++ 0 ∷ [])).1 (not_itself (t ++ 0 ∷ [])))
+on_or : (way : Way) (text u : List ℕ) → IsOn way text u ⊎ ¬ IsOn way text u
+on_or Up text u = elim (comes_not_or u text) [ inl low ↦ inr (λ high. high low) | inr high ↦ inl high ]
+on_or Down text u = comes_not_or u text
 
-pub nothing_listed : (tables : Trees) (db : ℤ) (index : ℕ) (register : Register) (P : List ℕ → Type 0) → ((u : List ℕ) → ¬ P u) → ListsCounts plain_rows tables db index register P []
-unfolding IsStrictlySortedBy
-nothing_listed tables db index register P none = record { rising = tt; each = λ t h. absurd h; others = λ u asked no'. absurd (none u asked) }
+never_nearer : (way : Way) (u : List ℕ) → ¬ IsNearer way u u
+never_nearer Up u h = never_itself nat_list_cmp_total u h
+never_nearer Down u h = never_itself nat_list_cmp_total u h
 
-from_on : (start next : List ℕ) → (¬ Comes next start) → (u : List ℕ) → (¬ Comes u next) → ¬ Comes u start
-from_on start next low u high before = high (comes_below u start next before low)
+-- of two terms one is nearer
+nearer_or : (way : Way) (t u : List ℕ) → IsNearer way t u ⊎ ((t ≡ u) ⊎ IsNearer way u t)
+nearer_or Up t u = comes_or t u
+nearer_or Down t u = elim (comes_or t u) [ inl low ↦ inr (inr low) | inr other ↦ elim other [ inl same ↦ inr (inl same) | inr high ↦ inl high ] ]
 
-pub still_from : (start next : List ℕ) → (¬ Comes next start) → (least above : List ℕ) → (¬ Comes least next) → above ≡ least ++ 0 ∷ [] → ¬ Comes above start
-still_from start next low least above high is before = from_on start next low least high (nat_list_cmp_total.trans least (least ++ 0 ∷ []) start (above_own least) (subst (λ a. Comes a start) is before))
+-- what is further than a term on the way is on it
+further_on : (way : Way) (text t u : List ℕ) → IsOn way text t → IsNearer way t u → IsOn way text u
+further_on Up text t u on near = λ low. on (nat_list_cmp_total.trans t u text near low)
+further_on Down text t u on near = nat_list_cmp_total.trans u t text near on
 
-pub still_before : (start above : List ℕ) → (¬ Comes start above) → (greatest : List ℕ) → Comes greatest above → ¬ Comes start greatest
-still_before start above high greatest low before = high (nat_list_cmp_total.trans start greatest above before low)
+-- what isn't on the way is nearer than a term on it
+passed_nearer : (way : Way) (text t u : List ℕ) → (¬ IsOn way text t) → IsOn way text u → IsNearer way t u
+passed_nearer Up text t u passed on = elim (comes_not_or t text) [ inl low ↦ comes_below t text u low on | inr high ↦ absurd (passed high) ]
+passed_nearer Down text t u passed on = comes_below u text t on passed
 
-module _ (trees : Trees) (db : ℤ) (index : ℕ) (register : Register) (start next : List ℕ) (items : List TermCount) (lists : ListsCounts plain_rows trees db index register (λ u. (¬ Comes u start) × Comes u next) items) where
-  abbrev FromNext : List ℕ → Type 0
-  FromNext u = HasTerm trees db (pos index) (pos (register_code register)) u × ¬ Comes u next
+-- ---- the text from which the way goes on
 
-  pub from_hides : (¬ Comes next start) → (n : ℕ) → length items < n → (least : List ℕ) → FromNext least → ((u : List ℕ) → FromNext u → ¬ Comes u least) → HidesCount plain_rows trees db index register least
-      → HidesFrom plain_rows trees db index register start n
-  from_hides low n few least it first hidden =
-      next_hides trees db index register (λ u. ¬ Comes u start) Comes (λ u. Comes u next) (λ u. ¬ Comes u next) (λ u. comes_not_or u next) (λ u done later. later done) items lists
-      least (from_on start next low least it.1) (it.0, it.1) (λ u has. first u (has.0, has.1)) hidden (λ u done. comes_below u next least done it.1) n few
+pub behind_up : (term : List ℕ) (made : Result (String Global) AllocError) → IfOk made (λ text. string_bytes text ≡ term ++ 0 ∷ []) → IfOk made (λ text. (u : List ℕ) → IsOn Up (string_bytes text) u ↔ IsNearer Up term u)
+behind_up term (Ok text) is = λ u. (λ high. least_above u term ((comes_not u (term ++ 0 ∷ [])).1 (subst (λ t. ¬ Comes u t) is high)), λ low. subst (λ t. ¬ Comes u t) (sym is) ((comes_not u (term ++ 0 ∷ [])).0 (above_least u term low)))
+behind_up term (Err e) is = tt
 
-  pub from_listed : (n : ℕ) → length items ≤ n → ((length items < n) → (u : List ℕ) → ¬ FromNext u) → ListsFrom plain_rows trees db index register start n items
-  from_listed n few none =
-      nearest_listed trees db index register (λ u. ¬ Comes u start) Comes (λ u. Comes u next) (λ u. ¬ Comes u next) (λ u. comes_not_or u next) (λ u done later. later done) items lists
-      not_itself (λ t u done far later. far (comes_below t next u done later)) n few (λ some u has later. none some u (has, later))
+pub behind_down : (term : List ℕ) (made : Result (String Global) AllocError) → IfOk made (λ text. string_bytes text ≡ term) → IfOk made (λ text. (u : List ℕ) → IsOn Down (string_bytes text) u ↔ IsNearer Down term u)
+behind_down term (Ok text) is = λ u. (λ low. subst (Comes u) is low, λ low. subst (Comes u) (sym is) low)
+behind_down term (Err e) is = tt
 
-  pub from_next : (¬ Comes next start) → (least : List ℕ) → FromNext least → ((u : List ℕ) → FromNext u → ¬ Comes u least) → (t : TermCount) → (t.term ≡ least) × RowsCount trees db (key_in index register least) t.records → IsUtf8 least → (above : List ℕ) → above ≡ least ++ 0 ∷ []
-      → ListsCounts plain_rows trees db index register (λ u. (¬ Comes u start) × Comes u above) (items ++ t ∷ [])
-  from_next low least it first t counted text above is =
-      subst (λ a. ListsCounts plain_rows trees db index register (λ u. (¬ Comes u start) × Comes u a) (items ++ t ∷ [])) (sym is)
-      (next_listed trees db index register (λ u. ¬ Comes u start) Comes (λ u. Comes u next) (λ u. ¬ Comes u next) (λ u. comes_not_or u next) (λ u done later. later done) items lists
-      least (from_on start next low least it.1) (it.0, it.1) (λ u has. first u (has.0, has.1)) (λ u. Comes u (least ++ 0 ∷ []))
-      (λ u done. nat_list_cmp_total.trans u least (least ++ 0 ∷ []) (comes_below u next least done it.1) (above_own least)) (above_own least) split t counted.0 counted.1 text (items ++ t ∷ [])
-      (λ u. (λ h. elim (has_either items (t ∷ []) u h) [ inl old ↦ inl old | inr new ↦ elim new [ inl same ↦ inr same | inr none ↦ absurd none ] ], λ h. elim h [ inl old ↦ has_left items (t ∷ []) u old | inr same ↦ has_right items (t ∷ []) u (inl same) ]))
-      (pushed_rises term_total items t lists.rising (λ z h. subst (λ v. Comes z.term v) (sym counted.0) (comes_below z.term next least (lists.each z h).0.1 it.1))))
-    where
-      split : (u : List ℕ) → Comes u (least ++ 0 ∷ []) → (u ≡ least) ⊎ (Comes u next ⊎ Comes u least)
-      split u h = elim (comes_or u least) [
-        | inl lower ↦ inr (inr lower)
-        | inr other ↦ elim other [ inl same ↦ inl same | inr above ↦ absurd ((comes_not u (least ++ 0 ∷ [])).0 (above_least u least above) h) ]
-      ]
+-- ---- terms that were found
 
--- ---- those that do
+long_as : (way : Way) (terms : List TermCount) → length (in_order way terms) ≡ length terms
+long_as Up terms = refl
+long_as Down terms = length-reverse terms
+
+has_more : (way : Way) (terms : List TermCount) (t u : TermCount) → Has (in_order way (terms ++ t ∷ [])) u ↔ (Has (in_order way terms) u ⊎ (u ≡ t))
+has_more Up terms t u = (
+  λ h. elim (has_either terms (t ∷ []) u h) [ inl old ↦ inl old | inr new ↦ elim new [ inl same ↦ inr same | inr none ↦ absurd none ] ],
+  λ h. elim h [ inl old ↦ has_left terms (t ∷ []) u old | inr same ↦ has_right terms (t ∷ []) u (inl same) ],
+)
+has_more Down terms t u = rw (reverse-append terms (t ∷ [])) (λ h. elim h [ inl same ↦ inr same | inr old ↦ inl old ], λ h. elim h [ inl old ↦ inr old | inr same ↦ inl same ])
 
 first_rises : (t : TermCount) (rest : List TermCount) → ((u : TermCount) → Has rest u → Comes t.term u.term) → IsStrictlySortedBy term_cmp rest → IsStrictlySortedBy term_cmp (t ∷ rest)
 unfolding IsStrictlySortedBy
 first_rises t rest above up = (all_from (λ u. term_cmp t u ≡ Less) rest above, up)
 
-module _ (trees : Trees) (db : ℤ) (index : ℕ) (register : Register) (start above : List ℕ) (items : List TermCount) (lists : ListsCounts plain_rows trees db index register (λ u. Comes u start × ¬ Comes u above) (reverse items)) where
-  abbrev BelowAbove : List ℕ → Type 0
-  BelowAbove u = HasTerm trees db (pos index) (pos (register_code register)) u × Comes u above
+more_rise : (way : Way) (terms : List TermCount) (t : TermCount) → ((u : TermCount) → Has (in_order way terms) u → IsNearer way u.term t.term) → IsStrictlySortedBy term_cmp (in_order way terms) → IsStrictlySortedBy term_cmp (in_order way (terms ++ t ∷ []))
+more_rise Up terms t nearer up = pushed_rises term_total terms t up nearer
+more_rise Down terms t nearer up = rw (reverse-append terms (t ∷ [])) (first_rises t (reverse terms) nearer up)
 
-  abbrev Further : List ℕ → List ℕ → Type 0
-  Further one other = Comes other one
+none_rise : (way : Way) → IsStrictlySortedBy term_cmp (in_order way [])
+unfolding IsStrictlySortedBy
+none_rise Up = tt
+none_rise Down = tt
 
-  pub before_hides : (¬ Comes start above) → (n : ℕ) → length items < n → (greatest : List ℕ) → BelowAbove greatest → ((u : List ℕ) → BelowAbove u → ¬ Comes greatest u) → HidesCount plain_rows trees db index register greatest
-      → HidesBefore plain_rows trees db index register start n
-  before_hides high n few greatest it first hidden =
-      next_hides trees db index register (λ u. Comes u start) Further (λ u. ¬ Comes u above) (λ u. Comes u above) (λ u. elim (comes_not_or u above) [ inl low ↦ inr low | inr up ↦ inl up ]) (λ u done later. done later) (reverse items) lists
-      greatest (comes_below greatest above start it.1 high) (it.0, it.1) (λ u has. first u (has.0, has.1)) hidden (λ u done. comes_below greatest above u it.1 done) n (omega (arith, few, length-reverse items))
+none_had : (way : Way) (t : TermCount) → ¬ Has (in_order way []) t
+none_had Up t h = h
+none_had Down t h = h
 
-  pub before_listed : (n : ℕ) → length items ≤ n → ((length items < n) → (u : List ℕ) → ¬ BelowAbove u) → ListsBefore plain_rows trees db index register start n (reverse items)
-  before_listed n few none =
-      nearest_listed trees db index register (λ u. Comes u start) Further (λ u. ¬ Comes u above) (λ u. Comes u above) (λ u. elim (comes_not_or u above) [ inl low ↦ inr low | inr up ↦ inl up ]) (λ u done later. done later) (reverse items) lists
-      not_itself (λ t u done far later. far (comes_below u above t later done)) n (omega (arith, few, length-reverse items)) (λ some u has later. none (omega (arith, some, length-reverse items)) u (has, later))
+-- from the start on this way up to the text all terms are listed
+pub record AreGoneOver (at : RegisterOf) (way : Way) (start text : List ℕ) (trees : Trees) (terms : List TermCount) : Type 0 where
+  pub within : (u : List ℕ) → IsOn way text u → IsOn way start u
+  pub lists : ListsCounts plain_rows trees at.db.0 at.index at.register (λ u. IsOn way start u × ¬ IsOn way text u) (in_order way terms)
 
-  pub before_next : (¬ Comes start above) → (greatest : List ℕ) → BelowAbove greatest → ((u : List ℕ) → BelowAbove u → ¬ Comes greatest u) → (t : TermCount) → (t.term ≡ greatest) × RowsCount trees db (key_in index register greatest) t.records → IsUtf8 greatest
-      → ListsCounts plain_rows trees db index register (λ u. Comes u start × ¬ Comes u greatest) (reverse (items ++ t ∷ []))
-  before_next high greatest it first t counted text =
-      subst (ListsCounts plain_rows trees db index register (λ u. Comes u start × ¬ Comes u greatest)) (sym (reverse-append items (t ∷ [])))
-      (next_listed trees db index register (λ u. Comes u start) Further (λ u. ¬ Comes u above) (λ u. Comes u above) (λ u. elim (comes_not_or u above) [ inl low ↦ inr low | inr up ↦ inl up ]) (λ u done later. done later) (reverse items) lists
-      greatest (comes_below greatest above start it.1 high) (it.0, it.1) (λ u has. first u (has.0, has.1)) (λ u. ¬ Comes u greatest)
-      (λ u done low. done (nat_list_cmp_total.trans u greatest above low it.1)) (not_itself greatest) split t counted.0 counted.1 text (t ∷ reverse items)
-      (λ u. (λ h. elim h [ inl same ↦ inr same | inr old ↦ inl old ], λ h. elim h [ inl old ↦ inr old | inr same ↦ inl same ]))
-      (first_rises t (reverse items) (λ z h. subst (λ v. Comes v z.term) (sym counted.0) (comes_below greatest above z.term it.1 (lists.each z h).0.1)) lists.rising))
-    where
-      split : (u : List ℕ) → (¬ Comes u greatest) → (u ≡ greatest) ⊎ ((¬ Comes u above) ⊎ Comes greatest u)
-      split u h = elim (comes_or u greatest) [ inl lower ↦ absurd (h lower) | inr other ↦ elim other [ inl same ↦ inl same | inr up ↦ inr (inr up) ] ]
+module _ (at : RegisterOf) (way : Way) (start text : List ℕ) (trees : Trees) where
+  abbrev counts_so : List ℕ → ℕ → Type 0
+  counts_so u records = RowsCount trees at.db.0 (key_in at.index at.register u) records
+
+  pub none_gone : text ≡ start → (terms : List TermCount) → terms ≡ [] → AreGoneOver at way start text trees terms
+  none_gone is terms none = subst (AreGoneOver at way start text trees) (sym none) record {
+    within = λ u. subst (λ t. IsOn way t u) is;
+    lists = record {
+      rising = none_rise way;
+      each = λ t h. absurd (none_had way t h);
+      others = λ u asked no'. absurd (asked.1 (subst (λ t. IsOn way t u) (sym is) asked.0));
+    };
+  }
+
+  module _ (terms : List TermCount) (gone : AreGoneOver at way start text trees terms) where
+    unlisted : (u : List ℕ) → IsOn way start u → ((t : TermCount) → Has (in_order way terms) t → t.term ≢ u) → ¬ HasOn at way text trees u → counts_so u 0
+    unlisted u on none absent = elim (on_or way text u) [
+      | inl left ↦ none_counted trees at.db.0 at.index at.register u (λ row there. absent ((row, there), left))
+      | inr passed ↦ gone.lists.others u (on, passed) none
+    ]
+
+    passed : (t : TermCount) → Has (in_order way terms) t → (u : List ℕ) → IsOn way text u → IsNearer way t.term u
+    passed t h u on = passed_nearer way text t.term u (gone.lists.each t h).0.1 on
+
+    pub gone_all : (n : ℕ) → length terms ≤ n → (length terms < n → (u : List ℕ) → ¬ HasOn at way text trees u) → AreNearest at way start trees n terms
+    gone_all n few none = record {
+      few = omega (arith, few, long_as way terms);
+      are = record {
+        rising = gone.lists.rising;
+        each = λ t h. let it = gone.lists.each t h in ((it.0.0, inr (t, h, never_nearer way t.term)), it.1, it.2);
+        others = λ u asked no'. unlisted u asked.0 no' (λ has. elim asked.1 [ inl some ↦ none (omega (arith, some, long_as way terms)) u has | inr t ↦ t.2 (passed t.0 t.1 u has.1) ]);
+      };
+    }
+
+    pub gone_hides : (n : ℕ) → length terms < n → HidesNext at way text trees → HideNearest at way start trees n
+    gone_hides n few next =
+        hides_next plain_rows trees at.db.0 at.index at.register (IsOn way start) (IsNearer way) n next.0 (gone.within next.0 next.1.0.1) next.2 (in_order way terms) (omega (arith, few, long_as way terms)) (record {
+          rising = gone.lists.rising;
+          each = λ t h. let it = gone.lists.each t h in ((it.0.0, passed t h next.0 next.1.0.1), it.1, it.2);
+          others = λ u asked no'. unlisted u asked.0 no' (λ has. next.1.1 u has asked.1);
+        })
+
+    pub gone_more : (t : TermCount) → FindsCount at way text trees (Some t) → (behind : List ℕ) → ((u : List ℕ) → IsOn way behind u ↔ IsNearer way t.term u)
+        → (more : List TermCount) → more ≡ terms ++ t ∷ [] → AreGoneOver at way start behind trees more
+    gone_more t next behind is more with_it =
+        let further = λ (u : List ℕ) (on : IsOn way behind u). further_on way text t.term u next.0.0.1 ((is u).0 on) in
+        subst (AreGoneOver at way start behind trees) (sym with_it) record {
+          within = λ u on. gone.within u (further u on);
+          lists = record {
+            rising = more_rise way terms t (λ u h. passed u h t.term next.0.0.1) gone.lists.rising;
+            each = λ u h. elim ((has_more way terms t u).0 h) [
+              | inl old ↦ (let it = gone.lists.each u old in ((it.0.0, λ on. it.0.1 (further u.term on)), it.1, it.2))
+              | inr same ↦ subst (λ (v : TermCount). (IsOn way start v.term × ¬ IsOn way behind v.term) × (1 ≤ v.records) × shows_count plain_rows trees at.db.0 (key_in at.index at.register v.term) v.records) (sym same)
+                  ((gone.within t.term next.0.0.1, λ on. never_nearer way t.term ((is t.term).0 on)), row_counted trees at.db.0 at.index at.register t.term t.records next.1 next.0.0.0.0 next.0.0.0.1, (next.1, λ _. next.2))
+            ];
+            others = λ u asked no'. unlisted u asked.0 (λ v h. no' v ((has_more way terms t v).1 (inl h))) (λ has. elim (nearer_or way t.term u) [
+              | inl near ↦ asked.1 ((is u).1 near)
+              | inr other ↦ elim other [ inl same ↦ no' t ((has_more way terms t t).1 (inr refl)) same | inr near ↦ next.0.1 u has near ]
+            ]);
+          };
+        }

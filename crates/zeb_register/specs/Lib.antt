@@ -42,6 +42,7 @@ pub mod PrivateKeyColumns
 pub mod PrivateTableForms
 pub mod PrivateBetweenRows
 pub mod PrivateRowTerms
+pub mod PrivateNearest
 pub mod PrivateStoreTables
 pub mod KeptUnits
 pub mod UnitChanges

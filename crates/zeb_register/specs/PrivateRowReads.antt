@@ -1,6 +1,6 @@
 -- What only the contracts of private functions speak of; no public clause reaches it.
 -- The rows of one table, read one at a time, beside what is expected.
-use Rattle.std.specs.Prelude.{◌≡◌, ◌↔◌, ℕ, ℤ, Bool, IsTrue, List, [], ◌∷◌, length, map, drop}
+use Rattle.std.specs.Prelude.{◌≡◌, ◌↔◌, ℕ, ℤ, Bool, IsTrue, List, [], ◌∷◌, length, map, drop, Option, Some, None}
 use Rattle.sqlite.specs.declared.types.Value.TheVariants.{Int}
 use Rattle.sqlite.specs.Order.{Row}
 use Rattle.sqlite.specs.State.{State, IsUnchanged}
@@ -45,6 +45,11 @@ next_text Dict = NEXT_DICT.now
 abbrev pub ShowsFirst : (ℤ → ℤ → Type 0) → (ℤ → Type 0) → List Row → Type 0
 ShowsFirst Up P [] = (id : ℤ) → ¬ P id
 ShowsFirst Up P (row ∷ rows) = (id : ℤ) × (row ≡ Int id ∷ []) × P id × ((other : ℤ) → P other → Up id other)
+
+-- the first of the ids that are P; none where there is none
+abbrev pub IsFirst : (ℤ → ℤ → Type 0) → (ℤ → Type 0) → Option ℤ → Type 0
+IsFirst Up P None = (id : ℤ) → ¬ P id
+IsFirst Up P (Some id) = P id × ((other : ℤ) → P other → Up id other)
 
 -- how long the list is that a table's rows are compared with
 abbrev pub size_of : Table → ExpectedDatabase → ℕ

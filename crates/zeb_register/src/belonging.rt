@@ -1,13 +1,14 @@
 //! Whether each row of a table belongs to a database that is listed, by the ids with which rows begin: the least and the greatest
 //! are looked up, and from one on the next.
 
-ghost use Rattle.std.specs.Prelude.{◌≡◌, ◌↔◌, ◌∷◌, [], List, true, false, IsTrue, None, Some};
+ghost use Rattle.std.specs.Prelude.{◌≤ℤ◌, ◌≡◌, ◌↔◌, ◌∷◌, [], List, true, false, IsTrue, None, Some};
 ghost use Rattle.sqlite.specs.Order.{Row as Columns};
 ghost use Rattle.sqlite.specs.State.{IsUnchanged};
 ghost use Rattle.sqlite.specs.declared.types.Value.TheVariants.{Int};
 ghost use Rattle.zeb_register.specs.Agreeing.{AreEnds, IsLeastFrom, IsListedId, Owns};
 ghost use Rattle.zeb_register.specs.Connections.{IsReasonedErrorOf, ReadingOf, TellsOf};
 ghost use Rattle.zeb_register.specs.PrivateRowExpected.{BelongsTo, tree_of};
+ghost use Rattle.zeb_register.specs.PrivateRowReads.{IsFirst};
 ghost use Rattle.zeb_register.specs.Store.{blocks_tree};
 
 use crate::ListedDatabase;
@@ -46,8 +47,7 @@ pub(crate) fn belongs<S: Alter>(
         if id >= ends.last {
             return Ok(true);
         }
-        let rows = next_rows(conn, table, id + 1)?;
-        let Some(next) = id_of(&rows) else {
+        let Some(next) = next_id(conn, table, id + 1)? else {
             return Ok(true);
         };
         id = next;
@@ -61,15 +61,50 @@ fn ends_of<S: Alter>(conn: &mut Connection<S>, table: Table) -> Result<Option<En
     ensures value { TellsOf S.Store conn.old conn.new result (AreEnds (tree_of table)) }
     ensures refused { IsReasonedErrorOf S.Store conn.old conn.new result }
 {
-    let rows = least_rows(conn, table)?;
-    let Some(first) = id_of(&rows) else {
+    let Some(first) = least_id(conn, table)? else {
         return Ok(None);
     };
-    let rows = greatest_rows(conn, table)?;
-    let Some(last) = id_of(&rows) else {
+    let Some(last) = greatest_id(conn, table)? else {
         return Ok(None);
     };
     Ok(Some(Ends { first, last }))
+}
+
+/// The least id, or none where the table has no row.
+fn least_id<S: Alter>(conn: &mut Connection<S>, table: Table) -> Result<Option<i64>, Error>
+    ensures call { ReadingOf S.Store conn.old conn.new result (λ _. IsUnchanged) }
+    ensures value { TellsOf S.Store conn.old conn.new result
+        (λ trees. IsFirst (λ id other. id ≤ℤ other) (Owns (tree_of table) trees)) }
+    ensures refused { IsReasonedErrorOf S.Store conn.old conn.new result }
+{
+    let rows = least_rows(conn, table)?;
+    Ok(id_of(&rows))
+}
+
+/// The greatest id, or none where the table has no row.
+fn greatest_id<S: Alter>(conn: &mut Connection<S>, table: Table) -> Result<Option<i64>, Error>
+    ensures call { ReadingOf S.Store conn.old conn.new result (λ _. IsUnchanged) }
+    ensures value { TellsOf S.Store conn.old conn.new result
+        (λ trees. IsFirst (λ id other. other ≤ℤ id) (Owns (tree_of table) trees)) }
+    ensures refused { IsReasonedErrorOf S.Store conn.old conn.new result }
+{
+    let rows = greatest_rows(conn, table)?;
+    Ok(id_of(&rows))
+}
+
+/// The least id from a start on, if there is one.
+fn next_id<S: Alter>(
+    conn: &mut Connection<S>,
+    table: Table,
+    start: i64,
+) -> Result<Option<i64>, Error>
+    ensures call { ReadingOf S.Store conn.old conn.new result (λ _. IsUnchanged) }
+    ensures value { TellsOf S.Store conn.old conn.new result
+        (λ trees. IsLeastFrom (Owns (tree_of table) trees) start) }
+    ensures refused { IsReasonedErrorOf S.Store conn.old conn.new result }
+{
+    let rows = next_rows(conn, table, start)?;
+    Ok(id_of(&rows))
 }
 
 /// The least and the greatest id of a database with which a row of `blocks` begins, or none where it has no row. It changes nothing.
@@ -88,8 +123,7 @@ pub fn next_in_blocks<S: Alter>(conn: &mut Connection<S>, start: i64) -> Result<
         (λ trees. IsLeastFrom (Owns blocks_tree trees) start) }
     ensures refused { IsReasonedErrorOf S.Store conn.old conn.new result }
 {
-    let rows = next_rows(conn, Table::Blocks, start)?;
-    Ok(id_of(&rows))
+    next_id(conn, Table::Blocks, start)
 }
 
 /// The id that the first row shows.

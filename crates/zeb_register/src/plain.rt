@@ -16,8 +16,8 @@ use crate::dropping::database_drop_whole;
 use crate::plain_between::postings_between;
 use crate::plain_changes::key_changes_plain;
 use crate::registers::{Layout, RecordChange, RegisterOf, TermCount, Totals, Work};
-use crate::statements::postings::{nothing_of, posting_rows, register_rows};
-use crate::terms::{count_terms, term_before, term_count, term_from, text_above};
+use crate::statements::postings::{posting_rows, register_rows};
+use crate::terms::{Way, count_terms, nearest_terms};
 use crate::values::read_number;
 use crate::{DatabaseId, Expected, RegFault, RowFault};
 use sqlite::{Alter, Connection, Error, Row, Transaction};
@@ -101,19 +101,7 @@ impl Layout for Rows {
         start: &str,
         n: u64,
     ) -> Result<Vec<TermCount>, RegFault> {
-        let mut counts = Vec::new(alloc);
-        let mut next = String::from_str(alloc, start)?;
-        // A closed connection is refused also where no term is asked for.
-        nothing_of(conn)?;
-        for _done in 0..n {
-            let Some(term) = term_from(conn, at, &next)? else {
-                break;
-            };
-            let count = term_count(alloc, conn, at, term)?;
-            next = text_above(alloc, count.term.as_str())?;
-            counts.push(count)?;
-        }
-        Ok(counts)
+        nearest_terms(alloc, conn, at, Way::Up, start, n)
     }
 
     fn terms_before<S: Alter>(
@@ -124,18 +112,7 @@ impl Layout for Rows {
         start: &str,
         n: u64,
     ) -> Result<Vec<TermCount>, RegFault> {
-        let mut counts = Vec::new(alloc);
-        let mut above = String::from_str(alloc, start)?;
-        // A closed connection is refused also where no term is asked for.
-        nothing_of(conn)?;
-        for _done in 0..n {
-            let Some(term) = term_before(conn, at, &above)? else {
-                break;
-            };
-            let count = term_count(alloc, conn, at, term)?;
-            above = String::from_str(alloc, count.term.as_str())?;
-            counts.push(count)?;
-        }
+        let mut counts = nearest_terms(alloc, conn, at, Way::Down, start, n)?;
         counts.reverse();
         Ok(counts)
     }

@@ -1,28 +1,36 @@
 //! The terms of a register, read from the rows of its postings.
 
-ghost use Rattle.std.specs.Prelude.{◌≡◌, ◌<◌, ◌+◌, ◌^◌, ◌++◌, [], ◌∷◌, IfOk, OnOk, string_bytes};
+ghost use Rattle.std.specs.Prelude.{ℕ, List, ◌≡◌, ◌↔◌, ◌<◌, ◌+◌, ◌^◌, ◌++◌, [], ◌∷◌, IfOk, OnOk, string_bytes};
 ghost use Rattle.std.specs.List.Sorted.{IsStrictlySortedBy};
 ghost use Rattle.sqlite.specs.State.{IsUnchanged};
 ghost use Rattle.sqlite.specs.Order.{row_cmp};
 ghost use Rattle.sqlite_rules.specs.Lists.{Has};
 ghost use Rattle.zeb_register.specs.Occurring.{AreCounts, key_in};
 ghost use Rattle.zeb_register.specs.PlainUnits.{HasShownNone, RowsCount};
-ghost use Rattle.zeb_register.specs.PrivateKeyColumns.{HasTermOf};
-ghost use Rattle.zeb_register.specs.Terms.{Comes};
+ghost use Rattle.zeb_register.specs.PrivateNearest.{AreNearest, FindsCount, HasOn, HideNearest, HidesNext, IsNearer, IsOn};
 ghost use Rattle.zeb_register.specs.PrivateRowTerms.{IsShown, ShowsOccurrence, IsOccurrenceRow, SomeIsNoOccurrence, ShowsTerm, IsTermRow};
 ghost use Rattle.zeb_register.specs.Answers.{Answers, IfDamaged, IfRowDamaged};
-ghost use Rattle.zeb_register.specs.Connections.{IsReasonedOf, OnStoreOf, ReadingOf};
-ghost use Rattle.zeb_register.specs.PrivateRowTerms.{FindsNearest, HidesText, IsCountedIn};
+ghost use Rattle.zeb_register.specs.Connections.{IsReasonedErrorOf, IsReasonedOf, OnStoreOf, ReadingOf};
+ghost use Rattle.zeb_register.specs.PrivateRowTerms.{FindsNearest, HidesText, IsCountedIn, ReadsRows, ShowsNearest};
 
 use crate::plain::postings_under;
 use crate::registers::{RegisterOf, TermCount};
-use crate::statements::postings::{rows_before, rows_from};
+use crate::statements::postings::{nothing_of, rows_before, rows_from};
 use crate::values::{read, read_number};
 use crate::{RegFault, RowFault};
-use sqlite::{Alter, Connection, Row};
+use sqlite::{Alter, Connection, Error, Row};
 use std::alloc::{AllocError, Global};
 use zeb_blocks::records_in;
 use zeb_keys::Term;
+
+/// The way from a text along the order of terms.
+#[derive(Clone, Copy)]
+pub(crate) enum Way {
+    /// To the terms that are not below the text.
+    Up,
+    /// To those that are below it.
+    Down,
+}
 
 /// The terms of rows that rise by term and then by record, each with the number of its records.
 pub(crate) fn count_terms(alloc: Global, rows: &[Row]) -> Result<Vec<TermCount>, RowFault>
@@ -78,7 +86,7 @@ fn count_occurrence(
 }
 
 /// The term with the number of records that have it.
-pub(crate) fn term_count<S: Alter>(
+fn term_count<S: Alter>(
     alloc: Global,
     conn: &mut Connection<S>,
     at: RegisterOf,
@@ -122,37 +130,97 @@ fn term_of(rows: &[Row]) -> Result<Option<String>, RowFault>
     }
 }
 
-/// The least term of the register that is not below `start`.
-pub(crate) fn term_from<S: Alter>(
+/// The term nearest to a text on a way from it.
+fn term_on<S: Alter>(
     conn: &mut Connection<S>,
     at: RegisterOf,
-    start: &str,
+    way: Way,
+    text: &str,
 ) -> Result<Option<String>, RegFault>
     ensures call { ReadingOf S.Store conn.old conn.new result (λ _. IsUnchanged) }
     ensures finds { OnStoreOf S.Store conn.old conn.new
-        (λ trees. Answers (IfDamaged (HidesText (λ term. HasTermOf at trees term
-        × ¬ Comes term start.now) Comes)) (FindsNearest
-        (λ term. HasTermOf at trees term × ¬ Comes term start.now) Comes) result) }
+        (λ trees. Answers (IfDamaged (HidesText (HasOn at way text.now trees) (IsNearer way)))
+        (FindsNearest (HasOn at way text.now trees) (IsNearer way)) result) }
     ensures refused { IsReasonedOf S.Store conn.old conn.new result }
 {
-    let rows = rows_from(conn, at, start)?;
+    let rows = nearest_rows(conn, at, way, text)?;
     Ok(term_of(&rows)?)
 }
 
-/// The greatest term of the register that is below `start`.
-pub(crate) fn term_before<S: Alter>(
+/// The row of the term nearest to a text on a way from it.
+fn nearest_rows<S: Alter>(
     conn: &mut Connection<S>,
     at: RegisterOf,
-    start: &str,
-) -> Result<Option<String>, RegFault>
+    way: Way,
+    text: &str,
+) -> Result<Vec<Row>, Error>
+    ensures call { ReadingOf S.Store conn.old conn.new result
+        (λ rows a b. ReadsRows (λ trees. ShowsNearest (HasOn at way text.now trees)
+        (IsNearer way)) a b rows.items) }
+    ensures err { IsReasonedErrorOf S.Store conn.old conn.new result }
+{
+    match way {
+        Way::Up => rows_from(conn, at, text),
+        Way::Down => rows_before(conn, at, text),
+    }
+}
+
+/// The term nearest to a text on a way from it, with the number of records that have it.
+fn count_on<S: Alter>(
+    alloc: Global,
+    conn: &mut Connection<S>,
+    at: RegisterOf,
+    way: Way,
+    text: &str,
+) -> Result<Option<TermCount>, RegFault>
     ensures call { ReadingOf S.Store conn.old conn.new result (λ _. IsUnchanged) }
     ensures finds { OnStoreOf S.Store conn.old conn.new
-        (λ trees. Answers (IfDamaged (HidesText (λ term. HasTermOf at trees term
-        × Comes term start.now) (λ one other. Comes other one)))
-        (FindsNearest (λ term. HasTermOf at trees term × Comes term start.now)
-        (λ one other. Comes other one)) result) }
+        (λ trees. Answers (IfDamaged (HidesNext at way text.now trees))
+        (FindsCount at way text.now trees) result) }
     ensures refused { IsReasonedOf S.Store conn.old conn.new result }
 {
-    let rows = rows_before(conn, at, start)?;
-    Ok(term_of(&rows)?)
+    let Some(term) = term_on(conn, at, way, text)? else {
+        return Ok(None);
+    };
+    Ok(Some(term_count(alloc, conn, at, term)?))
+}
+
+/// The text from which a way goes on behind a term.
+fn text_behind(alloc: Global, way: Way, term: &str) -> Result<String, AllocError>
+    ensures { IfOk result (λ text. (u : List ℕ) → IsOn way (string_bytes text) u
+        ↔ IsNearer way term.now u) }
+{
+    match way {
+        Way::Up => text_above(alloc, term),
+        Way::Down => String::from_str(alloc, term),
+    }
+}
+
+/// The `n` terms nearest to a text on a way from it, the nearest first, each with the number of records that have it.
+pub(crate) fn nearest_terms<S: Alter>(
+    alloc: Global,
+    conn: &mut Connection<S>,
+    at: RegisterOf,
+    way: Way,
+    start: &str,
+    n: u64,
+) -> Result<Vec<TermCount>, RegFault>
+    ensures call { ReadingOf S.Store conn.old conn.new result (λ _. IsUnchanged) }
+    ensures lists { OnStoreOf S.Store conn.old conn.new
+        (λ trees. Answers (IfDamaged (HideNearest at way start.now trees n))
+        (λ list. AreNearest at way start.now trees n list.items) result) }
+    ensures refused { IsReasonedOf S.Store conn.old conn.new result }
+{
+    let mut counts = Vec::new(alloc);
+    let mut text = String::from_str(alloc, start)?;
+    // A closed connection is refused also where no term is asked for.
+    nothing_of(conn)?;
+    for _done in 0..n {
+        let Some(count) = count_on(alloc, conn, at, way, &text)? else {
+            return Ok(counts);
+        };
+        text = text_behind(alloc, way, count.term.as_str())?;
+        counts.push(count)?;
+    }
+    Ok(counts)
 }

@@ -1,4 +1,4 @@
-use Rattle.zeb_register.proofs.Cited.{state, Has, Err, ◌∙◌, sym, ap, map, subst, listed_name, first_three}
+use Rattle.zeb_register.proofs.Cited.{state, Has, Err, ◌∙◌, arith, length, length-map, sym, ap, map, subst, listed_name, first_three}
 use Rattle.zeb_register.proofs.DatabaseLists.{database_shown, databases_listed}
 use Rattle.zeb_register.proofs.ExpectedDatabases.{names_readable, names_same}
 use Rattle.zeb_register.proofs.agreeing.databases_beside.Goals as goal
@@ -25,3 +25,6 @@ returns-in-Err-Damaged-clause-value g c clean store up has =
     let rows = c.in_ok-rows.rows.items in
     let held = (c.in_ok-rows.ensures.call.ok clean).1 store in
     c.in-Err-Damaged.ensures.honest (ap Err c.in-Err-Damaged.field-0-is) (λ row here. database_shown s store rows held (names_readable s.now.trees c.args.expected.now has) row (subst (λ l. Has l row) c.deref.ensures.value here))
+
+pub returns-then-are_named-clause-long : goal.returns-then-are_named-clause-long
+returns-then-are_named-clause-long g c = omega (arith, ap length c.deref-in-Ok.ensures.value, simp length-map at (ap length (c.are_named.ensures.same c.if-are_named.true)))

@@ -1,7 +1,6 @@
-use Rattle.zeb_register.proofs.Cited.{unchanged_then, Database, state, HasCleanDisk, ◌≡◌, ◌∙◌, true, false, inl, inr, slice_get, get_or, sym, ap, subst, refl, arith, ListedDatabase, AsExpected}
+use Rattle.zeb_register.proofs.Cited.{Database, Error, state, HasCleanDisk, ◌≡◌, ◌∙◌, true, false, inl, inr, slice_get, get_or, sym, ap, subst, refl, arith, ListedDatabase, AsExpected}
 use Rattle.zeb_register.proofs.ListsInStep.{at_or_below, got_in, got_is, got_same}
-use Rattle.zeb_register.proofs.Calls.{nothing_then, store_same}
-use Rattle.zeb_register.proofs.CallsInTurn.{quiet_then}
+use Rattle.zeb_register.proofs.Calls.{reading_behind, store_same}
 use Rattle.zeb_register.proofs.ContentLemmas.{has_at}
 use Rattle.zeb_register.proofs.agreeing.each_agrees.Goals as goal
 
@@ -37,16 +36,17 @@ loop-at-preserved g c =
     let s0 = state g.S.Store c.args.conn.now in
     let s1 = state g.S.Store c.loop-at.conn in
     let s2 = state g.S.Store c.database_agrees.new.conn in
-    let clean_a = λ (clean : HasCleanDisk (state g.S.Store c.database_agrees.new.conn)). (let e : HasCleanDisk (state g.S.Store c.loop-at.conn) = omega (arith, c.database_agrees.ensures.call.crash.clean) in e) in
+    let next = reading_behind {F = Error} s0 s1 s2 c.in_ok-database_agrees.field-0 true _ inv.idle inv.ok inv.same inv.crash c.in_ok-database_agrees.ensures.call (λ same. same) in
     record {
-      idle = λ i. c.database_agrees.ensures.call.idle (inv.idle i);
-      ok = λ clean. unchanged_then s0 s1 s2 (inv.ok (clean_a clean)) (c.in_ok-database_agrees.ensures.call.ok clean);
-      same = λ clean i. nothing_then s0 s1 s2 (inv.same (clean_a clean) i) (c.database_agrees.ensures.call.same clean (inv.idle i));
-      crash = quiet_then s0 s1 s2 inv.crash c.database_agrees.ensures.call.crash;
+      idle = next.idle;
+      ok = next.ok;
+      same = next.same;
+      crash = next.crash;
       done = λ clean store order k one database below here there.
-          let at = (inv.ok (clean_a clean)).0.now_is in
+          let clean1 : HasCleanDisk s1 = omega (arith, c.database_agrees.ensures.call.crash.clean) in
+          let at = (inv.ok clean1).0.now_is in
           elim (at_or_below k c.loop-at.at below) [
-            | inl before ↦ inv.done (clean_a clean) store order k one database before here there
+            | inl before ↦ inv.done clean1 store order k one database before here there
             | inr this ↦
                 let value = c.in_ok-database_agrees.ensures.value clean (store_same s0 s1 at store) (order c.index-expected-at.result (has_at _ _ _ c.index-expected-at.is c.loop-at-test.true)) in
                 let left : one ≡ c.index-listed-at.result = got_same c.args.listed.now c.loop-at.at one c.index-listed-at.result (ap (slice_get c.args.listed.now) (sym this) ∙ here) c.index-listed-at.is in
@@ -61,3 +61,7 @@ returns-clause-value g c clean store order = (
   λ h one database pair. c.loop-at.invariant.done clean store order pair.0 one database (let e = got_in c.args.expected.now pair.0 database pair.2 in omega (arith, e, c.loop-at-test.false)) pair.1 pair.2,
   λ each. refl,
 )
+
+pub returns-then-not-branch-clause-call : goal.returns-then-not-branch-clause-call
+returns-then-not-branch-clause-call g c =
+    let inv = c.loop-at.invariant in reading_behind _ _ _ c.in_ok-database_agrees.field-0 _ _ inv.idle inv.ok inv.same inv.crash c.in_ok-database_agrees.ensures.call (λ same. same)

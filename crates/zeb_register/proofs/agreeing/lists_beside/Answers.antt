@@ -1,6 +1,6 @@
 use Rattle.zeb_register.proofs.Cited.{Database, state, HasCleanDisk, List, Option, Some, None, IfOk, subst, arith, MatchOption, IfOk-weaker, ExpectedDatabase, name_order, AreBeside, AreInOrder, HasNames, KeepsExpectedTexts, RecordsAgree, ListsAgree}
 use Rattle.std.specs.List.Sorted.{IsStrictlySortedBy}
-use Rattle.zeb_register.proofs.Calls.{store_same}
+use Rattle.zeb_register.proofs.Calls.{reading_then, store_same}
 use Rattle.zeb_register.proofs.ExpectedDatabases.{names_there}
 use Rattle.zeb_register.proofs.agreeing.lists_beside.Goals as goal
 
@@ -23,3 +23,6 @@ returns-clause-value g c clean store ordered =
     IfOk c.records_beside.result (λ found. MatchOption found (¬ (HasNames d.trees databases × RecordsAgree databases d.trees)) (λ listed. AreBeside listed.items databases d.trees × RecordsAgree databases d.trees))) at given in
     IfOk-weaker c.records_beside.result _ _ (λ found is. found_so (HasNames s0.now.trees databases × RecordsAgree databases s0.now.trees) (ListsAgree s0.now.trees c.args.expected.now) _ _ (λ lists. (lists.names, lists.records))
     (λ listed both. (both.0, record { texts = texts; names = names_there s0.now.trees databases listed.items both.0.0 both.0.1; records = both.1 })) found is) value
+
+pub returns-clause-call : goal.returns-clause-call
+returns-clause-call g c = reading_then _ _ _ _ _ c.in_ok-texts_agree.ensures.call c.records_beside.ensures.call

@@ -1,5 +1,5 @@
 use Rattle.zeb_register.proofs.Cited.{Database, state, State, HasCleanDisk, ◌≡◌, ◌↔◌, ◌∙◌, Bool, IsTrue, List, true, false, length, ap, subst₂, arith, Records, ListedDatabase, ExpectedDatabase, AreBeside, HoldsExpected, RecordsAgree, IsStore}
-use Rattle.zeb_register.proofs.Calls.{store_same}
+use Rattle.zeb_register.proofs.Calls.{reading_behind, store_same}
 use Rattle.zeb_register.proofs.ExpectedDatabases.{expected_there}
 use Rattle.zeb_register.proofs.agreeing.records_beside.Goals as goal
 
@@ -31,3 +31,9 @@ returns-else-agree-clause-value g c clean store up order both =
     let yes' : c.in_ok-agree.agree ≡ true = told.1 both.1 in
     let no' : c.in_ok-agree.agree ≡ false = c.if-agree.false in
     absurd (cc)
+
+pub returns-then-agree-clause-call : goal.returns-then-agree-clause-call
+returns-then-agree-clause-call g c = let one = c.in_ok-listed.ensures.call in reading_behind _ _ _ c.in_ok-agree.agree _ _ one.idle one.ok one.same one.crash c.in_ok-agree.ensures.call (λ same. same)
+
+pub returns-else-agree-clause-call : goal.returns-else-agree-clause-call
+returns-else-agree-clause-call g c = let one = c.in_ok-listed.ensures.call in reading_behind _ _ _ c.in_ok-agree.agree _ _ one.idle one.ok one.same one.crash c.in_ok-agree.ensures.call (λ same. same)

@@ -46,3 +46,15 @@ returns-then-not-branch-clause-units g c clean inside store told reads =
 
 pub returns-in_err-holds_places-clause-units : goal.returns-in_err-holds_places-clause-units
 returns-in_err-holds_places-clause-units g c clean inside store = refused_so _ _ c.from_residual.result c.in_err-holds_places.field-0.0 (search rules) (c.in_err-holds_places.ensures.told clean inside store)
+
+pub returns-clause-call : goal.returns-clause-call
+returns-clause-call g c = record {
+  ok = λ clean inside.
+      let clean2 : HasCleanDisk (state g.S.Store c.places_take.new.tx.conn.now) = omega (arith, clean, c.places_put.ensures.call.crash.clean) in
+      let clean1 : HasCleanDisk (state g.S.Store c.holds_places.new.tx.conn.now) = omega (arith, clean2, c.places_take.ensures.call.crash.clean) in
+      let reads = c.in_ok-holds_places.ensures.call.ok clean1 inside in
+      let taken = c.in_ok-places_take.ensures.call.ok clean2 reads.mode in
+      goes_then _ _ _ (goes_then _ _ _ (reads_goes _ _ reads) taken.on) (c.in_ok-places_put.ensures.call.ok clean taken.on.mode taken.on.is_open);
+  err = λ clean inside. tt;
+  crash = quiet_then _ _ _ c.holds_places.ensures.call.crash (quiet_then _ _ _ c.places_take.ensures.call.crash c.places_put.ensures.call.crash);
+}

@@ -1,10 +1,10 @@
-use Rattle.zeb_register.proofs.Cited.{state, ◌≤ℤ◌, w64, to_z, of_z, subst, to_z-of_z, blocks_tree, Owns, IsLeastFrom}
+use Rattle.zeb_register.proofs.Cited.{state, ◌≤ℤ◌, w64, to_z, of_z, subst, to_z-of_z, Owns, IsLeastFrom, tree_of}
 use Rattle.zeb_register.proofs.OwnersListed.{first_seen, least_from}
-use Rattle.zeb_register.proofs.belonging.next_in_blocks.Goals as goal
+use Rattle.zeb_register.proofs.belonging.next_id.Goals as goal
 
 pub returns-clause-value : goal.returns-clause-value
 returns-clause-value g c clean store =
-    let owned = Owns blocks_tree (state g.S.Store c.args.conn.now).now.trees in
+    let owned = Owns (tree_of c.args.table) (state g.S.Store c.args.conn.now).now.trees in
     let start = to_z w64 (of_z w64 c.args.start) in
     let first = first_seen (λ id other. id ≤ℤ other) (λ id. owned id × (start ≤ℤ id)) c.in_ok-rows.rows.items c.deref.result.now c.id_of.result ((c.in_ok-rows.ensures.call.ok clean).1 store) c.deref.ensures.value (c.id_of.ensures.none, c.id_of.ensures.some) in
     subst (λ z. IsLeastFrom owned z c.id_of.result) (to_z-of_z {w = w64} {z = c.args.start} c.ranges.start) (least_from owned start c.id_of.result first)
