@@ -1,21 +1,11 @@
 -- The entries of a leaf, by the first and the last of them; and the postings that they take, in one way.
-use Rattle.zeb_leaves.proofs.Cited.{row_cmp, row_cmp_total, Row, Blob, Has, all_has, has_either, has_right, ◌≡◌, ◌≢◌, ◌↔◌, ◌≤◌, ◌<◌, ◌∙◌, ◌++◌, ◌∷◌, ℕ, zero, suc, List, [], true, false, length, drop, map, arith, refl, sym, ap, ap₂, subst, inl, inr, Ordering, Less, Equal, Greater, Posting, SaysPart, Key, Entry, ShowsEntries, entry_cmp, leaf_bytes, leaf_key}
-use Rattle.std.proofs.Common.{Bool, not}
+use Rattle.zeb_leaves.proofs.Cited.{row_cmp, row_cmp_total, Row, Blob, Has, all_has, has_either, has_right, ◌≡◌, ◌≢◌, ◌↔◌, ◌≤◌, ◌<◌, ◌∙◌, ◌++◌, ◌∷◌, ℕ, zero, suc, List, [], true, false, length, drop, map, arith, refl, sym, ap, ap₂, subst, inl, inr, Ordering, Less, Equal, Greater, Posting, SaysPart, Key, Entry, ShowsEntries, entry_cmp, leaf_bytes, leaf_key, Bool, not, is_lt, key_cmp, LEAF_BYTES, IsWhole, Leaf, ShowsLeaf, TakeEntries, entry_key, key_of, leaf_shown, rest_shown, one_said, one_shown, same_rest, cut_rises, with_key, KeyPosting}
 use Rattle.std.specs.Bool.{IsTrue}
 use Rattle.std.specs.List.Sorted.{IsStrictlySortedBy}
-use Rattle.std.specs.Ordering.{is_lt}
-use Rattle.zeb_leaf.specs.Spans.{key_cmp}
-use Rattle.zeb_leaf.specs.declared.entries.TheConstants.{LEAF_BYTES}
 use Rattle.zeb_leaves.proofs.OneCover.{up_to_then}
 use Rattle.zeb_leaves.proofs.PartedLeaves.{less_is_up}
 use Rattle.zeb_leaves.proofs.SpanRuns.{not_less_up, up_not_less}
-use Rattle.zeb_leaves.specs.PrivateAgreeing.{IsWhole, Leaf, ShowsLeaf, TakeEntries, entry_key, key_of, leaf_shown, rest_shown}
 use Rattle.zeb_register.proofs.KeyOrder.{key_order}
-use Rattle.zeb_register.proofs.LeafReadings.{one_said, one_shown}
-use Rattle.zeb_register.proofs.PackedBeside.{same_rest}
-use Rattle.zeb_register.proofs.RisingLists.{cut_rises}
-use Rattle.zeb_register.specs.PrivateRowExpected.{with_key}
-use Rattle.zeb_register.specs.declared.expected.KeyPosting.{KeyPosting}
 
 less_entry : (d e : Entry) → entry_cmp d e ≡ Less → row_cmp (entry_key d) (entry_key e) ≡ Less
 less_entry d e less = key_order d.term e.term d.block e.block ∙ less

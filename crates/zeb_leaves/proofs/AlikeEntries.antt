@@ -1,10 +1,7 @@
 -- Leaves that have the same entry of a block as others: what these say of it they say, and count it as these.
-use Rattle.zeb_leaves.proofs.Cited.{Row, Has, ◌↔◌, ℕ, List, [], refl, sym, subst, inl, inr, Posting, Entry, Covers, HasEntriesAt, LacksEntriesAt, leaf_key, IsAt, IsEntryOf, IsPartMalformed, LacksSum, PartReads, SayPart, SumsRecords}
-use Rattle.zeb_register.proofs.LeafReadings.{lacks_none, one_entries}
-use Rattle.zeb_register.proofs.LeafSums.{leaf_there}
+use Rattle.zeb_leaves.proofs.Cited.{Row, Has, ◌↔◌, ℕ, List, [], refl, sym, subst, inl, inr, Posting, Entry, Covers, HasEntriesAt, LacksEntriesAt, leaf_key, IsAt, IsEntryOf, IsPartMalformed, LacksSum, PartReads, SayPart, SumsRecords, AreDistinct, lacks_none, one_entries, leaf_there}
 use Rattle.zeb_leaves.proofs.MergedSayings.{same_says}
 use Rattle.zeb_leaves.proofs.OneCover.{entries_at}
-use Rattle.zeb_leaves.specs.LeafChanges.{AreDistinct}
 
 -- two lists have the same entries of the block
 abbrev pub HaveAlike : List ℕ → ℕ → List Entry → List Entry → Type 0

@@ -1,17 +1,8 @@
 -- The statements that find the own key of the leaf behind a key, each with what it is compiled to.
-use Rattle.zeb_leaves.proofs.Cited.{Row, column, Trees, Int, Text, ◌≡◌, ◌++◌, ◌∷◌, ℕ, ℤ, pos, true, false, List, [], map, codes, inl, inr, refl, arith, IsUpTo, own_key, HasBlockFrom, IsRest, IsStore, State, Shown, blocks_tree}
-use Rattle.std.specs.Ordering.{is_lt}
+use Rattle.zeb_leaves.proofs.Cited.{Row, column, Trees, Int, Text, ◌≡◌, ◌++◌, ◌∷◌, ℕ, ℤ, pos, true, false, List, [], map, codes, inl, inr, refl, arith, IsUpTo, own_key, HasBlockFrom, IsRest, IsStore, State, Shown, blocks_tree, value_cmp, is_lt, first_of, first_so, leaf_places, term_order, ShowsLeast, not_lower, blocks, register_of, IsAfter, IsQuery, Condition, at_least, equals, keyed_from, one_row, rising, shows}
 use Rattle.sqlite.specs.Listing.{understood}
-use Rattle.sqlite.specs.Order.{value_cmp}
 use Rattle.sqlite_tied.specs.Compute.{everything}
 use Rattle.zeb_leaves.specs.declared.statements_inside.TheConstants.{OF_TERMS_FROM, OF_TERM_FROM}
-use Rattle.zeb_leaf_rows.proofs.LeafStatements.{first_of, first_so, leaf_places, term_order}
-use Rattle.zeb_leaves.specs.PrivateLeafReads.{ShowsLeast}
-use Rattle.zeb_register.proofs.KeyOrder.{not_lower}
-use Rattle.zeb_register.proofs.PostingStatements.{blocks, register_of}
-use Rattle.zeb_register.proofs.PrefixSelects.{IsAfter}
-use Rattle.zeb_register.proofs.Refusals.{IsQuery}
-use Rattle.zeb_register.proofs.StatementForms.{Condition, at_least, equals, keyed_from, one_row, rising, shows}
 use Rattle.zeb_register.proofs.ValueKinds.{are_fit}
 
 -- an own key is shown by these places, alone

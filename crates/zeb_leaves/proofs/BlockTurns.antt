@@ -1,9 +1,6 @@
 -- Changes of a key in leaves as they turn its units: in turn, and those of one block beside those of others.
-use Rattle.zeb_leaves.proofs.Cited.{◌≡◌, ◌≢◌, ◌⊎◌, ◌∙◌, ◌/◌, ◌++◌, ◌∷◌, ℕ, List, [], refl, sym, ap, inl, inr, eqb_tells, Has}
+use Rattle.zeb_leaves.proofs.Cited.{◌≡◌, ◌≢◌, ◌⊎◌, ◌∙◌, ◌/◌, ◌++◌, ◌∷◌, ℕ, List, [], refl, sym, ap, inl, inr, eqb_tells, Has, packed_leaves, AreSame, KeyUnits, TurnsUnit, TurnsUnits, RecordChange}
 use Rattle.std.proofs.Common.{Bool, ◌==◌, eq-eqb, if◌then◌else◌}
-use Rattle.zeb_register.specs.Formats.{packed_leaves}
-use Rattle.zeb_register.specs.UnitChanges.{AreSame, KeyUnits, TurnsUnit, TurnsUnits}
-use Rattle.zeb_register.specs.declared.registers.RecordChange.{RecordChange}
 
 abbrev pub Turns : List RecordChange → KeyUnits → KeyUnits → Type 0
 Turns = TurnsUnits packed_leaves

@@ -1,16 +1,6 @@
 -- Leaves that are counted as read and as written, and how many pieces a run has.
-use Rattle.zeb_leaves.proofs.Cited.{all_from, all_has, has_left, has_right, ◌≢◌, ◌+◌, ◌≤◌, ◌++◌, ◌∷◌, ℕ, List, Result, Ok, Err, [], length, length-append, ap, refl, subst, inl, inr, arith, AllByRecursion, Trees}
-use Rattle.std.proofs.Common.{Bool}
-use Rattle.std.specs.Prelude.{OnOk}
-use Rattle.zeb_register.specs.RunChanges.{changes_in}
-use Rattle.zeb_register.specs.Tallies.{Rises, WorksOnLeaves}
-use Rattle.zeb_register.specs.declared.faults.RegFault.{RegFault}
-use Rattle.zeb_register.specs.declared.registers.KeyChanges.{KeyChanges}
-use Rattle.zeb_register.specs.declared.registers.RecordChange.{RecordChange}
+use Rattle.zeb_leaves.proofs.Cited.{all_from, all_has, has_left, has_right, ◌≢◌, ◌+◌, ◌≤◌, ◌++◌, ◌∷◌, ℕ, List, Result, Ok, Err, [], length, length-append, ap, refl, subst, inl, inr, arith, AllByRecursion, Trees, Bool, OnOk, WritesLeaves, coming, IsPiece, PartsRun, all_changes, CountsLeaves, changes_in, Rises, WorksOnLeaves, RegFault, KeyChanges, RecordChange}
 use Rattle.zeb_register.specs.declared.registers.Work.{Work}
-use Rattle.zeb_leaves.specs.PrivateLeafWrites.{WritesLeaves, coming}
-use Rattle.zeb_leaves.specs.PrivatePieces.{IsPiece, PartsRun, all_changes}
-use Rattle.zeb_leaves.specs.PrivateTurning.{CountsLeaves}
 
 -- what is written for one leaf, which was read or not, is what one change counts
 pub front_counted : (is_there : Bool) (read written : ℕ) (old new : Trees) (was is : Work) → read ≤ 1 → WritesLeaves is_there written old new → CountsLeaves read written was is → WorksOnLeaves 1 old new was is

@@ -1,19 +1,8 @@
 -- Rising entries that are counted one after the other: their terms, each with the records of its entries.
-use Rattle.zeb_leaves.proofs.Cited.{Has, has_either, has_left, has_right, ◌≡◌, ◌≢◌, ◌∙◌, ◌⊎◌, ◌+◌, ◌<◌, ◌++◌, ◌∷◌, ℕ, true, false, List, [], length, filter, refl, sym, ap, subst, inl, inr, arith, Ordering, Less, Equal, Greater, nat_cmp, nat_list_cmp_total, slice_cmp, ordering_then, tied_itself, never_itself, sum_by, Entry, TermCount, entry_cmp, joined_rises, IsTotalOrder, on_total}
-use Rattle.std.proofs.Common.{get_or, reverse, take}
+use Rattle.zeb_leaves.proofs.Cited.{Has, has_either, has_left, has_right, ◌≡◌, ◌≢◌, ◌∙◌, ◌⊎◌, ◌+◌, ◌<◌, ◌++◌, ◌∷◌, ℕ, true, false, List, [], length, filter, refl, sym, ap, subst, inl, inr, arith, Ordering, Less, Equal, Greater, nat_cmp, nat_list_cmp_total, slice_cmp, ordering_then, tied_itself, never_itself, sum_by, Entry, TermCount, entry_cmp, joined_rises, IsTotalOrder, on_total, get_or, reverse, take, filter-append, sum_by-append, sum_by-cons, is_eq, IsUtf8, CountAll, CountsIn, term_total, entries_total, before_last, front_rises, has_reversed, reversed_rises, same_bytes, term_with}
 use Rattle.std.proofs.lemmas.List.{append_assoc, append-nil, reverse-append, take_more}
-use Rattle.std.proofs.lemmas.List.Elements.{filter-append}
-use Rattle.std.proofs.lemmas.List.Sums.{sum_by-append, sum_by-cons}
 use Rattle.std.specs.List.Sorted.{IsStrictlySortedBy}
-use Rattle.std.specs.Ordering.{is_eq}
-use Rattle.std.specs.Prelude.{IsUtf8}
-use Rattle.zeb_register.proofs.LeafReadings.{entries_total}
 use Rattle.zeb_leaves.proofs.SpanLists.{is_of, its, its_has}
-use Rattle.zeb_leaves.specs.PrivateTermReads.{CountAll, CountsIn}
-use Rattle.zeb_register.proofs.CountLemmas.{term_total}
-use Rattle.zeb_register.proofs.RisingLists.{before_last, front_rises, has_reversed, reversed_rises}
-use Rattle.zeb_register.proofs.RowLemmas.{same_bytes}
-use Rattle.zeb_register.specs.PrivateRowTerms.{term_with}
 
 -- ---- lists
 

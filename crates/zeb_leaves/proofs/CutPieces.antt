@@ -1,20 +1,11 @@
 -- The changes of a key in pieces, and the pieces of a run.
-use Rattle.zeb_leaves.proofs.Cited.{Has, all_from, all_has, has_either, has_left, has_right, ◌≡◌, ◌≢◌, ◌∙◌, ◌/◌, ◌+◌, ◌<◌, ◌≤◌, ◌++◌, ◌∷◌, ℕ, zero, suc, List, [], length, length-append, drop, map, refl, sym, ap, subst, inl, inr, arith, Less, Equal, nat_cmp, nat_cmp_total, tied_itself, AllByRecursion, IsTotalOrder, on_total, then_total, ordering_then, Key, less_is}
-use Rattle.std.proofs.Common.{take, get_or}
+use Rattle.zeb_leaves.proofs.Cited.{Has, all_from, all_has, has_either, has_left, has_right, ◌≡◌, ◌≢◌, ◌∙◌, ◌/◌, ◌+◌, ◌<◌, ◌≤◌, ◌++◌, ◌∷◌, ℕ, zero, suc, List, [], length, length-append, drop, map, refl, sym, ap, subst, inl, inr, arith, Less, Equal, nat_cmp, nat_cmp_total, tied_itself, AllByRecursion, IsTotalOrder, on_total, then_total, ordering_then, Key, less_is, take, get_or, key_total, ArePieces, ArePiecesOf, BeginsElsewhere, IsFront, IsPiece, PartsRun, PutsPieces, all_changes, block_of, piece_cmp, joined_rises, IsInBlock, KeysRise, run_key, IsStorableChange, NumbersRise, KeyChanges, RecordChange}
 use Rattle.std.proofs.Math.Seq.{drop-append_seam, take-append_seam}
 use Rattle.std.proofs.lemmas.List.{append-nil, drop-drop, drop_more, length-drop, take-append-drop}
 use Rattle.std.proofs.lemmas.List.Sorted.{IsNonDecreasingBy-drop, IsNonDecreasingBy-take}
 use Rattle.std.specs.List.Sorted.{IsStrictlySortedBy}
-use Rattle.zeb_keys.proofs.Rising.{key_total}
 use Rattle.zeb_keys.specs.Order.{key_order}
 use Rattle.zeb_leaf.proofs.Members.{all_back}
-use Rattle.zeb_register.proofs.RisingLists.{joined_rises}
-use Rattle.zeb_register.specs.PrivatePackedRows.{IsInBlock}
-use Rattle.zeb_register.specs.RunChanges.{KeysRise, run_key}
-use Rattle.zeb_register.specs.UnitChanges.{IsStorableChange, NumbersRise}
-use Rattle.zeb_register.specs.declared.registers.KeyChanges.{KeyChanges}
-use Rattle.zeb_register.specs.declared.registers.RecordChange.{RecordChange}
-use Rattle.zeb_leaves.specs.PrivatePieces.{ArePieces, ArePiecesOf, BeginsElsewhere, IsFront, IsPiece, PartsRun, PutsPieces, all_changes, block_of, piece_cmp}
 
 -- ---- numbers that don't fall
 

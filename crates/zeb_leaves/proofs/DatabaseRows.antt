@@ -1,11 +1,8 @@
 -- The rows of `blocks` of a database, in their order: those of one register stand beside each other, and rise by their own keys.
-use Rattle.zeb_leaves.proofs.Cited.{Row, column, row_cmp, Int, Blob, ◌≡◌, ◌≢◌, ◌⊎◌, ◌∙◌, ◌<◌, ◌∷◌, ℕ, pos, List, [], refl, sym, ap, ap₂, subst, inl, inr, arith, Ordering, Less, Equal, Greater, nat_cmp, slice_cmp, ordering_then, value_cmp-Int, value_cmp-Text, nat_cmp_total, numbers_apart, told_by, is_less, Key, register_code, key_in, Entry, ShowsEntries, ints_order, nat_tests}
+use Rattle.zeb_leaves.proofs.Cited.{Row, column, row_cmp, Int, Blob, ◌≡◌, ◌≢◌, ◌⊎◌, ◌∙◌, ◌<◌, ◌∷◌, ℕ, pos, List, [], refl, sym, ap, ap₂, subst, inl, inr, arith, Ordering, Less, Equal, Greater, nat_cmp, slice_cmp, ordering_then, value_cmp-Int, value_cmp-Text, nat_cmp_total, numbers_apart, told_by, is_less, Key, register_code, key_in, Entry, ShowsEntries, ints_order, nat_tests, IsBeside, Leaf, ShowsLeaf, leaf_shown, own_of, rest_shown, one_shown, same_rest}
 use Rattle.zeb_leaves.proofs.SpanRuns.{rows_up}
-use Rattle.zeb_leaves.specs.PrivateAgreeing.{IsBeside, Leaf, ShowsLeaf, leaf_shown, own_of, rest_shown}
 use Rattle.zeb_register.proofs.ContentLemmas.{same_key}
 use Rattle.zeb_register.proofs.KeyOrder.{key_order}
-use Rattle.zeb_register.proofs.LeafReadings.{one_shown}
-use Rattle.zeb_register.proofs.PackedBeside.{same_rest}
 
 -- ---- how two rows lie
 

@@ -1,17 +1,12 @@
 -- In a store each key of leaves has a number of records or is miscounted: none is neither. The proof refutes that one is neither.
-use Rattle.zeb_leaves.proofs.Cited.{Row, column, row_cmp, Int, Has, has_either, has_left, has_right, ◌≡◌, ◌↔◌, ◌∙◌, ◌<◌, ◌≤◌, ◌+◌, ◌++◌, ◌∷◌, ℕ, ℤ, zero, suc, pos, List, [], filter, refl, sym, ap, subst, inl, inr, arith, nat_cmp, nat_eq, slice_cmp, ordering_then, less_is, sum_by, kept_rises, joined_rises, Entry, Key, State, IsStore, AreLeavesMiscounted, Covers, HasEntriesAt, IsEntryOf, IsLeafOf, LacksSum, LeavesCount, SumsRecords, blocks_tree, entry_cmp, leaf_key, own_key, register_front}
-use Rattle.sqlite_rules.proofs.ListLemmas.{has_filtered, has_kept}
-use Rattle.std.proofs.Common.{◌^◌}
+use Rattle.zeb_leaves.proofs.Cited.{Row, column, row_cmp, Int, Has, has_either, has_left, has_right, ◌≡◌, ◌↔◌, ◌∙◌, ◌<◌, ◌≤◌, ◌+◌, ◌++◌, ◌∷◌, ℕ, ℤ, zero, suc, pos, List, [], filter, refl, sym, ap, subst, inl, inr, arith, nat_cmp, nat_eq, slice_cmp, ordering_then, less_is, sum_by, kept_rises, joined_rises, Entry, Key, State, IsStore, AreLeavesMiscounted, Covers, HasEntriesAt, IsEntryOf, IsLeafOf, LacksSum, LeavesCount, SumsRecords, blocks_tree, entry_cmp, leaf_key, own_key, register_front, has_filtered, has_kept, ◌^◌, leaf_shape, entries_total, one_shown, entry_below, leaf_there, shown_rises}
 use Rattle.std.proofs.lemmas.Bool.{cases_lt, eq-eqb, eqb-true}
 use Rattle.std.specs.List.Sorted.{IsStrictlySortedBy}
-use Rattle.zeb_leaf_rows.proofs.CoveringLeaves.{leaf_shape}
 use Rattle.zeb_leaves.proofs.OneCover.{entries_at}
 use Rattle.zeb_leaves.proofs.OneLeaf.{one_leaf}
 use Rattle.zeb_leaves.proofs.SpanLists.{is_of, its, its_has}
 use Rattle.zeb_leaves.proofs.TermEntries.{HasOwn, own_summed, shown_entry}
 use Rattle.zeb_register.proofs.KeyOrder.{key_order}
-use Rattle.zeb_register.proofs.LeafReadings.{entries_total, one_shown}
-use Rattle.zeb_register.proofs.LeafSums.{entry_below, leaf_there, shown_rises}
 use Rattle.zeb_register.proofs.TermRows.{natural_of}
 
 none_rise : IsStrictlySortedBy entry_cmp []

@@ -1,22 +1,8 @@
 -- What is expected of whole tables, in leaves.
-use Rattle.zeb_leaves.proofs.Cited.{Row, State, Trees, Int, Blob, Has, ◌≡◌, ◌⊎◌, ◌∙◌, ◌∷◌, ℕ, ℤ, pos, List, [], drop, refl, sym, ap, subst, inl, inr, integers_apart, told_by, Posting, Key, HasRow, HoldsLeaves, IsLeafOf, IsRest, IsStore, PartReads, Content, blocks_tree, part_in}
-use Rattle.std.specs.Cmp.{int_cmp_total}
-use Rattle.std.specs.Prelude.{string_bytes}
-use Rattle.zeb_leaves.specs.PrivateAgreeing.{HoldsPostings, LeavesAgree, rest_shown}
+use Rattle.zeb_leaves.proofs.Cited.{Row, State, Trees, Int, Blob, Has, ◌≡◌, ◌⊎◌, ◌∙◌, ◌∷◌, ℕ, ℤ, pos, List, [], drop, refl, sym, ap, subst, inl, inr, integers_apart, told_by, Posting, Key, HasRow, HoldsLeaves, IsLeafOf, IsRest, IsStore, PartReads, Content, blocks_tree, part_in, int_cmp_total, string_bytes, HoldsPostings, LeavesAgree, rest_shown, content, content_at, content_there, content_up, posted_as, put_together, there_is, there_of, owner_row, blocks, blocks_static, IsThere, ListsAgree, AreExpected, IsOrdered, packed_leaves, list_under, HasDatabase, ListedDatabase, ExpectedDatabase, KeyPosting}
 use Rattle.zeb_register.proofs.AgreeingRows.{same_row}
-use Rattle.zeb_register.proofs.AgreeingTables.{content, content_at, content_there, content_up, posted_as, put_together, there_is, there_of}
-use Rattle.zeb_register.proofs.ExpectedStatements.{owner_row}
-use Rattle.zeb_register.proofs.PostingStatements.{blocks, blocks_static}
-use Rattle.zeb_register.specs.Agreeing.{IsThere, ListsAgree}
 use Rattle.zeb_register.specs.Catalog.{AreDatabases}
-use Rattle.zeb_register.specs.Expected.{AreExpected, IsOrdered}
-use Rattle.zeb_register.specs.Formats.{packed_leaves}
-use Rattle.zeb_register.specs.PrivateRowExpected.{list_under}
-use Rattle.zeb_register.specs.Store.{HasDatabase}
-use Rattle.zeb_register.specs.declared.catalog.ListedDatabase.{ListedDatabase}
 use Rattle.zeb_register.specs.declared.expected.Expected.{Expected}
-use Rattle.zeb_register.specs.declared.expected.ExpectedDatabase.{ExpectedDatabase}
-use Rattle.zeb_register.specs.declared.expected.KeyPosting.{KeyPosting}
 
 none_listed : (list : List Posting) → ((p : Posting) → ¬ Has list p) → list ≡ []
 none_listed [] none = refl

@@ -1,20 +1,12 @@
 -- The order of entries, of terms and of leaves in which the greatest come first, and keys below a text.
-use Rattle.zeb_leaves.proofs.Cited.{Row, row_cmp, row_cmp_total, Has, ◌≡◌, ◌≢◌, ◌∙◌, ◌<◌, ◌≤◌, ◌++◌, ℕ, List, [], length, sym, ap, subst, inl, inr, arith, Ordering, Less, Equal, Greater, nat_cmp, ordering_then, never_itself, nat_list_cmp_total, Entry, TermCount, tied_itself, less_is, entry_cmp, leaf_key, own_key, IsTotalOrder, on_total}
-use Rattle.std.proofs.Common.{reverse}
-use Rattle.std.proofs.lemmas.List.{length-reverse}
+use Rattle.zeb_leaves.proofs.Cited.{Row, row_cmp, row_cmp_total, Has, ◌≡◌, ◌≢◌, ◌∙◌, ◌<◌, ◌≤◌, ◌++◌, ℕ, List, [], length, sym, ap, subst, inl, inr, arith, Ordering, Less, Equal, Greater, nat_cmp, ordering_then, never_itself, nat_list_cmp_total, Entry, TermCount, tied_itself, less_is, entry_cmp, leaf_key, own_key, IsTotalOrder, on_total, reverse, length-reverse, comes_not, comes_or, term_total, entries_total, flipped_total, front_rises, has_reversed, no_longer, reversed_rises, same_bytes, term_cmp, Comes}
 use Rattle.std.specs.List.Sorted.{IsStrictlySortedBy}
 use Rattle.zeb_leaves.proofs.CountedTerms.{falling, of_term}
 use Rattle.zeb_leaves.proofs.FirstTerms.{key_less, less_key}
 use Rattle.zeb_leaves.proofs.OneCover.{same_key}
 use Rattle.zeb_leaves.proofs.SpanRuns.{below_or, flipped_back, from_term}
 use Rattle.zeb_leaves.proofs.TermsTold.{from_least}
-use Rattle.zeb_register.proofs.CountLemmas.{comes_not, comes_or, term_total}
 use Rattle.zeb_register.proofs.KeyOrder.{key_order}
-use Rattle.zeb_register.proofs.LeafReadings.{entries_total}
-use Rattle.zeb_register.proofs.RisingLists.{flipped_total, front_rises, has_reversed, no_longer, reversed_rises}
-use Rattle.zeb_register.proofs.RowLemmas.{same_bytes}
-use Rattle.zeb_register.specs.Occurring.{term_cmp}
-use Rattle.zeb_register.specs.Terms.{Comes}
 
 -- ---- the other way round
 

@@ -1,28 +1,11 @@
 -- A statement that lists leaves, the greatest first: the rows that it lists.
-use Rattle.zeb_leaves.proofs.Cited.{Row, column, row_cmp, row_cmp_total, Has, all_has, ◌≡◌, ◌∙◌, ◌++◌, ◌∷◌, ℕ, ℤ, true, List, [], refl, sym, ap, subst, Ordering, Less, Equal, Greater, ordering_then, ordering_reverse, IsStore, State, Shown, store_schema}
-use Rattle.std.proofs.Common.{reverse}
-use Rattle.std.proofs.lemmas.List.{reverse-reverse}
-use Rattle.std.specs.List.{list_any}
+use Rattle.zeb_leaves.proofs.Cited.{Row, column, row_cmp, row_cmp_total, Has, all_has, ◌≡◌, ◌∙◌, ◌++◌, ◌∷◌, ℕ, ℤ, true, List, [], refl, sym, ap, subst, Ordering, Less, Equal, Greater, ordering_then, ordering_reverse, IsStore, State, Shown, store_schema, IsDatabase, value_cmp, Term, eval, value_cmp_total, reverse, reverse-reverse, list_any, falling_keys, known, leaf_names, leaf_places, term_order, two_lower, blocks, blocks_keys, blocks_static, register_of, IsAfter, after_key, IsQuery, has_reversed, reversed_rises, covered_some, ordering_tied, shares_alone, all_shown, reads, shows_each, shows_sorted, shown_places, Condition, alone, keyed_from, ordering, passes, reading_by, shows, IsListOf}
 use Rattle.sqlite.specs.Command.TheVariants.{Select}
-use Rattle.sqlite.specs.Effect.{IsDatabase}
-use Rattle.sqlite.specs.Order.{value_cmp}
 use Rattle.sqlite.specs.Query.{as_count, limited}
-use Rattle.sqlite.specs.Term.{Term, eval}
 use Rattle.sqlite.proofs.Callers.{reads_as}
-use Rattle.sqlite_value.proofs.OrderLemmas.{value_cmp_total}
-use Rattle.zeb_leaf_rows.proofs.LeafStatements.{falling_keys, known, leaf_names, leaf_places, term_order, two_lower}
 use Rattle.zeb_register.proofs.Cited.{has_got}
-use Rattle.zeb_register.proofs.PostingStatements.{blocks, blocks_keys, blocks_static, register_of}
-use Rattle.zeb_register.proofs.PrefixSelects.{IsAfter, after_key}
-use Rattle.zeb_register.proofs.Refusals.{IsQuery}
-use Rattle.zeb_register.proofs.RisingLists.{has_reversed, reversed_rises}
-use Rattle.zeb_register.proofs.RowLemmas.{covered_some, ordering_tied, shares_alone}
-use Rattle.zeb_register.proofs.Scans.{all_shown, reads, shows_each, shows_sorted}
-use Rattle.zeb_register.proofs.Selects.{shown_places}
-use Rattle.zeb_register.proofs.StatementForms.{Condition, alone, keyed_from, ordering, passes, reading_by, shows}
 use Rattle.zeb_register.proofs.ValueKinds.{are_fit, codes_of, covers}
 use Rattle.zeb_register.proofs.Writes.{codes_there, keyed_there, meets_there}
-use Rattle.zeb_register.specs.Sql.{IsListOf}
 
 -- the columns of a row of `blocks` that no other has
 abbrev leaf_keys : List (List ℕ)

@@ -1,9 +1,7 @@
 -- The first terms from a text on, counted leaf by leaf until there are enough: what a call tells of them, or by which it is refused.
-use Rattle.zeb_leaves.proofs.Cited.{Row, row_cmp, row_cmp_total, Has, has_right, Trees, ◌≡◌, ◌≢◌, ◌↔◌, ◌⊎◌, ◌∙◌, ◌<◌, ◌≤◌, ◌++◌, ◌∷◌, ℕ, true, false, List, [], Some, None, length, refl, sym, ap, subst, inl, inr, arith, Ordering, Less, Equal, Greater, nat_cmp, slice_cmp, ordering_then, never_itself, nat_list_cmp_total, Entry, TermCount, entry_cmp, IsEntryOf, LacksEntriesAt, leaf_key, own_key}
-use Rattle.std.proofs.Common.{Bool}
+use Rattle.zeb_leaves.proofs.Cited.{Row, row_cmp, row_cmp_total, Has, has_right, Trees, ◌≡◌, ◌≢◌, ◌↔◌, ◌⊎◌, ◌∙◌, ◌<◌, ◌≤◌, ◌++◌, ◌∷◌, ℕ, true, false, List, [], Some, None, length, refl, sym, ap, subst, inl, inr, arith, Ordering, Less, Equal, Greater, nat_cmp, slice_cmp, ordering_then, never_itself, nat_list_cmp_total, Entry, TermCount, entry_cmp, IsEntryOf, LacksEntriesAt, leaf_key, own_key, Bool, leaf_row, AreEnough, CountRows, CountUntil, HideRows, MeetNoText, AreLeavesFrom, ShowsOwn, comes_not, term_total, entries_total, front_rises, never_back, no_longer, same_bytes, packed_leaves, term_cmp, Comes, HidesCount, HidesFrom, ListsFrom, RegisterOf}
 use Rattle.std.specs.List.Sorted.{IsStrictlySortedBy}
 use Rattle.zeb_leaves.proofs.CountedTerms.{Counted, lower_term, none_counted}
-use Rattle.zeb_leaf_rows.proofs.LeafShapes.{leaf_row}
 use Rattle.zeb_leaves.proofs.NearLists.{in_front, none_enough}
 use Rattle.zeb_leaves.proofs.NearTerms.{IsDone, Leaves, enough_listed, hidden_next, listed, until_hides, until_told}
 use Rattle.zeb_leaves.proofs.OneCover.{up_to_then}
@@ -11,17 +9,7 @@ use Rattle.zeb_leaves.proofs.OwnLeaves.{FromKey, FromText, Stands, UpTo, all_own
 use Rattle.zeb_leaves.proofs.SpanEntries.{HasOwnIn, own_joined}
 use Rattle.zeb_leaves.proofs.SpanRuns.{below_or, flipped_back, from_term, less_up, term_from, up_itself}
 use Rattle.zeb_leaves.proofs.TermsTold.{lacks_hides}
-use Rattle.zeb_leaves.specs.PrivateNearTerms.{AreEnough, CountRows, CountUntil, HideRows, MeetNoText}
-use Rattle.zeb_leaves.specs.PrivateTermReads.{AreLeavesFrom, ShowsOwn}
-use Rattle.zeb_register.proofs.CountLemmas.{comes_not, term_total}
 use Rattle.zeb_register.proofs.KeyOrder.{key_order}
-use Rattle.zeb_register.proofs.LeafReadings.{entries_total}
-use Rattle.zeb_register.proofs.RisingLists.{front_rises, never_back, no_longer}
-use Rattle.zeb_register.proofs.RowLemmas.{same_bytes}
-use Rattle.zeb_register.specs.Formats.{packed_leaves}
-use Rattle.zeb_register.specs.Occurring.{term_cmp}
-use Rattle.zeb_register.specs.Terms.{Comes, HidesCount, HidesFrom, ListsFrom}
-use Rattle.zeb_register.specs.declared.registers.RegisterOf.{RegisterOf}
 
 -- ---- keys and their terms
 

@@ -1,17 +1,8 @@
 -- The statement that lists the leaves from a text on, with what it is compiled to.
-use Rattle.zeb_leaves.proofs.Cited.{Row, column, Trees, Int, Text, ◌≡◌, ◌++◌, ◌∷◌, ℕ, ℤ, pos, true, false, List, [], refl, sym, subst, arith, HasBlockFrom, IsRest, IsStore, State, Shown, blocks_tree, store_schema}
-use Rattle.std.specs.Ordering.{is_lt}
+use Rattle.zeb_leaves.proofs.Cited.{Row, column, Trees, Int, Text, ◌≡◌, ◌++◌, ◌∷◌, ℕ, ℤ, pos, true, false, List, [], refl, sym, subst, arith, HasBlockFrom, IsRest, IsStore, State, Shown, blocks_tree, store_schema, value_cmp, is_lt, leaf_names, leaf_places, term_order, two_lower, blocks, blocks_keys, blocks_static, register_of, IsAfter, lists_after, IsQuery, list_so, Condition, at_least, keyed_from, no_limit, rising, shows, IsListOf}
 use Rattle.sqlite.specs.Listing.{understood}
-use Rattle.sqlite.specs.Order.{value_cmp}
 use Rattle.sqlite_tied.specs.Compute.{everything}
 use Rattle.zeb_leaves.specs.declared.rows_from.TheConstants.{FROM}
-use Rattle.zeb_leaf_rows.proofs.LeafStatements.{leaf_names, leaf_places, term_order, two_lower}
-use Rattle.zeb_register.proofs.PostingStatements.{blocks, blocks_keys, blocks_static, register_of}
-use Rattle.zeb_register.proofs.PrefixSelects.{IsAfter, lists_after}
-use Rattle.zeb_register.proofs.Refusals.{IsQuery}
-use Rattle.zeb_register.proofs.Selects.{list_so}
-use Rattle.zeb_register.proofs.StatementForms.{Condition, at_least, keyed_from, no_limit, rising, shows}
-use Rattle.zeb_register.specs.Sql.{IsListOf}
 
 abbrev pub from_text : List ℕ
 from_text = FROM.now

@@ -1,18 +1,8 @@
 -- The pieces at the front of all: so many as one leaf covers, or as begin a register.
-use Rattle.zeb_leaves.proofs.Cited.{Row, State, Has, ◌≡◌, ◌≢◌, ◌∙◌, ◌+◌, ◌≤◌, ◌∷◌, ℕ, ℤ, suc, List, [], Some, None, Option, length, drop, refl, sym, ap, subst, inl, inr, Less, Greater, arith, AllByRecursion, all_has, Trees, Entry, Covers, IsLeafIn, IsNextBehind, IsPartMalformed, IsStore, IsUncovered, Key, blocks_tree, key_in, leaf_key, own_key}
-use Rattle.std.proofs.Common.{◌-◌, true, false, get_or, take}
-use Rattle.std.proofs.lemmas.List.{take-append-drop, take_rest}
+use Rattle.zeb_leaves.proofs.Cited.{Row, State, Has, ◌≡◌, ◌≢◌, ◌∙◌, ◌+◌, ◌≤◌, ◌∷◌, ℕ, ℤ, suc, List, [], Some, None, Option, length, drop, refl, sym, ap, subst, inl, inr, Less, Greater, arith, AllByRecursion, all_has, Trees, Entry, Covers, IsLeafIn, IsNextBehind, IsPartMalformed, IsStore, IsUncovered, Key, blocks_tree, key_in, leaf_key, own_key, ◌-◌, true, false, get_or, take, take-append-drop, take_rest, AreMerged, key_cmp, BlockChange, IfToldPutsEntries, IsEndAt, ArePieces, LackTurn, TurnAllEntries, block_of, piece_cmp, ArePiecesIn, EndsLeaf, IsCovered, ShowsKey, ShowsNone, End, ShowsOwn, packed_leaves, LacksLeave, PutsKeys, Changes, KeyChanges, RegisterOf}
 use Rattle.std.specs.List.Sorted.{IsStrictlySortedBy}
-use Rattle.zeb_leaf.specs.Merging.{AreMerged}
-use Rattle.zeb_leaf.specs.Spans.{key_cmp}
-use Rattle.zeb_leaf.specs.declared.merging.BlockChange.{BlockChange}
 use Rattle.zeb_register.proofs.KeyOrder.{key_order}
 use Rattle.zeb_register.proofs.TermLists.{has_taken}
-use Rattle.zeb_register.specs.Formats.{packed_leaves}
-use Rattle.zeb_register.specs.RunChanges.{LacksLeave, PutsKeys}
-use Rattle.zeb_register.specs.Store.{Changes}
-use Rattle.zeb_register.specs.declared.registers.KeyChanges.{KeyChanges}
-use Rattle.zeb_register.specs.declared.registers.RegisterOf.{RegisterOf}
 use Rattle.zeb_leaves.proofs.OneCover.{up_to_then}
 use Rattle.zeb_leaves.proofs.OwnLeaves.{Within}
 use Rattle.zeb_leaves.proofs.OwnedEntries.{covered_range, owns_shown}
@@ -22,11 +12,6 @@ use Rattle.zeb_leaves.proofs.PiecesOfRuns.{front_pieces}
 use Rattle.zeb_leaves.proofs.PiecesPut.{first_pieces_lack, leaf_pieces_lack, malformed_lacks}
 use Rattle.zeb_leaves.proofs.PiecesWritten.{first_written, leaf_written, store_distinct}
 use Rattle.zeb_leaves.proofs.SpanRuns.{below_or, up_not_less}
-use Rattle.zeb_leaves.specs.PrivateLeafWrites.{IfToldPutsEntries, IsEndAt}
-use Rattle.zeb_leaves.specs.PrivatePieces.{ArePieces, LackTurn, TurnAllEntries, block_of, piece_cmp}
-use Rattle.zeb_leaves.specs.PrivatePutPieces.{ArePiecesIn, EndsLeaf, IsCovered}
-use Rattle.zeb_leaves.specs.PrivateSpans.{ShowsKey, ShowsNone}
-use Rattle.zeb_leaves.specs.PrivateTermReads.{End, ShowsOwn}
 use Rattle.zeb_leaves.specs.PrivateTurning.{CoversFirst, IsBelow, IsTextOf}
 
 -- ---- where what a leaf covers ends

@@ -1,16 +1,9 @@
 -- The postings that the entries of leaves are to say, one behind the other, and their order.
-use Rattle.zeb_leaves.proofs.Cited.{Has, all_has, has_either, has_left, has_right, has_mapped, mapped_has, ◌≡◌, ◌⊎◌, ◌∙◌, ◌<◌, ◌/◌, ◌++◌, ◌∷◌, ℕ, List, [], map, refl, sym, ap, ap₂, subst, inl, inr, arith, nat_tests, nat_eq, Ordering, Less, Equal, Greater, nat_cmp, slice_cmp, ordering_then, tied_itself, is_less, less_is, joined_rises, kept_rises, Posting, posting_cmp, posting_total, in_part, part_in, part_in_block, part_in_list, Key, register_code, Entry, entry_cmp, SaysPart}
+use Rattle.zeb_leaves.proofs.Cited.{Has, all_has, has_either, has_left, has_right, has_mapped, mapped_has, ◌≡◌, ◌⊎◌, ◌∙◌, ◌<◌, ◌/◌, ◌++◌, ◌∷◌, ℕ, List, [], map, refl, sym, ap, ap₂, subst, inl, inr, arith, nat_tests, nat_eq, Ordering, Less, Equal, Greater, nat_cmp, slice_cmp, ordering_then, tied_itself, is_less, less_is, joined_rises, kept_rises, Posting, posting_cmp, posting_total, in_part, part_in, part_in_block, part_in_list, Key, register_code, Entry, entry_cmp, SaysPart, key_total, IsBeside, TakeEntries, key_of, key_posting_total, under_has, under_rises, strictly_mapped, key_posting_order, list_under, with_key, KeyPosting}
 use Rattle.std.proofs.lemmas.List.{append_assoc}
 use Rattle.std.specs.List.Sorted.{IsStrictlySortedBy}
-use Rattle.zeb_keys.proofs.Rising.{key_total}
 use Rattle.zeb_keys.specs.Order.{key_order}
 use Rattle.zeb_leaves.proofs.DatabaseRows.{IsBelow}
-use Rattle.zeb_leaves.specs.PrivateAgreeing.{IsBeside, TakeEntries, key_of}
-use Rattle.zeb_register.proofs.AgreeingTables.{key_posting_total, under_has, under_rises}
-use Rattle.zeb_register.proofs.Scans.{strictly_mapped}
-use Rattle.zeb_register.specs.Expected.{key_posting_order}
-use Rattle.zeb_register.specs.PrivateRowExpected.{list_under, with_key}
-use Rattle.zeb_register.specs.declared.expected.KeyPosting.{KeyPosting}
 
 -- ---- the order of postings, by their entries
 

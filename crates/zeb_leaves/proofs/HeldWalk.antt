@@ -1,20 +1,12 @@
 -- The leaves of a database that hold postings and nothing else take these in a walk over their rows.
-use Rattle.zeb_leaves.proofs.Cited.{Row, column, row_cmp, row_cmp_total, Int, Text, Has, all_has, has_either, has_left, has_right, ◌≡◌, ◌≢◌, ◌⊎◌, ◌∙◌, ◌≤◌, ◌/◌, ◌++◌, ◌∷◌, ℕ, zero, suc, pos, List, [], Option, Some, None, length, drop, refl, sym, ap, ap₂, subst, inl, inr, arith, Less, Greater, never_itself, same_list, joined_rises, in_part, not_empty, part_in, key_in, register_code, Entry, Covers, SaysPart, ShowsEntries, leaf_bytes, leaf_key, own_key}
+use Rattle.zeb_leaves.proofs.Cited.{Row, column, row_cmp, row_cmp_total, Int, Text, Has, all_has, has_either, has_left, has_right, ◌≡◌, ◌≢◌, ◌⊎◌, ◌∙◌, ◌≤◌, ◌/◌, ◌++◌, ◌∷◌, ℕ, zero, suc, pos, List, [], Option, Some, None, length, drop, refl, sym, ap, ap₂, subst, inl, inr, arith, Less, Greater, never_itself, same_list, joined_rises, in_part, not_empty, part_in, key_in, register_code, Entry, Covers, SaysPart, ShowsEntries, leaf_bytes, leaf_key, own_key, LEAF_BYTES, key_posting_total, under_has, one_shown, shown_rises, key_posting_order, list_under, IsListOf, KeyPosting}
 use Rattle.std.specs.List.Sorted.{IsStrictlySortedBy}
-use Rattle.zeb_leaf.specs.declared.entries.TheConstants.{LEAF_BYTES}
 use Rattle.zeb_leaves.proofs.DatabaseRows.{beside_told, front_of, leaves_between, leaves_up, one_leaf_shown, rows_lie, shown_beside}
 use Rattle.zeb_leaves.proofs.GatheredPostings.{IsOf, leaf_from, leaf_has, leaf_part, leaf_rises, leaf_takes, part_of, postings_lower}
 use Rattle.zeb_leaves.proofs.OneCover.{same_key}
 use Rattle.zeb_leaves.proofs.SpanRuns.{below_or, less_up}
 use Rattle.zeb_leaves.specs.PrivateAgreeing.{AreWalked, Follows, HaveOwnKeys, HoldsPostings, IsBeside, IsFirst, Leaf, LeavesIn, ShowsLeaf, entry_key, key_of, leaf_shown, own_of, rest_shown}
-use Rattle.zeb_register.proofs.AgreeingTables.{key_posting_total, under_has}
 use Rattle.zeb_register.proofs.KeyOrder.{greater_is, key_order}
-use Rattle.zeb_register.proofs.LeafReadings.{one_shown}
-use Rattle.zeb_register.proofs.LeafSums.{shown_rises}
-use Rattle.zeb_register.specs.Expected.{key_posting_order}
-use Rattle.zeb_register.specs.PrivateRowExpected.{list_under}
-use Rattle.zeb_register.specs.Sql.{IsListOf}
-use Rattle.zeb_register.specs.declared.expected.KeyPosting.{KeyPosting}
 
 -- no key is below the least one
 least : (term : List ℕ) (block : ℕ) → row_cmp (leaf_key term block) (leaf_key [] 0) ≢ Greater → (term ≡ []) × (block ≡ 0)

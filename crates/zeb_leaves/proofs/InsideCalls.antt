@@ -1,12 +1,6 @@
 -- Calls that look for a leaf inside a transaction, one after the other.
-use Rattle.zeb_leaves.proofs.Cited.{Row, Trees, State, Shown, HasCleanDisk, ◌≡◌, ◌⊎◌, ◌∙◌, ◌∷◌, ℕ, List, [], Ok, Err, Result, Some, None, Option, arith, IsLastOf, IsStore, ShowsLast, ShowsSome, TellsSome}
-use Rattle.sqlite.specs.State.{FailsToQuery, IsTooLate, Survives}
+use Rattle.zeb_leaves.proofs.Cited.{Row, Trees, State, Shown, HasCleanDisk, ◌≡◌, ◌⊎◌, ◌∙◌, ◌∷◌, ℕ, List, [], Ok, Err, Result, Some, None, Option, arith, IsLastOf, IsStore, ShowsLast, ShowsSome, TellsSome, FailsToQuery, IsTooLate, Survives, never_last, goes_keeps, query_keeps, reads_goes, quiet_then, Inside, OnlyReads, TellsInside}
 use Rattle.sqlite.specs.declared.error.Error.{Error}
-use Rattle.zeb_leaf_rows.proofs.CoveringLeaves.{never_last}
-use Rattle.zeb_register.proofs.Calls.{goes_keeps, query_keeps, reads_goes}
-use Rattle.zeb_register.proofs.CallsInTurn.{quiet_then}
-use Rattle.zeb_register.specs.Calls.{Inside, OnlyReads}
-use Rattle.zeb_register.specs.Clauses.{TellsInside}
 use Rattle.zeb_register.specs.Queries.{IsSilent}
 
 -- ---- one query

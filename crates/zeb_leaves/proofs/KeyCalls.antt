@@ -1,13 +1,7 @@
 -- What calls that read a key answer, by the leaves that they found: the key's term is the first and the last of its neighbours.
-use Rattle.zeb_leaves.proofs.Cited.{Row, row_cmp, Has, ◌≡◌, ◌≢◌, ◌∙◌, ◌<◌, ◌+◌, ◌≤◌, ◌++◌, ◌∷◌, ℕ, ℤ, List, Ok, Err, Result, [], true, false, refl, sym, ap, subst, inl, inr, arith, Ordering, Less, Equal, Greater, nat_cmp, nat_list_cmp_total, slice_cmp, ordering_then, ordering_reverse, tied_itself, is_less, less_is, sum_by, Entry, Key, Posting, State, IsStore, Covers, HasMalformedLeaf, IsEntryOf, IsLeafOf, IsPartMalformed, IsUncovered, LacksSum, LeavesCount, LeavesReadBlock, SayPart, SaysPart, leaf_key, own_key}
-use Rattle.std.proofs.lemmas.Bool.{cases_lt}
-use Rattle.std.proofs.lemmas.List.Sums.{sum_by-cons}
-use Rattle.std.specs.Ordering.{is_lt}
-use Rattle.std.specs.Prelude.{Vec}
+use Rattle.zeb_leaves.proofs.Cited.{Row, row_cmp, Has, ◌≡◌, ◌≢◌, ◌∙◌, ◌<◌, ◌+◌, ◌≤◌, ◌++◌, ◌∷◌, ℕ, ℤ, List, Ok, Err, Result, [], true, false, refl, sym, ap, subst, inl, inr, arith, Ordering, Less, Equal, Greater, nat_cmp, nat_list_cmp_total, slice_cmp, ordering_then, ordering_reverse, tied_itself, is_less, less_is, sum_by, Entry, Key, Posting, State, IsStore, Covers, HasMalformedLeaf, IsEntryOf, IsLeafOf, IsPartMalformed, IsUncovered, LacksSum, LeavesCount, LeavesReadBlock, SayPart, SaysPart, leaf_key, own_key, cases_lt, sum_by-cons, is_lt, Vec, texts_apart, leaf_shape, SayAll, SaysBlock, SaysNoBlock, SomeSaysNone, AreSpanLeaves, ShowAllSpans, ShowsSpan, SomeShowsNoKey, Answers, IfRowDamaged, IsBetween, packed_leaves, ListsUnits}
 use Rattle.std.specs.declared.alloc.Global.{Global}
-use Rattle.zeb_keys.proofs.Rising.{texts_apart}
 use Rattle.zeb_leaf.specs.declared.entries.Held.{Held}
-use Rattle.zeb_leaf_rows.proofs.CoveringLeaves.{leaf_shape}
 use Rattle.zeb_register.proofs.KeyOrder.{greater_is, key_order}
 use Rattle.zeb_leaves.proofs.SaidLists.{block_said, list_of_parts}
 use Rattle.zeb_leaves.proofs.SpanEntries.{AreHeld, HeldIn, all_spans, in_leaf}
@@ -16,12 +10,6 @@ use Rattle.zeb_leaves.proofs.SpanRuns.{up_itself}
 use Rattle.zeb_leaves.proofs.TermEntries.{HasOwn, own_summed}
 use Rattle.zeb_leaves.proofs.OneLeaf.{one_leaf}
 use Rattle.zeb_leaves.proofs.OneCover.{covers_itself}
-use Rattle.zeb_register.specs.Units.{ListsUnits}
-use Rattle.zeb_register.specs.Formats.{packed_leaves}
-use Rattle.zeb_leaves.specs.PrivateSaid.{SayAll, SaysBlock, SaysNoBlock, SomeSaysNone}
-use Rattle.zeb_leaves.specs.PrivateSpans.{AreSpanLeaves, ShowAllSpans, ShowsSpan, SomeShowsNoKey}
-use Rattle.zeb_register.specs.Answers.{Answers, IfRowDamaged}
-use Rattle.zeb_register.specs.Between.{IsBetween}
 use Rattle.zeb_register.specs.declared.faults.RowFault.{RowFault}
 
 -- ---- one text from itself to itself

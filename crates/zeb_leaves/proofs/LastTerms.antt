@@ -1,15 +1,11 @@
 -- The last terms below a text, counted leaf by leaf from the nearest down until there are enough: what a call tells of them, or by which it
 -- is refused.
-use Rattle.zeb_leaves.proofs.Cited.{Row, row_cmp, row_cmp_total, Has, all_has, has_right, Trees, ◌≡◌, ◌≢◌, ◌↔◌, ◌⊎◌, ◌∙◌, ◌<◌, ◌≤◌, ◌++◌, ◌∷◌, ℕ, true, false, List, [], Some, length, refl, sym, ap, subst, inl, inr, arith, Less, Greater, nat_cmp, slice_cmp, never_itself, nat_list_cmp_total, Entry, TermCount, IsEntryOf, LacksEntriesAt, SumsRecords, ShowsEntries, Covers, IsUpTo, leaf_key, own_key}
-use Rattle.std.proofs.Common.{Bool, reverse}
-use Rattle.std.proofs.lemmas.Bool.{cases_lt}
+use Rattle.zeb_leaves.proofs.Cited.{Row, row_cmp, row_cmp_total, Has, all_has, has_right, Trees, ◌≡◌, ◌≢◌, ◌↔◌, ◌⊎◌, ◌∙◌, ◌<◌, ◌≤◌, ◌++◌, ◌∷◌, ℕ, true, false, List, [], Some, length, refl, sym, ap, subst, inl, inr, arith, Less, Greater, nat_cmp, slice_cmp, never_itself, nat_list_cmp_total, Entry, TermCount, IsEntryOf, LacksEntriesAt, SumsRecords, ShowsEntries, Covers, IsUpTo, leaf_key, own_key, Bool, reverse, cases_lt, is_lt, leaf_row, AreEnough, AreEnoughAt, CountBelow, CountUntil, HideBelow, MeetNoText, ShowsOwn, comes_not, comes_or, entries_total, lacks_sum, front_rises, has_reversed, reversed_rises, packed_leaves, Comes, HidesBefore, HidesCount, ListsBefore, RegisterOf}
 use Rattle.std.proofs.lemmas.List.{append-nil, length-reverse, reverse-append, reverse-reverse}
 use Rattle.std.specs.List.Sorted.{IsStrictlySortedBy}
-use Rattle.std.specs.Ordering.{is_lt}
 use Rattle.zeb_leaves.proofs.CountedTerms.{Counted, CountedBy, counted_turned, falling, lower_turned, none_counted}
 use Rattle.zeb_leaves.proofs.FallingKeys.{block_less, by_key, falling_apart, falling_total, falls, falls_total, fits_back, key_before, key_up, least_below, less_up_key}
 use Rattle.zeb_leaves.proofs.FirstTerms.{key_less, less_key}
-use Rattle.zeb_leaf_rows.proofs.LeafShapes.{leaf_row}
 use Rattle.zeb_leaves.proofs.NearLists.{few_others, in_front, none_enough}
 use Rattle.zeb_leaves.proofs.NearTerms.{IsDone, Leaves, counted_there, enough_listed, listed, until_hides, until_told}
 use Rattle.zeb_leaves.proofs.OneCover.{up_to_then}
@@ -17,15 +13,7 @@ use Rattle.zeb_leaves.proofs.OwnLeaves.{FromKey, in_own}
 use Rattle.zeb_leaves.proofs.SpanEntries.{HasOwnIn, own_joined}
 use Rattle.zeb_leaves.proofs.SpanRuns.{below_or, flipped_back, from_term, less_up, not_less_up, up_itself, up_less}
 use Rattle.zeb_leaves.proofs.TermsTold.{from_least, lacks_hides}
-use Rattle.zeb_leaves.specs.PrivateNearTerms.{AreEnough, AreEnoughAt, CountBelow, CountUntil, HideBelow, MeetNoText}
-use Rattle.zeb_leaves.specs.PrivateTermReads.{ShowsOwn}
-use Rattle.zeb_register.proofs.CountLemmas.{comes_not, comes_or}
 use Rattle.zeb_register.proofs.KeyOrder.{key_order}
-use Rattle.zeb_register.proofs.LeafReadings.{entries_total, lacks_sum}
-use Rattle.zeb_register.proofs.RisingLists.{front_rises, has_reversed, reversed_rises}
-use Rattle.zeb_register.specs.Formats.{packed_leaves}
-use Rattle.zeb_register.specs.Terms.{Comes, HidesBefore, HidesCount, ListsBefore}
-use Rattle.zeb_register.specs.declared.registers.RegisterOf.{RegisterOf}
 
 module _ (trees : Trees) (at : RegisterOf) (start : List ℕ) (n : ℕ) (one : 1 ≤ n) where
   abbrev These : Row → Type 0

@@ -1,13 +1,7 @@
 -- What a call that lists the last terms below a text answers, by the leaves that it found.
-use Rattle.zeb_leaves.proofs.Cited.{Row, column, row_cmp, Has, all_from, all_has, Text, ◌≡◌, ◌≢◌, ◌≤◌, ◌∙◌, ◌++◌, ℕ, true, false, nat_eq, List, [], ◌∷◌, length, Ok, Err, Option, Some, None, Result, refl, sym, ap, subst, inl, inr, arith, Less, nat_list_cmp_total, never_itself, value_cmp-Text, State, TermCount, IsLeafIn, IsStore, leaf_key, own_key}
-use Rattle.std.proofs.Common.{reverse}
-use Rattle.std.proofs.lemmas.Bool.{eqb-true}
+use Rattle.zeb_leaves.proofs.Cited.{Row, column, row_cmp, Has, all_from, all_has, Text, ◌≡◌, ◌≢◌, ◌≤◌, ◌∙◌, ◌++◌, ℕ, true, false, nat_eq, List, [], ◌∷◌, length, Ok, Err, Option, Some, None, Result, refl, sym, ap, subst, inl, inr, arith, Less, nat_list_cmp_total, never_itself, value_cmp-Text, State, TermCount, IsLeafIn, IsStore, leaf_key, own_key, Database, value_cmp, reverse, eqb-true, is_lt, IfSome, Vec, IsOfTermsBelow, HidesBeside, IsSide, ListsBeside, CountBelow, HideBelow, Below, flipped_total, has_reversed, reversed_rises, Answers, IfDamaged, IfRefused, MayRefuse, packed_leaves, IsListOf, Comes, ListsBefore, RegFault, Store, RegisterOf}
 use Rattle.std.specs.List.Sorted.{IsStrictlySortedBy}
-use Rattle.std.specs.Ordering.{is_lt}
-use Rattle.std.specs.Prelude.{IfSome, Vec}
 use Rattle.std.specs.declared.alloc.Global.{Global}
-use Rattle.sqlite.specs.Effect.{Database}
-use Rattle.sqlite.specs.Order.{value_cmp}
 use Rattle.zeb_leaf_rows.proofs.CoveringLeaves.{Leaves, below_is_lower, below_up, from_leaf, leaf_shape}
 use Rattle.zeb_leaves.proofs.FallingKeys.{by_key, key_before, keys_total}
 use Rattle.zeb_leaves.proofs.FirstTerms.{key_less}
@@ -15,19 +9,6 @@ use Rattle.zeb_leaves.proofs.LastTerms.{StandsBelow, last_hides, last_told, leaf
 use Rattle.zeb_leaves.proofs.OneLeaf.{one_leaf}
 use Rattle.zeb_leaves.proofs.OwnLeaves.{key_behind}
 use Rattle.zeb_leaves.proofs.TermsTold.{from_least}
-use Rattle.zeb_leaf_rows.specs.PrivateLeafRows.{IsOfTermsBelow}
-use Rattle.zeb_leaves.specs.PrivateNearCalls.{HidesBeside, IsSide, ListsBeside}
-use Rattle.zeb_leaves.specs.PrivateNearTerms.{CountBelow, HideBelow}
-use Rattle.zeb_leaves.specs.declared.near_terms.Side.TheVariants.{Below}
-use Rattle.zeb_register.proofs.RisingLists.{flipped_total, has_reversed, reversed_rises}
-use Rattle.zeb_register.specs.Answers.{Answers, IfDamaged, IfRefused}
-use Rattle.zeb_register.specs.Calls.{MayRefuse}
-use Rattle.zeb_register.specs.Formats.{packed_leaves}
-use Rattle.zeb_register.specs.Sql.{IsListOf}
-use Rattle.zeb_register.specs.Terms.{Comes, ListsBefore}
-use Rattle.zeb_register.specs.declared.faults.RegFault.{RegFault}
-use Rattle.zeb_register.specs.declared.faults.RegFault.TheVariants.{Store}
-use Rattle.zeb_register.specs.declared.registers.RegisterOf.{RegisterOf}
 
 pub none_before : (term : List ℕ) → ¬ Comes term []
 none_before term on = let e : true ≡ false = sym (ap is_lt on) ∙ from_least term in cc

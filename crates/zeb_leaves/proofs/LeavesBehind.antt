@@ -1,13 +1,7 @@
 -- Which leaf stands behind a key, by what the statements show.
-use Rattle.zeb_leaves.proofs.Cited.{Row, column, row_cmp, Int, Text, ◌≡◌, ◌≢◌, ◌∙◌, ◌⊎◌, ◌<◌, ◌+◌, ◌≤◌, ◌++◌, ◌∷◌, ℕ, ℤ, Some, None, Option, pos, true, false, List, [], refl, sym, ap, inl, inr, arith, Ordering, Less, Equal, Greater, nat_cmp, nat_list_cmp_total, slice_cmp, ordering_reverse, ordering_then, nat_tests, tied_itself, value_cmp-Text, IsNextBehind, IsUpTo, HasBlockFrom, IsLeast, leaf_key, own_key, IsRest, IsStore, State, blocks_tree, Register, register_front}
-use Rattle.std.proofs.lemmas.Bool.{cases_Bool, cases_lt}
-use Rattle.std.specs.Ordering.{is_lt}
-use Rattle.sqlite.specs.Order.{value_cmp}
-use Rattle.zeb_keys.proofs.Rising.{texts_apart}
-use Rattle.zeb_register.proofs.BetweenLemmas.{up_to}
+use Rattle.zeb_leaves.proofs.Cited.{Row, column, row_cmp, Int, Text, ◌≡◌, ◌≢◌, ◌∙◌, ◌⊎◌, ◌<◌, ◌+◌, ◌≤◌, ◌++◌, ◌∷◌, ℕ, ℤ, Some, None, Option, pos, true, false, List, [], refl, sym, ap, inl, inr, arith, Ordering, Less, Equal, Greater, nat_cmp, nat_list_cmp_total, slice_cmp, ordering_reverse, ordering_then, nat_tests, tied_itself, value_cmp-Text, IsNextBehind, IsUpTo, HasBlockFrom, IsLeast, leaf_key, own_key, IsRest, IsStore, State, blocks_tree, Register, register_front, value_cmp, cases_Bool, cases_lt, is_lt, texts_apart, leaf_row, up_to}
 use Rattle.zeb_register.proofs.KeyOrder.{greater_is, key_order}
 use Rattle.zeb_leaf_rows.proofs.CoveringLeaves.{Leaves, from_is, leaf_from, leaf_shape, shape_from}
-use Rattle.zeb_leaf_rows.proofs.LeafShapes.{leaf_row}
 use Rattle.zeb_leaves.proofs.OwnLeaves.{lt_less}
 
 -- ---- texts above another

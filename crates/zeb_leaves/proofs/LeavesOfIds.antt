@@ -1,22 +1,13 @@
 -- The leaves under each id, by the ids with which rows begin and by the list of the databases that are there.
-use Rattle.zeb_leaves.proofs.Cited.{Row, State, Trees, column, Int, Has, ◌≡◌, ◌⊎◌, ◌↔◌, ◌∙◌, ◌∷◌, ℤ, pos, Option, List, [], map, refl, sym, ap, subst, inl, inr, integers_apart, told_by, int_cmp_total, IsRest, IsStore, blocks_tree}
-use Rattle.std.proofs.Common.{Bool, ◌+ℤ◌}
+use Rattle.zeb_leaves.proofs.Cited.{Row, State, Trees, column, Int, Has, ◌≡◌, ◌⊎◌, ◌↔◌, ◌∙◌, ◌∷◌, ℤ, pos, Option, List, [], map, refl, sym, ap, subst, inl, inr, integers_apart, told_by, int_cmp_total, IsRest, IsStore, blocks_tree, Database, Bool, ◌+ℤ◌, EachHasLeaves, HasLeaves, IsEmptyBeside, LeavesAgree, OthersAreEmpty, owner_row, blocks, blocks_static, IsLeastFrom, IsListedId, IsThere, LacksPostingsAndDict, Owns, expected_name, listed_name, ListedDatabase, ExpectedDatabase, KeyPosting}
 use Rattle.std.specs.Bool.{IsTrue}
-use Rattle.sqlite.specs.Effect.{Database}
 use Rattle.sqlite_rules.proofs.ListLemmas.{has_got}
 use Rattle.std.specs.List.Sorted.{IsStrictlySortedBy}
 use Rattle.zeb_leaves.proofs.OwnKeys.{own_keys}
 use Rattle.zeb_leaves.proofs.WalkedHold.{walked_hold}
-use Rattle.zeb_leaves.specs.PrivateAgreeing.{EachHasLeaves, HasLeaves, IsEmptyBeside, LeavesAgree, OthersAreEmpty}
 use Rattle.zeb_register.proofs.ExpectedDatabases.{pair_there, there_pair}
-use Rattle.zeb_register.proofs.ExpectedStatements.{owner_row}
 use Rattle.zeb_register.proofs.ListsInStep.{got_alike, got_had}
-use Rattle.zeb_register.proofs.PostingStatements.{blocks, blocks_static}
-use Rattle.zeb_register.specs.Agreeing.{IsLeastFrom, IsListedId, IsThere, LacksPostingsAndDict, Owns, expected_name, listed_name}
 use Rattle.zeb_register.specs.Catalog.{AreDatabases}
-use Rattle.zeb_register.specs.declared.catalog.ListedDatabase.{ListedDatabase}
-use Rattle.zeb_register.specs.declared.expected.ExpectedDatabase.{ExpectedDatabase}
-use Rattle.zeb_register.specs.declared.expected.KeyPosting.{KeyPosting}
 
 -- ---- ids with which no row begins
 

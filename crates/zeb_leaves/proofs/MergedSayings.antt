@@ -1,14 +1,8 @@
 -- What merged entries say: of a block that no change touches what the old ones said, of a changed one what its change puts.
-use Rattle.zeb_leaves.proofs.Cited.{Has, ◌≡◌, ◌↔◌, ◌∙◌, ◌∷◌, ℕ, List, [], Some, None, Option, sym, ap, subst, inl, inr, Less, Equal, tied_itself, Posting, Entry, IsAt, SayPart}
-use Rattle.std.specs.Prelude.{Contains}
+use Rattle.zeb_leaves.proofs.Cited.{Has, ◌≡◌, ◌↔◌, ◌∙◌, ◌∷◌, ℕ, List, [], Some, None, Option, sym, ap, subst, inl, inr, Less, Equal, tied_itself, Posting, Entry, IsAt, SayPart, Contains-append_cases, Contains, AreChanges, AreMerged, change_cmp, entry_with, puts, key_cmp, BlockChange, entries_total}
 use Rattle.std.specs.List.Sorted.{IsStrictlySortedBy}
-use Rattle.std.proofs.lemmas.List.Elements.{Contains-append_cases}
-use Rattle.zeb_leaf.specs.Merging.{AreChanges, AreMerged, change_cmp, entry_with, puts}
-use Rattle.zeb_leaf.specs.Spans.{key_cmp}
-use Rattle.zeb_leaf.specs.declared.merging.BlockChange.{BlockChange}
 use Rattle.zeb_leaf.specs.declared.merging.NewBlock.{NewBlock}
 use Rattle.zeb_leaf.proofs.Members.{behind_in, first_below, first_in, none_in, only_in}
-use Rattle.zeb_register.proofs.LeafReadings.{entries_total}
 
 -- ---- membership in the words of both crates
 

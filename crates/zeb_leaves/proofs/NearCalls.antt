@@ -1,10 +1,5 @@
 -- How entries and rows are counted until there are enough terms, one by one.
-use Rattle.zeb_leaves.proofs.Cited.{Row, ◌≡◌, ◌∙◌, ◌+◌, ◌<◌, ◌≤◌, ◌++◌, ◌∷◌, ℕ, true, List, Some, [], drop, length, refl, sym, ap, subst, inl, inr, Entry, TermCount}
-use Rattle.std.proofs.Common.{Bool, get_or}
-use Rattle.std.proofs.lemmas.List.{drop_all, drop_more}
-use Rattle.zeb_leaves.specs.PrivateNearTerms.{AreEnough, CountBelow, CountRows, CountUntil, GoesDown, GoesPast, HideBelow, HideRows, HidesDown, HidesRow, MeetNoText, StopsAt, StopsDown}
-use Rattle.zeb_leaves.specs.PrivateSpans.{ShowsKey}
-use Rattle.zeb_leaves.specs.PrivateTermReads.{CountsIn, IsNoText}
+use Rattle.zeb_leaves.proofs.Cited.{Row, ◌≡◌, ◌∙◌, ◌+◌, ◌<◌, ◌≤◌, ◌++◌, ◌∷◌, ℕ, true, List, Some, [], drop, length, refl, sym, ap, subst, inl, inr, Entry, TermCount, Bool, get_or, drop_all, drop_more, AreEnough, CountBelow, CountRows, CountUntil, GoesDown, GoesPast, HideBelow, HideRows, HidesDown, HidesRow, MeetNoText, StopsAt, StopsDown, ShowsKey, CountsIn, IsNoText}
 
 standing : {X : Type 0} (xs : List X) (i : ℕ) (x : X) → i < length xs → x ≡ get_or xs i x → drop i xs ≡ x ∷ drop (i + 1) xs
 standing xs i x within is = drop_more xs i x within ∙ ap (λ r. r ∷ drop (i + 1) xs) (sym is)

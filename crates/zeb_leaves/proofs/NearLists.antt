@@ -1,12 +1,7 @@
 -- Terms nearest to a text, counted until there are enough: how many there are.
-use Rattle.zeb_leaves.proofs.Cited.{Has, has_either, has_left, has_right, ◌≡◌, ◌≢◌, ◌↔◌, ◌∙◌, ◌+◌, ◌<◌, ◌≤◌, ◌++◌, ◌∷◌, ℕ, List, [], length, refl, sym, ap, subst, inl, inr, arith, length-append, sum_by, Ordering, Less, never_itself, IsTotalOrder, Entry, TermCount}
-use Rattle.std.proofs.lemmas.Bool.{cases_lt}
+use Rattle.zeb_leaves.proofs.Cited.{Has, has_either, has_left, has_right, ◌≡◌, ◌≢◌, ◌↔◌, ◌∙◌, ◌+◌, ◌<◌, ◌≤◌, ◌++◌, ◌∷◌, ℕ, List, [], length, refl, sym, ap, subst, inl, inr, arith, length-append, sum_by, Ordering, Less, never_itself, IsTotalOrder, Entry, TermCount, cases_lt, AreEnough, CountsIn, cut_rises, never_back, snoc_of, term_with}
 use Rattle.std.proofs.lemmas.List.{append_assoc, append-nil}
 use Rattle.std.specs.List.Sorted.{IsStrictlySortedBy}
-use Rattle.zeb_leaves.specs.PrivateNearTerms.{AreEnough}
-use Rattle.zeb_leaves.specs.PrivateTermReads.{CountsIn}
-use Rattle.zeb_register.proofs.RisingLists.{cut_rises, never_back, snoc_of}
-use Rattle.zeb_register.specs.PrivateRowTerms.{term_with}
 
 last_of : {X : Type 0} (xs : List X) → 1 ≤ length xs → (front : List X) × (last : X) × (xs ≡ front ++ last ∷ [])
 last_of [] some = absurd (omega arith)

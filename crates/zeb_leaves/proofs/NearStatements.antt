@@ -1,22 +1,10 @@
 -- The statements that list the leaves nearest to a text, so many at most, with what they are compiled to.
-use Rattle.zeb_leaves.proofs.Cited.{Row, column, Int, Text, ◌≡◌, ◌∙◌, ◌++◌, ◌∷◌, ◌<◌, ℕ, zero, suc, ℤ, pos, true, false, List, [], length, drop, refl, sym, ap, subst, arith, IsStore, State, Shown, store_schema}
-use Rattle.std.proofs.Common.{reverse, take}
-use Rattle.std.proofs.lemmas.List.{take-append-drop}
+use Rattle.zeb_leaves.proofs.Cited.{Row, column, Int, Text, ◌≡◌, ◌∙◌, ◌++◌, ◌∷◌, ◌<◌, ℕ, zero, suc, ℤ, pos, true, false, List, [], length, drop, refl, sym, ap, subst, arith, IsStore, State, Shown, store_schema, value_cmp, col, reverse, take, take-append-drop, IsUnder, below_more, falling_keys, leaf_names, leaf_places, term_order, two_lower, ListsBack, ListsFront, blocks, blocks_keys, blocks_static, register_of, IsAfter, lists_after, IsQuery, list_so, keyed_from, rising, shows, IsListOf}
 use Rattle.sqlite.specs.Listing.{understood}
-use Rattle.sqlite.specs.Order.{value_cmp}
-use Rattle.sqlite.specs.Term.{col}
 use Rattle.sqlite_tied.specs.Compute.{everything}
-use Rattle.zeb_leaves.specs.PrivateNearRows.{ListsBack, ListsFront}
 use Rattle.zeb_leaves.specs.declared.near_rows.TheConstants.{FIRST, LAST}
 use Rattle.zeb_leaves.proofs.FallingRows.{falling_shown}
 use Rattle.zeb_leaves.proofs.FromStatements.{from_more, IsFromRow}
-use Rattle.zeb_leaf_rows.proofs.LeafStatements.{IsUnder, below_more, falling_keys, leaf_names, leaf_places, term_order, two_lower}
-use Rattle.zeb_register.proofs.PostingStatements.{blocks, blocks_keys, blocks_static, register_of}
-use Rattle.zeb_register.proofs.PrefixSelects.{IsAfter, lists_after}
-use Rattle.zeb_register.proofs.Refusals.{IsQuery}
-use Rattle.zeb_register.proofs.Selects.{list_so}
-use Rattle.zeb_register.proofs.StatementForms.{keyed_from, rising, shows}
-use Rattle.zeb_register.specs.Sql.{IsListOf}
 
 -- fewer than were asked for are all
 short : (limit : ℕ) (xs : List Row) → length (take limit xs) < limit → drop limit xs ≡ []

@@ -1,8 +1,7 @@
 -- The terms of one side of a text, of which those nearest to it are counted until there are enough: what is listed, and what hides it.
 -- Both sides are told at once: an order of texts in which the nearest come first, and the list that is counted in this order, turned into
 -- that of the terms' own order.
-use Rattle.zeb_leaves.proofs.Cited.{Row, Has, has_either, has_right, Trees, ◌≡◌, ◌≢◌, ◌↔◌, ◌⊎◌, ◌∙◌, ◌≤◌, ◌++◌, ◌∷◌, ℕ, true, false, List, [], length, refl, sym, ap, subst, inl, inr, arith, Ordering, Less, Equal, Greater, ordering_reverse, sum_by, never_itself, IsTotalOrder, Entry, TermCount, IsEntryOf, SumsRecords, key_in}
-use Rattle.std.proofs.Common.{Bool}
+use Rattle.zeb_leaves.proofs.Cited.{Row, Has, has_either, has_right, Trees, ◌≡◌, ◌≢◌, ◌↔◌, ◌⊎◌, ◌∙◌, ◌≤◌, ◌++◌, ◌∷◌, ℕ, true, false, List, [], length, refl, sym, ap, subst, inl, inr, arith, Ordering, Less, Equal, Greater, ordering_reverse, sum_by, never_itself, IsTotalOrder, Entry, TermCount, IsEntryOf, SumsRecords, key_in, Bool, AreEnough, CountUntil, MeetNoText, CountsIn, before_last, front_rises, packed_leaves, term_cmp, HidesCount, HidesNearest, IsNearest, ListsCounts, ListsNearest, RegisterOf}
 use Rattle.std.proofs.lemmas.List.{append_assoc, append-nil}
 use Rattle.std.specs.List.Sorted.{IsStrictlySortedBy}
 use Rattle.zeb_leaves.proofs.CountedTerms.{Counted, CountedBy, by_term, more_counted_by, of_term}
@@ -11,14 +10,7 @@ use Rattle.zeb_leaves.proofs.SpanEntries.{HasOwnIn}
 use Rattle.zeb_leaves.proofs.SpanLists.{its, its_has, own_term}
 use Rattle.zeb_leaves.proofs.TermEntries.{own_summed}
 use Rattle.zeb_leaves.proofs.TermsTold.{Own, lists_counted, text_hides}
-use Rattle.zeb_leaves.specs.PrivateNearTerms.{AreEnough, CountUntil, MeetNoText}
-use Rattle.zeb_leaves.specs.PrivateTermReads.{CountsIn}
 use Rattle.zeb_register.proofs.KeyLists.{one_number}
-use Rattle.zeb_register.proofs.RisingLists.{before_last, front_rises}
-use Rattle.zeb_register.specs.Formats.{packed_leaves}
-use Rattle.zeb_register.specs.Occurring.{term_cmp}
-use Rattle.zeb_register.specs.Terms.{HidesCount, HidesNearest, IsNearest, ListsCounts, ListsNearest}
-use Rattle.zeb_register.specs.declared.registers.RegisterOf.{RegisterOf}
 
 module _ (trees : Trees) (at : RegisterOf) where
   abbrev pub Leaves : Row → Type 0

@@ -1,29 +1,14 @@
 -- What calls that list the terms nearest to a text answer, by the leaves that they found.
-use Rattle.zeb_leaves.proofs.Cited.{Row, ◌≡◌, ◌≢◌, ◌≤◌, ◌∷◌, ℕ, List, [], Ok, Err, Option, Some, None, Result, sym, ap, subst, arith, State, TermCount, IsLeafIn, IsStore, IsUncovered, leaf_key, inl, inr}
+use Rattle.zeb_leaves.proofs.Cited.{Row, ◌≡◌, ◌≢◌, ◌≤◌, ◌∷◌, ℕ, List, [], Ok, Err, Option, Some, None, Result, sym, ap, subst, arith, State, TermCount, IsLeafIn, IsStore, IsUncovered, leaf_key, inl, inr, Survives, Trees, IfOk, IfSome, Vec, HidesBeside, IsSide, ListsBeside, MayTellBeside, TellsBeside, CountRows, HideRows, AreLeavesFrom, IsLeafFrom, IsRowFrom, list_so, Answers, IfRefused, MayRefuse, packed_leaves, IsListOf, HidesFrom, ListsFrom, ListsNearest, RegFault, Damaged, Store, RegisterOf}
 use Rattle.std.specs.List.Sorted.{IsStrictlySortedBy}
-use Rattle.std.specs.Prelude.{IfOk, IfSome, Vec}
 use Rattle.std.specs.declared.alloc.Global.{Global}
-use Rattle.sqlite.specs.State.{Survives}
-use Rattle.sqlite.specs.Tree.{Trees}
 use Rattle.zeb_leaf_rows.proofs.CoveringLeaves.{Leaves, leaf_shape}
 use Rattle.zeb_leaves.proofs.FirstTerms.{first_hides, first_told, none_first, uncovered_start}
 use Rattle.zeb_leaves.proofs.OneLeaf.{one_leaf}
 use Rattle.zeb_leaves.proofs.TermsTold.{row_so}
 use Rattle.zeb_leaves.proofs.NearTurns.{IsStill, told_behind}
-use Rattle.zeb_leaves.specs.PrivateNearCalls.{HidesBeside, IsSide, ListsBeside, MayTellBeside, TellsBeside}
-use Rattle.zeb_leaves.specs.PrivateNearTerms.{CountRows, HideRows}
-use Rattle.zeb_leaves.specs.PrivateTermReads.{AreLeavesFrom, IsLeafFrom, IsRowFrom}
 use Rattle.zeb_leaves.specs.declared.near_terms.Side.{Side}
 use Rattle.zeb_leaves.specs.declared.near_terms.Side.TheVariants.{From}
-use Rattle.zeb_register.proofs.Selects.{list_so}
-use Rattle.zeb_register.specs.Answers.{Answers, IfRefused}
-use Rattle.zeb_register.specs.Calls.{MayRefuse}
-use Rattle.zeb_register.specs.Formats.{packed_leaves}
-use Rattle.zeb_register.specs.Sql.{IsListOf}
-use Rattle.zeb_register.specs.Terms.{HidesFrom, ListsFrom, ListsNearest}
-use Rattle.zeb_register.specs.declared.faults.RegFault.{RegFault}
-use Rattle.zeb_register.specs.declared.faults.RegFault.TheVariants.{Damaged, Store}
-use Rattle.zeb_register.specs.declared.registers.RegisterOf.{RegisterOf}
 
 -- ---- no terms are asked for, or there are none on that side
 

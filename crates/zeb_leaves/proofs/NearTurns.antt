@@ -1,16 +1,6 @@
 -- Calls that change nothing, one behind the other: none so far, or some.
-use Rattle.zeb_leaves.proofs.Cited.{Trees, HasCleanDisk, State, ◌≡◌, ◌∙◌, Ok, Err, Result, refl, arith, subst}
+use Rattle.zeb_leaves.proofs.Cited.{Trees, HasCleanDisk, State, ◌≡◌, ◌∙◌, Ok, Err, Result, refl, arith, subst, Database, IsUnchanged, Survives, IfOk, nothing_then, store_same, quiet_still, quiet_then, may_after, unchanged_then, Answers, IfRefused, TellsOr, ChangesNothing, Reading, RegFault}
 use Rattle.std.proofs.Common.{IsTrue, false}
-use Rattle.std.specs.Prelude.{IfOk}
-use Rattle.sqlite.specs.Effect.{Database}
-use Rattle.sqlite.specs.State.{IsUnchanged, Survives}
-use Rattle.zeb_register.proofs.Calls.{nothing_then, store_same}
-use Rattle.zeb_register.proofs.CallsInTurn.{quiet_still, quiet_then}
-use Rattle.zeb_register.proofs.Causes.{may_after}
-use Rattle.zeb_register.proofs.Cited.{unchanged_then}
-use Rattle.zeb_register.specs.Answers.{Answers, IfRefused, TellsOr}
-use Rattle.zeb_register.specs.Calls.{ChangesNothing, Reading}
-use Rattle.zeb_register.specs.declared.faults.RegFault.{RegFault}
 
 pub record IsStill (a b : State) : Type 0 where
   pub idle : a.in_transaction ≡ false → b.in_transaction ≡ false

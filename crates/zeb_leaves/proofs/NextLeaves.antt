@@ -1,14 +1,9 @@
 -- The leaf that covers a key, and the one behind it, each by the one leaf that stands next to the key's term.
-use Rattle.zeb_leaves.proofs.Cited.{Row, column, row_cmp, row_cmp_total, Text, ◌≡◌, ◌≢◌, ◌∙◌, ◌++◌, ◌∷◌, ℕ, ℤ, Some, None, Option, true, false, List, [], refl, sym, ap, arith, Ordering, Less, Equal, Greater, nat_cmp, nat_list_cmp_total, slice_cmp, ordering_reverse, ordering_then, value_cmp-Text, IsCovering, IsGreatest, IsLeast, IsNextBehind, IsUpTo, HasBlockFrom, leaf_key, own_key, IsRest, IsStore, State, blocks_tree, Register, register_front}
-use Rattle.std.specs.Ordering.{is_lt}
-use Rattle.sqlite.specs.Order.{value_cmp}
-use Rattle.zeb_leaf.specs.Spans.{key_cmp}
-use Rattle.zeb_register.proofs.BetweenLemmas.{up_to}
+use Rattle.zeb_leaves.proofs.Cited.{Row, column, row_cmp, row_cmp_total, Text, ◌≡◌, ◌≢◌, ◌∙◌, ◌++◌, ◌∷◌, ℕ, ℤ, Some, None, Option, true, false, List, [], refl, sym, ap, arith, Ordering, Less, Equal, Greater, nat_cmp, nat_list_cmp_total, slice_cmp, ordering_reverse, ordering_then, value_cmp-Text, IsCovering, IsGreatest, IsLeast, IsNextBehind, IsUpTo, HasBlockFrom, leaf_key, own_key, IsRest, IsStore, State, blocks_tree, Register, register_front, value_cmp, is_lt, key_cmp, ShowsKey, up_to}
 use Rattle.zeb_register.proofs.KeyOrder.{key_order}
 use Rattle.zeb_leaf_rows.proofs.CoveringLeaves.{Leaves, from_leaf, leaf_from, leaf_shape}
 use Rattle.zeb_leaves.proofs.LeavesBehind.{above_is}
 use Rattle.zeb_leaves.proofs.OwnLeaves.{lt_less}
-use Rattle.zeb_leaves.specs.PrivateSpans.{ShowsKey}
 
 -- ---- a key beside the own key that a leaf shows
 

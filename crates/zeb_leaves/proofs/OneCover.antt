@@ -1,8 +1,6 @@
 -- The order of keys, and the one leaf that covers a key.
-use Rattle.zeb_leaves.proofs.Cited.{Row, row_cmp, row_cmp_total, ◌≡◌, ◌≢◌, ◌∙◌, ℕ, List, refl, sym, ap, subst, inl, Ordering, Less, Equal, Greater, nat_cmp, slice_cmp, ordering_then, ordering_reverse, tied_itself, numbers_apart, Entry, Covers, HasEntriesAt, IsUpTo, ShowsEntries, leaf_key, own_key}
-use Rattle.zeb_keys.proofs.Rising.{texts_apart}
+use Rattle.zeb_leaves.proofs.Cited.{Row, row_cmp, row_cmp_total, ◌≡◌, ◌≢◌, ◌∙◌, ℕ, List, refl, sym, ap, subst, inl, Ordering, Less, Equal, Greater, nat_cmp, slice_cmp, ordering_then, ordering_reverse, tied_itself, numbers_apart, Entry, Covers, HasEntriesAt, IsUpTo, ShowsEntries, leaf_key, own_key, texts_apart, leaf_row}
 use Rattle.zeb_register.proofs.KeyOrder.{key_order}
-use Rattle.zeb_leaf_rows.proofs.LeafShapes.{leaf_row}
 
 -- ---- the order of keys
 

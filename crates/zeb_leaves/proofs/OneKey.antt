@@ -1,16 +1,7 @@
 -- What is said of a run of one key is said of the changes of that key.
-use Rattle.zeb_leaves.proofs.Cited.{◌≡◌, ◌≢◌, ℕ, ℤ, List, [], ◌∷◌, Result, Ok, Err, refl, subst, inl, inr, Trees, Has, Key, AllByRecursion}
+use Rattle.zeb_leaves.proofs.Cited.{◌≡◌, ◌≢◌, ℕ, ℤ, List, [], ◌∷◌, Result, Ok, Err, refl, subst, inl, inr, Trees, Has, Key, AllByRecursion, kept_wider, Answers, packed_leaves, IsRun, IsRunRefusedAs, IsUnitAmong, PutsKeys, TurnsAny, KeepsLists, AllowsChanges, IsRefusedAs, IsStorableChange, IsUnitTouched, KeyUnits, NumbersRise, PutsAny, RegFault, KeyChanges, RecordChange}
 use Rattle.std.specs.List.Sorted.{IsStrictlySortedBy}
-use Rattle.zeb_register.proofs.KeptLeaves.{kept_wider}
-use Rattle.zeb_register.specs.Answers.{Answers}
-use Rattle.zeb_register.specs.Formats.{packed_leaves}
 use Rattle.zeb_register.specs.KeptUnits.{KeepsUnits}
-use Rattle.zeb_register.specs.RunChanges.{IsRun, IsRunRefusedAs, IsUnitAmong, PutsKeys, TurnsAny}
-use Rattle.zeb_register.specs.Store.{KeepsLists}
-use Rattle.zeb_register.specs.UnitChanges.{AllowsChanges, IsRefusedAs, IsStorableChange, IsUnitTouched, KeyUnits, NumbersRise, PutsAny}
-use Rattle.zeb_register.specs.declared.faults.RegFault.{RegFault}
-use Rattle.zeb_register.specs.declared.registers.KeyChanges.{KeyChanges}
-use Rattle.zeb_register.specs.declared.registers.RecordChange.{RecordChange}
 
 pub one_run : (one : KeyChanges) → NumbersRise one.changes.now → IsRun (one ∷ [])
 unfolding IsStrictlySortedBy

@@ -1,8 +1,6 @@
 -- The leaves of a register in a store: each has a key of its own.
-use Rattle.zeb_leaves.proofs.Cited.{Row, column, Int, Text, ◌≡◌, ◌∙◌, ◌++◌, ◌∷◌, ℕ, ℤ, pos, List, [], drop, refl, sym, ap, subst, inl, State, Register, IsRest, IsStore, blocks_tree, leaf_key, own_key, register_front}
+use Rattle.zeb_leaves.proofs.Cited.{Row, column, Int, Text, ◌≡◌, ◌∙◌, ◌++◌, ◌∷◌, ℕ, ℤ, pos, List, [], drop, refl, sym, ap, subst, inl, State, Register, IsRest, IsStore, blocks_tree, leaf_key, own_key, register_front, leaf_row, blocks, blocks_keys, blocks_static}
 use Rattle.zeb_leaf_rows.proofs.CoveringLeaves.{Leaves, leaf_shape}
-use Rattle.zeb_leaf_rows.proofs.LeafShapes.{leaf_row}
-use Rattle.zeb_register.proofs.PostingStatements.{blocks, blocks_keys, blocks_static}
 use Rattle.zeb_register.proofs.SharedKeys.{single}
 
 module _ (s : State) (store : IsStore s) (db : ℤ) (index : ℕ) (register : Register) where

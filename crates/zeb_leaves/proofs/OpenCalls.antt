@@ -1,11 +1,6 @@
 -- Calls that read, one behind the other, of which the second changes no open connection.
-use Rattle.zeb_leaves.proofs.Cited.{State, Ok, arith}
+use Rattle.zeb_leaves.proofs.Cited.{State, Ok, arith, IsUnchanged, nothing_then, quiet_then, unchanged_then, Reading}
 use Rattle.std.specs.Bool.{IsTrue}
-use Rattle.sqlite.specs.State.{IsUnchanged}
-use Rattle.zeb_register.proofs.Cited.{unchanged_then}
-use Rattle.zeb_register.proofs.Calls.{nothing_then}
-use Rattle.zeb_register.proofs.CallsInTurn.{quiet_then}
-use Rattle.zeb_register.specs.Calls.{Reading}
 
 pub open_then : {A B C E F : Type 0} (a b c : State) (x : A) (y : B) (z : C) → Reading {E = E} a b (Ok x) (λ _. IsUnchanged) → Reading {E = F} b c (Ok y) (λ _ old new. IsTrue old.is_open → IsUnchanged old new) → Reading {E = E} a c (Ok z) (λ _. IsUnchanged)
 open_then a b c x y z first second = record {

@@ -1,7 +1,5 @@
 -- No two rows of `blocks` have one key.
-use Rattle.zeb_leaves.proofs.Cited.{Row, State, column, Int, Blob, ◌≡◌, ◌∷◌, ℤ, [], refl, ap, inl, IsRest, IsStore, blocks_tree}
-use Rattle.zeb_leaves.specs.PrivateAgreeing.{HaveOwnKeys, rest_shown}
-use Rattle.zeb_register.proofs.PostingStatements.{blocks, blocks_keys, blocks_static}
+use Rattle.zeb_leaves.proofs.Cited.{Row, State, column, Int, Blob, ◌≡◌, ◌∷◌, ℤ, [], refl, ap, inl, IsRest, IsStore, blocks_tree, HaveOwnKeys, rest_shown, blocks, blocks_keys, blocks_static}
 use Rattle.zeb_register.proofs.SharedKeys.{single}
 
 pub own_keys : (s : State) → IsStore s → (id : ℤ) → HaveOwnKeys (IsRest blocks_tree (Int id ∷ []) s.now.trees)

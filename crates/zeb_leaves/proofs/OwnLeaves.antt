@@ -1,19 +1,10 @@
 -- What the leaves from a text on have of the keys there: their own entries.
-use Rattle.zeb_leaves.proofs.Cited.{Row, row_cmp, row_cmp_total, Has, all_has, ◌≡◌, ◌≢◌, ◌↔◌, ◌⊎◌, ◌∙◌, ◌++◌, ◌∷◌, ℕ, true, false, List, [], Some, None, refl, sym, ap, subst, inl, inr, Ordering, Less, Equal, Greater, nat_cmp, slice_cmp, ordering_reverse, never_itself, Entry, entry_cmp, kept_rises, Covers, IsEntryOf, LacksEntriesAt, ShowsEntries, leaf_key, own_key}
-use Rattle.sqlite_rules.proofs.ListLemmas.{has_filtered, has_kept}
-use Rattle.std.proofs.Common.{not}
-use Rattle.std.proofs.lemmas.Bool.{and_from, and_parts}
+use Rattle.zeb_leaves.proofs.Cited.{Row, row_cmp, row_cmp_total, Has, all_has, ◌≡◌, ◌≢◌, ◌↔◌, ◌⊎◌, ◌∙◌, ◌++◌, ◌∷◌, ℕ, true, false, List, [], Some, None, refl, sym, ap, subst, inl, inr, Ordering, Less, Equal, Greater, nat_cmp, slice_cmp, ordering_reverse, never_itself, Entry, entry_cmp, kept_rises, Covers, IsEntryOf, LacksEntriesAt, ShowsEntries, leaf_key, own_key, has_filtered, has_kept, not, and_from, and_parts, is_lt, key_cmp, leaf_row, AreLeavesFrom, End, HideAllOwns, HideOwns, ShowAllOwns, ShowOwns, ShowsOwn, SomeBad, is_below, is_own, entries_total, one_shown, shown_rises}
 use Rattle.std.specs.List.Sorted.{IsStrictlySortedBy}
-use Rattle.std.specs.Ordering.{is_lt}
-use Rattle.zeb_leaf.specs.Spans.{key_cmp}
 use Rattle.zeb_register.proofs.KeyOrder.{key_order}
-use Rattle.zeb_register.proofs.LeafReadings.{entries_total, one_shown}
-use Rattle.zeb_leaf_rows.proofs.LeafShapes.{leaf_row}
-use Rattle.zeb_register.proofs.LeafSums.{shown_rises}
 use Rattle.zeb_leaves.proofs.OneCover.{covers_itself, entries_at, one_cover, same_key, up_to_then}
 use Rattle.zeb_leaves.proofs.SpanEntries.{HasOwnIn, own_joined}
 use Rattle.zeb_leaves.proofs.SpanRuns.{below_or, covers_key, from_term, less_up, not_less_up, rows_up, term_from, up_itself, up_less, up_not_less}
-use Rattle.zeb_leaves.specs.PrivateTermReads.{AreLeavesFrom, End, HideAllOwns, HideOwns, ShowAllOwns, ShowOwns, ShowsOwn, SomeBad, is_below, is_own}
 
 -- ---- a test of an entry, by its key
 

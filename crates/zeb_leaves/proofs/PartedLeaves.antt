@@ -1,7 +1,6 @@
 -- Leaves that have rising entries, one behind the other: which of them covers a key, and which entries each covers.
-use Rattle.zeb_leaves.proofs.Cited.{Row, row_cmp, Has, all_has, has_either, has_left, has_right, ◌≡◌, ◌≢◌, ◌⊎◌, ◌∙◌, ◌++◌, ◌∷◌, List, [], refl, sym, ap, subst, inl, inr, Less, Greater, Entry, entry_cmp, IsUpTo, ShowsEntries, leaf_key, own_key}
+use Rattle.zeb_leaves.proofs.Cited.{Row, row_cmp, Has, all_has, has_either, has_left, has_right, ◌≡◌, ◌≢◌, ◌⊎◌, ◌∙◌, ◌++◌, ◌∷◌, List, [], refl, sym, ap, subst, inl, inr, Less, Greater, Entry, entry_cmp, IsUpTo, ShowsEntries, leaf_key, own_key, ArePartedFrom, IsPart}
 use Rattle.std.specs.List.Sorted.{IsStrictlySortedBy}
-use Rattle.zeb_leaves.specs.LeafChanges.{ArePartedFrom, IsPart}
 use Rattle.zeb_register.proofs.KeyOrder.{key_order}
 use Rattle.zeb_leaves.proofs.OneCover.{up_to_then}
 use Rattle.zeb_leaves.proofs.SpanRuns.{below_or, flipped_back, less_up, up_itself}

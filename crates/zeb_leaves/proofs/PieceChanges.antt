@@ -1,18 +1,10 @@
 -- The pieces that one leaf covers and the changes of blocks that they make: one for each, of its block and in their order.
-use Rattle.zeb_leaves.proofs.Cited.{◌≡◌, ◌∙◌, ◌/◌, ◌∷◌, ℕ, List, [], refl, sym, ap, subst, inl, inr, Ordering, Less, Equal, nat_cmp, nat_cmp_total, slice_cmp, ordering_then, tied_itself, AllByRecursion, Has, all_from, all_has, Entry, IsEntry, register_code, Key}
+use Rattle.zeb_leaves.proofs.Cited.{◌≡◌, ◌∙◌, ◌/◌, ◌∷◌, ℕ, List, [], refl, sym, ap, subst, inl, inr, Ordering, Less, Equal, nat_cmp, nat_cmp_total, slice_cmp, ordering_then, tied_itself, AllByRecursion, Has, all_from, all_has, Entry, IsEntry, register_code, Key, AreChanges, change_cmp, puts, key_cmp, BlockChange, IsPiece, TurnAllEntries, TurnsEntries, block_of, piece_cmp, ArePiecesIn, IsUnitAmong, IsTouched, KeyChanges}
 use Rattle.std.specs.List.Sorted.{IsStrictlySortedBy}
-use Rattle.zeb_leaf.specs.Merging.{AreChanges, change_cmp, puts}
-use Rattle.zeb_leaf.specs.Spans.{key_cmp}
-use Rattle.zeb_leaf.specs.declared.merging.BlockChange.{BlockChange}
 use Rattle.zeb_register.proofs.ContentLemmas.{same_key}
-use Rattle.zeb_register.specs.RunChanges.{IsUnitAmong}
-use Rattle.zeb_register.specs.UnitChanges.{IsTouched}
-use Rattle.zeb_register.specs.declared.registers.KeyChanges.{KeyChanges}
 use Rattle.zeb_leaves.proofs.MergedSayings.{has_of}
 use Rattle.zeb_leaves.proofs.PiecesInTurn.{block_touched}
 use Rattle.zeb_leaves.proofs.TurnedLeaves.{IsFree}
-use Rattle.zeb_leaves.specs.PrivatePieces.{IsPiece, TurnAllEntries, TurnsEntries, block_of, piece_cmp}
-use Rattle.zeb_leaves.specs.PrivatePutPieces.{ArePiecesIn}
 
 -- a piece has a change, and a change a piece
 pub change_of : (own : List Entry) (pieces : List KeyChanges) (changes : List BlockChange) → TurnAllEntries own pieces changes → (p : KeyChanges) → Has pieces p → (c : BlockChange) × Has changes c × TurnsEntries own p c

@@ -1,19 +1,6 @@
 -- Pieces of a run that are put in turn, told of the tables before all and after all.
-use Rattle.zeb_leaves.proofs.Cited.{◌≡◌, ◌↔◌, ◌∙◌, ◌/◌, ◌++◌, ◌∷◌, ℕ, ℤ, List, [], refl, sym, ap, subst, inl, inr, Less, Equal, nat_cmp, nat_cmp_total, tied_itself, Result, Ok, Err, Has, all_from, all_has, has_either, has_left, has_right, Trees, Key, LeavesRead, Place}
-use Rattle.std.specs.Ordering.{ordering_then}
-use Rattle.zeb_keys.proofs.Rising.{key_total}
+use Rattle.zeb_leaves.proofs.Cited.{◌≡◌, ◌↔◌, ◌∙◌, ◌/◌, ◌++◌, ◌∷◌, ℕ, ℤ, List, [], refl, sym, ap, subst, inl, inr, Less, Equal, nat_cmp, nat_cmp_total, tied_itself, Result, Ok, Err, Has, all_from, all_has, has_either, has_left, has_right, Trees, Key, LeavesRead, Place, ordering_then, key_total, ArePieces, IsPiece, block_of, piece_cmp, kept_then, cut_rises, Answered, packed_leaves, IsInBlock, IsUnitAmong, LacksLeave, PutsKeys, TurnsAny, AllowsChanges, IsTouched, KeyUnits, RegFault, KeyChanges, RecordChange}
 use Rattle.zeb_keys.specs.Order.{key_order}
-use Rattle.zeb_register.proofs.KeptLeaves.{kept_then}
-use Rattle.zeb_register.proofs.RisingLists.{cut_rises}
-use Rattle.zeb_register.proofs.RunTurns.{Answered}
-use Rattle.zeb_register.specs.Formats.{packed_leaves}
-use Rattle.zeb_register.specs.PrivatePackedRows.{IsInBlock}
-use Rattle.zeb_register.specs.RunChanges.{IsUnitAmong, LacksLeave, PutsKeys, TurnsAny}
-use Rattle.zeb_register.specs.UnitChanges.{AllowsChanges, IsTouched, KeyUnits}
-use Rattle.zeb_register.specs.declared.faults.RegFault.{RegFault}
-use Rattle.zeb_register.specs.declared.registers.KeyChanges.{KeyChanges}
-use Rattle.zeb_register.specs.declared.registers.RecordChange.{RecordChange}
-use Rattle.zeb_leaves.specs.PrivatePieces.{ArePieces, IsPiece, block_of, piece_cmp}
 
 -- ---- a piece and its block
 

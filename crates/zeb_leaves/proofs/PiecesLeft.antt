@@ -1,16 +1,9 @@
 -- Pieces that are put part by part: what is left leads to any end as all do from the start.
-use Rattle.zeb_leaves.proofs.Cited.{◌≢◌, ◌+◌, ◌<◌, ◌≤◌, ℕ, ℤ, List, [], Ok, Err, length, drop, sym, ap, subst, arith, Trees}
-use Rattle.std.proofs.Common.{◌-◌, take}
-use Rattle.std.proofs.lemmas.List.{drop-drop, length-drop, take-append-drop, take_rest}
+use Rattle.zeb_leaves.proofs.Cited.{◌≢◌, ◌+◌, ◌<◌, ◌≤◌, ℕ, ℤ, List, [], Ok, Err, length, drop, sym, ap, subst, arith, Trees, ◌-◌, take, drop-drop, length-drop, take-append-drop, take_rest, ArePieces, packed_leaves, IsRunRefusedAs, PutsKeys, RegFault, KeyChanges}
 use Rattle.zeb_register.proofs.RunCounts.{none_run}
 use Rattle.zeb_register.proofs.RunTurns.{Answered, LeadsOn, none_put}
-use Rattle.zeb_register.specs.Formats.{packed_leaves}
-use Rattle.zeb_register.specs.RunChanges.{IsRunRefusedAs, PutsKeys}
-use Rattle.zeb_register.specs.declared.faults.RegFault.{RegFault}
-use Rattle.zeb_register.specs.declared.registers.KeyChanges.{KeyChanges}
 use Rattle.zeb_leaves.proofs.PiecesInTurn.{answered_in_turn}
 use Rattle.zeb_leaves.proofs.PiecesOfRuns.{back_pieces}
-use Rattle.zeb_leaves.specs.PrivatePieces.{ArePieces}
 
 -- what is left, as the code cuts it
 abbrev left : List KeyChanges → ℕ → List KeyChanges

@@ -1,20 +1,9 @@
 -- A run of keys and its pieces: where these are put, the run is, and where one lacks leave, a key of the run does.
-use Rattle.zeb_leaves.proofs.Cited.{◌≡◌, ◌≢◌, ◌∙◌, ◌/◌, ◌++◌, ◌∷◌, ℕ, ℤ, List, [], refl, sym, ap, subst, inl, inr, Less, eqb_tells, Result, Ok, Err, AllByRecursion, Has, all_from, all_has, has_either, has_left, has_right, Trees, Key, LeavesRead}
-use Rattle.std.specs.Prelude.{IsUtf8}
+use Rattle.zeb_leaves.proofs.Cited.{◌≡◌, ◌≢◌, ◌∙◌, ◌/◌, ◌++◌, ◌∷◌, ℕ, ℤ, List, [], refl, sym, ap, subst, inl, inr, Less, eqb_tells, Result, Ok, Err, AllByRecursion, Has, all_from, all_has, has_either, has_left, has_right, Trees, Key, LeavesRead, IsUtf8, ArePieces, ArePiecesOf, IsPiece, PartsRun, all_changes, block_of, piece_cmp, kept_wider, Answers, packed_leaves, IsInBlock, IsRunRefusedAs, IsUnitAmong, LacksLeave, PutsKeys, TurnsAny, TurnsKey, AllowsChanges, IsStorableChange, IsTouched, KeyUnits, RegFault, KeyChanges, RecordChange}
 use Rattle.std.specs.List.Sorted.{IsStrictlySortedBy}
 use Rattle.zeb_register.proofs.ContentTurns.{turns_kept}
-use Rattle.zeb_register.proofs.KeptLeaves.{kept_wider}
-use Rattle.zeb_register.specs.Answers.{Answers}
-use Rattle.zeb_register.specs.Formats.{packed_leaves}
-use Rattle.zeb_register.specs.PrivatePackedRows.{IsInBlock}
-use Rattle.zeb_register.specs.RunChanges.{IsRunRefusedAs, IsUnitAmong, LacksLeave, PutsKeys, TurnsAny, TurnsKey}
-use Rattle.zeb_register.specs.UnitChanges.{AllowsChanges, IsStorableChange, IsTouched, KeyUnits}
-use Rattle.zeb_register.specs.declared.faults.RegFault.{RegFault}
-use Rattle.zeb_register.specs.declared.registers.KeyChanges.{KeyChanges}
-use Rattle.zeb_register.specs.declared.registers.RecordChange.{RecordChange}
 use Rattle.zeb_leaves.proofs.BlockTurns.{Turns, over, over_in, over_out, turns_beside, turns_over, turns_parted, turns_then}
 use Rattle.zeb_leaves.proofs.PiecesInTurn.{block_touched, touch_apart}
-use Rattle.zeb_leaves.specs.PrivatePieces.{ArePieces, ArePiecesOf, IsPiece, PartsRun, all_changes, block_of, piece_cmp}
 
 -- ---- parts of pieces
 

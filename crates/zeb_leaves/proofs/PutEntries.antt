@@ -1,17 +1,7 @@
 -- Leaves that were cut have the entries, one behind the other, from any key on that the first one is given; and none of them is empty.
-use Rattle.zeb_leaves.proofs.Cited.{Row, Trees, State, Has, has_mapped, mapped_has, ◌≡◌, ◌⊎◌, ◌∙◌, ◌≤◌, ◌++◌, ◌∷◌, ℕ, pos, List, [], length, map, refl, sym, ap, subst, inl, inr, arith, AllByRecursion, Entry, IsLeaf, blocks_tree, leaf_key}
-use Rattle.std.proofs.Common.{Bool, IsUtf8}
+use Rattle.zeb_leaves.proofs.Cited.{Row, Trees, State, Has, has_mapped, mapped_has, ◌≡◌, ◌⊎◌, ◌∙◌, ◌≤◌, ◌++◌, ◌∷◌, ℕ, pos, List, [], length, map, refl, sym, ap, subst, inl, inr, arith, AllByRecursion, Entry, IsLeaf, blocks_tree, leaf_key, Bool, IsUtf8, FULL_BYTES, NewLeaf, leaf_row, ArePartedFrom, IsPart, AreFilled, IfToldPuts, IfToldPutsEntries, IsFilled, IsNewRow, IsRowOfOne, PutsEntries, PutsLeaves, changes_so, register_columns, Changes, RegisterOf}
 use Rattle.std.proofs.lemmas.List.{append-nil}
 use Rattle.zeb_leaf.specs.Cuts.{AreCut, BeginsAt, IsCutOff}
-use Rattle.zeb_leaf.specs.declared.entries.TheConstants.{FULL_BYTES}
-use Rattle.zeb_leaf.specs.declared.parting.NewLeaf.{NewLeaf}
-use Rattle.zeb_leaf_rows.proofs.LeafShapes.{leaf_row}
-use Rattle.zeb_leaves.specs.LeafChanges.{ArePartedFrom, IsPart}
-use Rattle.zeb_leaves.specs.PrivateLeafWrites.{AreFilled, IfToldPuts, IfToldPutsEntries, IsFilled, IsNewRow, IsRowOfOne, PutsEntries, PutsLeaves}
-use Rattle.zeb_register.proofs.Calls.{changes_so}
-use Rattle.zeb_register.specs.PrivateKeyColumns.{register_columns}
-use Rattle.zeb_register.specs.Store.{Changes}
-use Rattle.zeb_register.specs.declared.registers.RegisterOf.{RegisterOf}
 
 -- a leaf, as its register shows it
 abbrev shown_leaf : NewLeaf → Row

@@ -1,9 +1,5 @@
 -- A leaf whose place others take: they cover what it covered, and each other key is covered as before.
-use Rattle.zeb_leaves.proofs.Cited.{Row, row_cmp, Has, ◌≡◌, ◌≢◌, ◌↔◌, ◌⊎◌, ◌∙◌, ◌∷◌, ℕ, List, [], refl, sym, ap, subst, inl, inr, false, Less, Greater, Posting, Entry, Covers, HasEntriesAt, IsUpTo, LacksEntriesAt, leaf_key, own_key, IsLeafAlone, IsPartMalformed, PartReads, SayPart, IsAt}
-use Rattle.std.proofs.Common.{nat_cmp}
-use Rattle.std.specs.Cmp.Lexicographic.{slice_cmp}
-use Rattle.std.specs.Ordering.{is_lt}
-use Rattle.zeb_leaves.specs.LeafChanges.{AreDistinct, ArePartedFrom, BeginsLeaves, ReplacesLeaf}
+use Rattle.zeb_leaves.proofs.Cited.{Row, row_cmp, Has, ◌≡◌, ◌≢◌, ◌↔◌, ◌⊎◌, ◌∙◌, ◌∷◌, ℕ, List, [], refl, sym, ap, subst, inl, inr, false, Less, Greater, Posting, Entry, Covers, HasEntriesAt, IsUpTo, LacksEntriesAt, leaf_key, own_key, IsLeafAlone, IsPartMalformed, PartReads, SayPart, IsAt, nat_cmp, slice_cmp, is_lt, AreDistinct, ArePartedFrom, BeginsLeaves, ReplacesLeaf}
 use Rattle.zeb_leaves.proofs.OneCover.{entries_at, same_key, up_to_then}
 use Rattle.zeb_leaves.proofs.PartedLeaves.{Found, From, find, key_at, less_is_up, owns, parts_from, parts_keys}
 use Rattle.zeb_leaves.proofs.SpanRuns.{below_or, flipped_back, from_term, up_itself}

@@ -1,12 +1,7 @@
 -- What the entries of a term say, as its units.
-use Rattle.zeb_leaves.proofs.Cited.{Row, Trees, Has, all_has, has_either, has_left, has_right, ◌≡◌, ◌≢◌, ◌∙◌, ◌/◌, ◌<◌, ◌≤◌, ◌∷◌, ℕ, ℤ, List, [], map, refl, sym, ap, subst, inl, inr, arith, Less, Equal, nat_cmp, nat_list_cmp_total, slice_cmp, ordering_then, tied_itself, Key, Posting, Entry, entry_cmp, some_posting, is_less, in_part, part_in_block, part_in_list, part_in, joined_rises, kept_rises, same_list, nat_eq, posting_total, posting_cmp, own_part, place_of, Covers, HasEntriesAt, leaf_key, IsAt, IsEntryOf, IsLeafOf, LeavesReadBlock, PartReads, SaysPart}
+use Rattle.zeb_leaves.proofs.Cited.{Row, Trees, Has, all_has, has_either, has_left, has_right, ◌≡◌, ◌≢◌, ◌∙◌, ◌/◌, ◌<◌, ◌≤◌, ◌∷◌, ℕ, ℤ, List, [], map, refl, sym, ap, subst, inl, inr, arith, Less, Equal, nat_cmp, nat_list_cmp_total, slice_cmp, ordering_then, tied_itself, Key, Posting, Entry, entry_cmp, some_posting, is_less, in_part, part_in_block, part_in_list, part_in, joined_rises, kept_rises, same_list, nat_eq, posting_total, posting_cmp, own_part, place_of, Covers, HasEntriesAt, leaf_key, IsAt, IsEntryOf, IsLeafOf, LeavesReadBlock, PartReads, SaysPart, SayParts, one_said, one_shown, leaf_there, one_entry, packed_leaves, ListsUnits}
 use Rattle.std.specs.List.Sorted.{IsStrictlySortedBy}
-use Rattle.zeb_register.proofs.LeafReadings.{one_said, one_shown}
-use Rattle.zeb_register.proofs.LeafSums.{leaf_there, one_entry}
 use Rattle.zeb_leaves.proofs.TermEntries.{HasOwn}
-use Rattle.zeb_leaves.specs.KeyReads.{SayParts}
-use Rattle.zeb_register.specs.Units.{ListsUnits}
-use Rattle.zeb_register.specs.Formats.{packed_leaves}
 use Rattle.zeb_register.proofs.PackedLists.{posting_lower}
 
 -- a posting that an entry says lies in its block

@@ -1,9 +1,7 @@
 -- Entries, and what they say, one entry more.
-use Rattle.zeb_leaves.proofs.Cited.{◌≡◌, ◌∙◌, ◌<◌, ◌+◌, ◌++◌, ◌∷◌, ℕ, List, [], length, refl, sym, ap, subst, Posting}
-use Rattle.std.proofs.Common.{get_or, take}
+use Rattle.zeb_leaves.proofs.Cited.{◌≡◌, ◌∙◌, ◌<◌, ◌+◌, ◌++◌, ◌∷◌, ℕ, List, [], length, refl, sym, ap, subst, Posting, get_or, take, SayAll, Says}
 use Rattle.std.proofs.lemmas.List.{append_assoc, append-nil, take_more}
 use Rattle.zeb_leaf.specs.declared.entries.Held.{Held}
-use Rattle.zeb_leaves.specs.PrivateSaid.{SayAll, Says}
 
 said_behind : (held : List Held) (one : Held) (list part : List Posting) → SayAll held list → Says one part → SayAll (held ++ one ∷ []) (list ++ part)
 said_behind [] one list part none says = (part, [], says, refl, ap (λ l. l ++ part) none ∙ sym (append-nil part))

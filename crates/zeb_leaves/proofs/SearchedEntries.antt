@@ -1,13 +1,6 @@
 -- What a binary search by a key finds among rising entries.
-use Rattle.zeb_leaves.proofs.Cited.{Has, ◌≡◌, ◌∙◌, ◌<◌, ◌≤◌, ◌∷◌, ℕ, zero, suc, List, [], length, refl, sym, ap, ap₂, subst, inl, inr, arith, Ordering, Less, Equal, Greater, nat_cmp, nat_cmp_total, nat_list_cmp_total, slice_cmp, ordering_reverse, ordering_then, tied_itself, numbers_apart, all_has, Entry, IsAt, entry_cmp}
-use Rattle.std.proofs.Common.{get_or}
-use Rattle.std.proofs.lemmas.Bool.{cases_lt}
+use Rattle.zeb_leaves.proofs.Cited.{Has, ◌≡◌, ◌∙◌, ◌<◌, ◌≤◌, ◌∷◌, ℕ, zero, suc, List, [], length, refl, sym, ap, ap₂, subst, inl, inr, arith, Ordering, Less, Equal, Greater, nat_cmp, nat_cmp_total, nat_list_cmp_total, slice_cmp, ordering_reverse, ordering_then, tied_itself, numbers_apart, all_has, Entry, IsAt, entry_cmp, get_or, cases_lt, ordering_index, texts_apart, key_cmp, has_get, entries_total}
 use Rattle.std.specs.List.Sorted.{IsNonDecreasingBy, IsPartitionPoint, IsStrictlySortedBy}
-use Rattle.std.specs.Ordering.{ordering_index}
-use Rattle.zeb_keys.proofs.Rising.{texts_apart}
-use Rattle.zeb_leaf.specs.Spans.{key_cmp}
-use Rattle.zeb_register.proofs.ContentLemmas.{has_get}
-use Rattle.zeb_register.proofs.LeafReadings.{entries_total}
 
 module _ (term : List ℕ) (block : ℕ) where
   -- how an entry lies to the key

@@ -1,8 +1,6 @@
 -- The size of a leaf, by its bytes and by its entries.
-use Rattle.zeb_leaves.proofs.Cited.{Row, column, Blob, Has, ◌≡◌, ◌∙◌, ◌≤◌, ℕ, ℤ, List, length, sym, ap, subst, inl, inr, arith, Trees, Entry, Key, Content, Covers, HoldsLeaves, IsLeafAlone, IsLeafOf, ShowsEntries, leaf_bytes, leaf_key}
-use Rattle.zeb_leaf.specs.declared.entries.TheConstants.{LEAF_BYTES}
+use Rattle.zeb_leaves.proofs.Cited.{Row, column, Blob, Has, ◌≡◌, ◌∙◌, ◌≤◌, ℕ, ℤ, List, length, sym, ap, subst, inl, inr, arith, Trees, Entry, Key, Content, Covers, HoldsLeaves, IsLeafAlone, IsLeafOf, ShowsEntries, leaf_bytes, leaf_key, LEAF_BYTES, one_shown}
 use Rattle.zeb_leaves.specs.LeafSizes.{IsSmall}
-use Rattle.zeb_register.proofs.LeafReadings.{one_shown}
 
 -- a leaf with entries has the bytes of these
 size_of : (leaf : Row) (bytes : List ℕ) (entries : List Entry) → column leaf 2 ≡ Blob bytes → ShowsEntries leaf entries → 2 ≤ length entries → length bytes ≡ length (leaf_bytes entries)

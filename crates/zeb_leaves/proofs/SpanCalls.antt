@@ -1,13 +1,7 @@
 -- What calls that read neighbouring terms answer, by the leaves that they found.
-use Rattle.zeb_leaves.proofs.Cited.{Row, column, row_cmp, Has, Int, Text, ◌≡◌, ◌≢◌, ◌↔◌, ◌∙◌, ◌<◌, ◌+◌, ◌++◌, ◌∷◌, ℕ, pos, false, true, List, [], Ok, Err, Result, Some, drop, length, refl, sym, ap, subst, inl, inr, arith, Ordering, Less, Equal, Greater, nat_cmp, nat_list_cmp_total, slice_cmp, ordering_reverse, value_cmp-Text, Posting, Entry, State, Covers, IsLeafAt, IsLeafIn, IsStore, IsUncovered, leaf_key, own_key}
-use Rattle.std.proofs.Common.{get_or}
-use Rattle.std.proofs.lemmas.List.{drop_more}
+use Rattle.zeb_leaves.proofs.Cited.{Row, column, row_cmp, Has, Int, Text, ◌≡◌, ◌≢◌, ◌↔◌, ◌∙◌, ◌<◌, ◌+◌, ◌++◌, ◌∷◌, ℕ, pos, false, true, List, [], Ok, Err, Result, Some, drop, length, refl, sym, ap, subst, inl, inr, arith, Ordering, Less, Equal, Greater, nat_cmp, nat_list_cmp_total, slice_cmp, ordering_reverse, value_cmp-Text, Posting, Entry, State, Covers, IsLeafAt, IsLeafIn, IsStore, IsUncovered, leaf_key, own_key, Database, value_cmp, get_or, drop_more, is_lt, IfOk, Vec, IsOnlyLeaf, IsRowBetween, AreEntriesBetween, SayParts, SayAll, SomeSaysNone, AreSpanLeaves, IsSpanLeaf, ShowAllSpans, ShowSpans, ShowsKey, ShowsSpan, SomeShowsNoKey, up_to, list_so, Answers, IfDamaged, IfRefused, IsBetween, MayRefuse, packed_leaves, IsListOf, HasMalformedBetween, ListsBetween, RegFault, Damaged, Store, RegisterOf}
 use Rattle.std.specs.List.Sorted.{IsStrictlySortedBy}
-use Rattle.std.specs.Ordering.{is_lt}
-use Rattle.std.specs.Prelude.{IfOk, Vec}
 use Rattle.std.specs.declared.alloc.Global.{Global}
-use Rattle.sqlite.specs.Effect.{Database}
-use Rattle.sqlite.specs.Order.{value_cmp}
 use Rattle.zeb_leaf.specs.declared.entries.Held.{Held}
 use Rattle.zeb_leaf_rows.proofs.CoveringLeaves.{Leaves, from_leaf, leaf_from, leaf_shape, shape_from}
 use Rattle.zeb_leaves.proofs.SpanEntries.{HeldIn, all_spans}
@@ -15,21 +9,6 @@ use Rattle.zeb_leaves.proofs.SpanLists.{said_of_held, span_listed, span_unsaid}
 use Rattle.zeb_leaves.proofs.SpanRuns.{last_up}
 use Rattle.zeb_leaves.proofs.OneLeaf.{one_leaf}
 use Rattle.zeb_leaves.proofs.OneCover.{covers_itself}
-use Rattle.zeb_register.specs.Units.{HasMalformedBetween, ListsBetween}
-use Rattle.zeb_register.specs.Formats.{packed_leaves}
-use Rattle.zeb_leaves.specs.KeyReads.{AreEntriesBetween, SayParts}
-use Rattle.zeb_leaves.specs.PrivateSaid.{SayAll, SomeSaysNone}
-use Rattle.zeb_leaf_rows.specs.LeafRows.{IsOnlyLeaf, IsRowBetween}
-use Rattle.zeb_leaves.specs.PrivateSpans.{AreSpanLeaves, IsSpanLeaf, ShowAllSpans, ShowSpans, ShowsKey, ShowsSpan, SomeShowsNoKey}
-use Rattle.zeb_register.proofs.BetweenLemmas.{up_to}
-use Rattle.zeb_register.proofs.Selects.{list_so}
-use Rattle.zeb_register.specs.Answers.{Answers, IfDamaged, IfRefused}
-use Rattle.zeb_register.specs.Between.{IsBetween}
-use Rattle.zeb_register.specs.Calls.{MayRefuse}
-use Rattle.zeb_register.specs.Sql.{IsListOf}
-use Rattle.zeb_register.specs.declared.faults.RegFault.{RegFault}
-use Rattle.zeb_register.specs.declared.faults.RegFault.TheVariants.{Damaged, Store}
-use Rattle.zeb_register.specs.declared.registers.RegisterOf.{RegisterOf}
 
 -- what a row has up to the own key of the next one, and what stands in the rows from there on
 pub span_step : (end first : List ℕ) (from : ℕ) (term : List ℕ) (block i : ℕ) (row next : Row) (rows : List Row) (among rest : List Held) → i < length rows → next ≡ get_or rows i next → ShowsKey next term block → ShowsSpan first from term block row among

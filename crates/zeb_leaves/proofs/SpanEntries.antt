@@ -1,19 +1,10 @@
 -- What the leaves of neighbouring terms have of these: their entries.
-use Rattle.zeb_leaves.proofs.Cited.{Row, row_cmp, Has, all_from, all_has, has_either, has_left, has_right, ◌≡◌, ◌≢◌, ◌↔◌, ◌⊎◌, ◌∙◌, ◌++◌, ◌∷◌, ℕ, false, List, [], refl, sym, ap, subst, inl, inr, Less, Greater, nat_cmp, slice_cmp, ordering_then, Entry, entry_cmp, joined_rises, Covers, HasEntriesAt, IsEntryOf, ShowsEntries, leaf_key, own_key}
-use Rattle.std.specs.Ordering.{is_lt}
+use Rattle.zeb_leaves.proofs.Cited.{Row, row_cmp, Has, all_from, all_has, has_either, has_left, has_right, ◌≡◌, ◌≢◌, ◌↔◌, ◌⊎◌, ◌∙◌, ◌++◌, ◌∷◌, ℕ, false, List, [], refl, sym, ap, subst, inl, inr, Less, Greater, nat_cmp, slice_cmp, ordering_then, Entry, entry_cmp, joined_rises, Covers, HasEntriesAt, IsEntryOf, ShowsEntries, leaf_key, own_key, is_lt, entry_of, AreInSpan, IsInSpan, leaf_row, AreSpanLeaves, IsSpanLeaf, ShowAllSpans, ShowSpans, ShowsSpan, entries_total, one_shown, shown_rises, IsBetween, IsListOf}
 use Rattle.std.specs.List.Sorted.{IsStrictlySortedBy}
-use Rattle.zeb_leaf.specs.Spans.{AreInSpan, IsInSpan}
-use Rattle.zeb_leaf.specs.Answers.{entry_of}
 use Rattle.zeb_leaf.specs.declared.entries.Held.{Held}
 use Rattle.zeb_register.proofs.KeyOrder.{key_order}
-use Rattle.zeb_register.proofs.LeafReadings.{entries_total, one_shown}
-use Rattle.zeb_leaf_rows.proofs.LeafShapes.{leaf_row}
-use Rattle.zeb_register.proofs.LeafSums.{shown_rises}
 use Rattle.zeb_leaves.proofs.SpanRuns.{behind_listed, below_end, below_or, covers_key, end_above, first_is, first_least, flipped_back, from_term, last_up, less_up, not_less_up, term_from, term_up, up_itself, up_less, up_not_less}
 use Rattle.zeb_leaves.proofs.OneCover.{covers_itself, entries_at, one_cover, up_to_then}
-use Rattle.zeb_leaves.specs.PrivateSpans.{AreSpanLeaves, IsSpanLeaf, ShowAllSpans, ShowSpans, ShowsSpan}
-use Rattle.zeb_register.specs.Between.{IsBetween}
-use Rattle.zeb_register.specs.Sql.{IsListOf}
 
 -- ---- entries, and what is held of them beside their terms
 

@@ -1,21 +1,9 @@
 -- What the entries of neighbouring terms say, as the units of these terms.
-use Rattle.zeb_leaves.proofs.Cited.{Row, Trees, Has, ◌≡◌, ◌↔◌, ◌≤◌, ◌++◌, ◌∷◌, ℕ, true, false, List, [], filter, refl, sym, ap, ◌∙◌, subst, inl, inr, arith, Ordering, Less, Equal, Greater, nat_cmp, nat_list_cmp_total, slice_cmp, tied_itself, Key, Posting, Entry, kept_rises, IsEntryOf, IsLeafOf, SayPart, SaysPart, HasRecordOf, IsCount, BlockSpells, key_in}
-use Rattle.sqlite_rules.proofs.ListLemmas.{has_filtered, has_kept}
-use Rattle.std.proofs.Common.{Bool}
-use Rattle.std.specs.Ordering.{is_eq}
-use Rattle.zeb_leaf.specs.Answers.{entry_of}
+use Rattle.zeb_leaves.proofs.Cited.{Row, Trees, Has, ◌≡◌, ◌↔◌, ◌≤◌, ◌++◌, ◌∷◌, ℕ, true, false, List, [], filter, refl, sym, ap, ◌∙◌, subst, inl, inr, arith, Ordering, Less, Equal, Greater, nat_cmp, nat_list_cmp_total, slice_cmp, tied_itself, Key, Posting, Entry, kept_rises, IsEntryOf, IsLeafOf, SayPart, SaysPart, HasRecordOf, IsCount, BlockSpells, key_in, has_filtered, has_kept, Bool, is_eq, entry_of, SayParts, SayAll, SomeSaysNone, entries_total, same_bytes, IsBetween, packed_leaves, HasMalformedBetween, ListsBetween, RegisterOf}
 use Rattle.zeb_leaf.specs.declared.entries.Held.{Held}
-use Rattle.zeb_register.proofs.LeafReadings.{entries_total}
 use Rattle.zeb_leaves.proofs.SaidLists.{list_of_parts, part_of, posting_in, posting_of}
 use Rattle.zeb_leaves.proofs.SpanEntries.{AreHeld, HasOwnIn, HeldIn}
 use Rattle.zeb_leaves.proofs.TermEntries.{HasOwn}
-use Rattle.zeb_register.specs.Units.{HasMalformedBetween, ListsBetween}
-use Rattle.zeb_register.specs.Formats.{packed_leaves}
-use Rattle.zeb_leaves.specs.KeyReads.{SayParts}
-use Rattle.zeb_leaves.specs.PrivateSaid.{SayAll, SomeSaysNone}
-use Rattle.zeb_register.proofs.RowLemmas.{same_bytes}
-use Rattle.zeb_register.specs.Between.{IsBetween}
-use Rattle.zeb_register.specs.declared.registers.RegisterOf.{RegisterOf}
 
 equal_is : (o : Ordering) → is_eq o ≡ true → o ≡ Equal
 equal_is Less is = let e : false ≡ true = is in absurd (cc)

@@ -1,15 +1,8 @@
 -- The leaves that cover the blocks of neighbouring terms, one behind the other.
-use Rattle.zeb_leaves.proofs.Cited.{Row, row_cmp, row_cmp_total, Has, all_has, Int, Text, Blob, ◌≡◌, ◌≢◌, ◌⊎◌, ◌∙◌, ◌++◌, ◌∷◌, ℕ, pos, false, true, List, [], refl, sym, ap, subst, inl, inr, arith, Ordering, Less, Equal, Greater, nat_cmp, nat_list_cmp_total, slice_cmp, ordering_then, ordering_reverse, tied_itself, less_is, never_itself, Covers, IsUpTo, leaf_key, own_key}
-use Rattle.std.proofs.Common.{zero, suc}
-use Rattle.std.specs.Ordering.{is_lt}
+use Rattle.zeb_leaves.proofs.Cited.{Row, row_cmp, row_cmp_total, Has, all_has, Int, Text, Blob, ◌≡◌, ◌≢◌, ◌⊎◌, ◌∙◌, ◌++◌, ◌∷◌, ℕ, pos, false, true, List, [], refl, sym, ap, subst, inl, inr, arith, Ordering, Less, Equal, Greater, nat_cmp, nat_list_cmp_total, slice_cmp, ordering_then, ordering_reverse, tied_itself, less_is, never_itself, Covers, IsUpTo, leaf_key, own_key, value_cmp, zero, suc, is_lt, leaf_row, IsSpanLeaf, up_to, IsListOf}
 use Rattle.std.specs.List.Sorted.{IsStrictlySortedBy}
-use Rattle.sqlite.specs.Order.{value_cmp}
 use Rattle.zeb_register.proofs.KeyOrder.{greater_is, key_order}
-use Rattle.zeb_leaf_rows.proofs.LeafShapes.{leaf_row}
 use Rattle.zeb_leaves.proofs.OneCover.{same_key, up_to_then}
-use Rattle.zeb_leaves.specs.PrivateSpans.{IsSpanLeaf}
-use Rattle.zeb_register.proofs.BetweenLemmas.{up_to}
-use Rattle.zeb_register.specs.Sql.{IsListOf}
 
 -- ---- the order of rows
 

@@ -1,29 +1,13 @@
 -- What rising entries say, place by place, term by term.
-use Rattle.zeb_leaves.proofs.Cited.{Row, Trees, Has, all_has, has_either, has_left, has_right, has_mapped, mapped_has, ◌≡◌, ◌↔◌, ◌∙◌, ◌+◌, ◌<◌, ◌++◌, ◌∷◌, ℕ, List, [], length, length-append, length-map, map, refl, sym, ap, ap₂, subst, inl, inr, arith, Ordering, Less, Equal, Greater, nat_cmp, nat_list_cmp_total, slice_cmp, ordering_then, tied_itself, Entry, Posting, Place, TermCount, entry_cmp, joined_rises, posting_cmp, places_in, State, IsEntryOf, IsLeafIn, IsStore, SaysPart, key_in, place_in, same_list}
-use Rattle.std.proofs.Common.{get_or, take}
-use Rattle.std.proofs.lemmas.List.{take_more}
+use Rattle.zeb_leaves.proofs.Cited.{Row, Trees, Has, all_has, has_either, has_left, has_right, has_mapped, mapped_has, ◌≡◌, ◌↔◌, ◌∙◌, ◌+◌, ◌<◌, ◌++◌, ◌∷◌, ℕ, List, [], length, length-append, length-map, map, refl, sym, ap, ap₂, subst, inl, inr, arith, Ordering, Less, Equal, Greater, nat_cmp, nat_list_cmp_total, slice_cmp, ordering_then, tied_itself, Entry, Posting, Place, TermCount, entry_cmp, joined_rises, posting_cmp, places_in, State, IsEntryOf, IsLeafIn, IsStore, SaysPart, key_in, place_in, same_list, get_or, take, take_more, SayParts, AreLeavesFrom, CountAll, HideAllOwns, IsNoText, SayMany, SaysNone, ShowAllOwns, placed_at, one_unit, entries_total, one_said, spot_total, same_bytes, strictly_mapped, posting_at, packed_leaves, Spot, capped, spot_cmp, HidesSums, ListsAll, SumsUp, ListsUnits, RegisterOf}
 use Rattle.std.specs.List.Sorted.{IsStrictlySortedBy}
 use Rattle.zeb_leaves.proofs.CountedTerms.{Counted, all_counted}
-use Rattle.zeb_register.proofs.LeafContents.{one_unit}
-use Rattle.zeb_register.proofs.LeafReadings.{entries_total, one_said}
 use Rattle.zeb_leaves.proofs.SaidLists.{list_of_parts, lower_block, near, posting_in, posting_of}
 use Rattle.zeb_leaves.proofs.SpanEntries.{HasOwnIn}
 use Rattle.zeb_leaves.proofs.SpanLists.{all_parts, its, its_has, own_term}
 use Rattle.zeb_leaves.proofs.TermsTold.{Own, all_listed, all_own, entry_counts, from_least, hidden_term, lacks_hides, some_hidden}
 use Rattle.zeb_leaves.proofs.OwnLeaves.{FromText, IsHidden}
-use Rattle.zeb_register.specs.Units.{ListsUnits}
-use Rattle.zeb_register.specs.Formats.{packed_leaves}
-use Rattle.zeb_leaves.specs.KeyReads.{SayParts}
-use Rattle.zeb_leaves.specs.PrivateTermReads.{AreLeavesFrom, CountAll, HideAllOwns, IsNoText, SayMany, SaysNone, ShowAllOwns}
-use Rattle.zeb_register.specs.Terms.{HidesSums, ListsAll, SumsUp}
-use Rattle.zeb_register.proofs.KeyPlaces.{placed_at}
-use Rattle.zeb_register.proofs.OccurringLemmas.{spot_total}
 use Rattle.zeb_register.proofs.PackedLists.{posting_lower}
-use Rattle.zeb_register.proofs.RowLemmas.{same_bytes}
-use Rattle.zeb_register.proofs.Scans.{strictly_mapped}
-use Rattle.zeb_register.specs.Content.{posting_at}
-use Rattle.zeb_register.specs.Occurring.{Spot, capped, spot_cmp}
-use Rattle.zeb_register.specs.declared.registers.RegisterOf.{RegisterOf}
 use Rattle.zeb_register.specs.declared.registers.Totals.{Totals}
 
 -- ---- the places of one term

@@ -1,9 +1,5 @@
 -- What rows have of the keys from a text on, row by row.
-use Rattle.zeb_leaves.proofs.Cited.{Row, ◌≡◌, ◌⊎◌, ◌∙◌, ◌+◌, ◌<◌, ◌++◌, ◌∷◌, ℕ, List, Some, drop, length, refl, sym, ap, subst, inl, inr, Entry}
-use Rattle.std.proofs.Common.{get_or}
-use Rattle.std.proofs.lemmas.List.{drop_more}
-use Rattle.zeb_leaves.specs.PrivateSpans.{ShowsKey}
-use Rattle.zeb_leaves.specs.PrivateTermReads.{HideOwns, HidesOwn, ShowOwns, ShowsOwn}
+use Rattle.zeb_leaves.proofs.Cited.{Row, ◌≡◌, ◌⊎◌, ◌∙◌, ◌+◌, ◌<◌, ◌++◌, ◌∷◌, ℕ, List, Some, drop, length, refl, sym, ap, subst, inl, inr, Entry, get_or, drop_more, ShowsKey, HideOwns, HidesOwn, ShowOwns, ShowsOwn}
 
 module _ (first : List ℕ) (from i : ℕ) (row next : Row) (rows : List Row) (within : i < length rows) (is : next ≡ get_or rows i next) where
   here : drop i rows ≡ next ∷ drop (i + 1) rows

@@ -1,7 +1,6 @@
 -- The entries of a term's blocks, and their sum.
-use Rattle.zeb_leaves.proofs.Cited.{Row, Has, all_has, ◌≡◌, ◌↔◌, ◌≤◌, ℕ, List, subst, inl, inr, arith, sum_by, Entry, entry_cmp, HasEntriesAt, IsEntryOf, ShowsEntries, SumsRecords, leaf_key}
+use Rattle.zeb_leaves.proofs.Cited.{Row, Has, all_has, ◌≡◌, ◌↔◌, ◌≤◌, ℕ, List, subst, inl, inr, arith, sum_by, Entry, entry_cmp, HasEntriesAt, IsEntryOf, ShowsEntries, SumsRecords, leaf_key, IsEntry}
 use Rattle.std.specs.List.Sorted.{IsStrictlySortedBy}
-use Rattle.zeb_leaf.specs.Order.{IsEntry}
 
 -- an entry that a row shows is one
 pub shown_entry : (row : Row) (entries : List Entry) → ShowsEntries row entries → (e : Entry) → Has entries e → IsEntry e

@@ -1,28 +1,13 @@
 -- What calls that list the terms of a register answer, by the leaves that they found.
-use Rattle.zeb_leaves.proofs.Cited.{Row, column, Has, Trees, Text, ◌≡◌, ◌≢◌, ◌↔◌, ◌∙◌, ◌≤◌, ◌∷◌, ℕ, false, List, [], Ok, Err, Result, Some, refl, sym, ap, subst, inl, inr, arith, nat_cmp, slice_cmp, sum_by, value_cmp-Text, Entry, State, TermCount, IsEntryOf, IsLeafAt, IsLeafIn, IsLeafOf, IsStore, IsUncovered, LacksEntriesAt, SumsRecords, key_in, leaf_key, own_key}
-use Rattle.std.proofs.lemmas.List.Sums.{sum_by-cons}
-use Rattle.std.specs.Ordering.{is_lt}
-use Rattle.std.specs.Prelude.{IfOk, Vec}
+use Rattle.zeb_leaves.proofs.Cited.{Row, column, Has, Trees, Text, ◌≡◌, ◌≢◌, ◌↔◌, ◌∙◌, ◌≤◌, ◌∷◌, ℕ, false, List, [], Ok, Err, Result, Some, refl, sym, ap, subst, inl, inr, arith, nat_cmp, slice_cmp, sum_by, value_cmp-Text, Entry, State, TermCount, IsEntryOf, IsLeafAt, IsLeafIn, IsLeafOf, IsStore, IsUncovered, LacksEntriesAt, SumsRecords, key_in, leaf_key, own_key, Database, value_cmp, sum_by-cons, is_lt, IfOk, Vec, AreLeavesFrom, CountAll, HideAllOwns, IsLeafFrom, IsNoText, IsRowFrom, ShowAllOwns, lacks_sum, list_so, Answers, IfDamaged, packed_leaves, IsListOf, HidesCount, HidesSome, ListsAll, ListsCounts, RegFault, Damaged, RegisterOf}
 use Rattle.std.specs.declared.alloc.Global.{Global}
-use Rattle.sqlite.specs.Effect.{Database}
-use Rattle.sqlite.specs.Order.{value_cmp}
 use Rattle.zeb_leaves.proofs.CountedTerms.{Counted, all_counted, none_there}
 use Rattle.zeb_leaf_rows.proofs.CoveringLeaves.{Leaves, from_leaf, leaf_from, leaf_shape, shape_from}
-use Rattle.zeb_register.proofs.LeafReadings.{lacks_sum}
 use Rattle.zeb_leaves.proofs.OneLeaf.{one_leaf}
 use Rattle.zeb_leaves.proofs.OwnLeaves.{FromText, IsHidden, all_hide, all_owns}
 use Rattle.zeb_leaves.proofs.SpanEntries.{HasOwnIn}
 use Rattle.zeb_leaves.proofs.SpanLists.{its, its_has, own_term}
 use Rattle.zeb_leaves.proofs.TermEntries.{own_summed, shown_entry}
-use Rattle.zeb_leaves.specs.PrivateTermReads.{AreLeavesFrom, CountAll, HideAllOwns, IsLeafFrom, IsNoText, IsRowFrom, ShowAllOwns}
-use Rattle.zeb_register.specs.Terms.{HidesCount, HidesSome, ListsAll, ListsCounts}
-use Rattle.zeb_register.specs.Formats.{packed_leaves}
-use Rattle.zeb_register.proofs.Selects.{list_so}
-use Rattle.zeb_register.specs.Answers.{Answers, IfDamaged}
-use Rattle.zeb_register.specs.Sql.{IsListOf}
-use Rattle.zeb_register.specs.declared.faults.RegFault.{RegFault}
-use Rattle.zeb_register.specs.declared.faults.RegFault.TheVariants.{Damaged}
-use Rattle.zeb_register.specs.declared.registers.RegisterOf.{RegisterOf}
 
 -- each text is from the empty one on
 pub from_least : (t : List ℕ) → is_lt (slice_cmp nat_cmp t []) ≡ false

@@ -1,24 +1,9 @@
 -- What entries say of a block before and after a piece is changed, and the changes of several pieces.
-use Rattle.std.specs.Prelude.{IsUtf8}
-use Rattle.zeb_leaves.proofs.Cited.{Has, all_has, ◌≡◌, ◌∙◌, ◌*◌, ◌/◌, ◌+◌, ◌<◌, ◌≤◌, ◌∷◌, ℕ, Option, Some, None, List, [], length, drop, refl, sym, ap, subst, inl, inr, arith, Less, nat_cmp, AllByRecursion, BlockSpells, LiesIn, Posting, eqb_tells, Entry, IsEntry, entry_cmp, IsAt, SayPart, SaysPart, HasRecordOf, IsCount, is_less, none_rises}
-use Rattle.std.proofs.Common.{get_or}
-use Rattle.std.proofs.lemmas.List.{drop_more}
+use Rattle.zeb_leaves.proofs.Cited.{Has, all_has, ◌≡◌, ◌∙◌, ◌*◌, ◌/◌, ◌+◌, ◌<◌, ◌≤◌, ◌∷◌, ℕ, Option, Some, None, List, [], length, drop, refl, sym, ap, subst, inl, inr, arith, Less, nat_cmp, AllByRecursion, BlockSpells, LiesIn, Posting, eqb_tells, Entry, IsEntry, entry_cmp, IsAt, SayPart, SaysPart, HasRecordOf, IsCount, is_less, none_rises, get_or, drop_more, IsUtf8, entry_with, BlockChange, HasPostings, IsPiece, LacksTurn, TurnAllEntries, TurnsEntries, block_of, Says, some_count, one_say, one_entry, packed_leaves, units_of, IsStorableChange, KeyUnits, TurnsPlaces, TurnsUnit, TurnsUnits, KeyChanges, RecordChange}
 use Rattle.std.specs.List.Sorted.{IsStrictlySortedBy}
 use Rattle.std.specs.Prelude.{◌^◌}
-use Rattle.zeb_leaf.specs.Merging.{entry_with}
 use Rattle.zeb_leaf.specs.declared.entries.Held.{Held}
-use Rattle.zeb_leaf.specs.declared.merging.BlockChange.{BlockChange}
 use Rattle.zeb_leaf.specs.declared.merging.NewBlock.{NewBlock}
-use Rattle.zeb_register.proofs.CountLemmas.{some_count}
-use Rattle.zeb_register.proofs.LeafReadings.{one_say}
-use Rattle.zeb_register.proofs.LeafSums.{one_entry}
-use Rattle.zeb_register.specs.Formats.{packed_leaves}
-use Rattle.zeb_register.specs.PrivateUnits.{units_of}
-use Rattle.zeb_register.specs.UnitChanges.{IsStorableChange, KeyUnits, TurnsPlaces, TurnsUnit, TurnsUnits}
-use Rattle.zeb_register.specs.declared.registers.KeyChanges.{KeyChanges}
-use Rattle.zeb_register.specs.declared.registers.RecordChange.{RecordChange}
-use Rattle.zeb_leaves.specs.PrivatePieces.{HasPostings, IsPiece, LacksTurn, TurnAllEntries, TurnsEntries, block_of}
-use Rattle.zeb_leaves.specs.PrivateSaid.{Says}
 
 -- ---- what entries say of a block
 

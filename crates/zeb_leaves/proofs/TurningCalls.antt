@@ -1,8 +1,6 @@
 -- A call that may write, behind one that read.
-use Rattle.zeb_leaves.proofs.Cited.{State, Ok, Err, Result, arith}
+use Rattle.zeb_leaves.proofs.Cited.{State, Ok, Err, Result, arith, goes_keeps, goes_then, reads_goes, quiet_then}
 use Rattle.std.proofs.Common.{IsTrue}
-use Rattle.zeb_register.proofs.Calls.{goes_keeps, goes_then, reads_goes}
-use Rattle.zeb_register.proofs.CallsInTurn.{quiet_then}
 use Rattle.zeb_register.specs.Calls.{GoesOn, Inside, OnlyReads}
 
 pub reads_then_goes : {A B E F : Type 0} (a b c : State) (x : A) (r : Result B F) → Inside {E = E} a b (Ok x) (λ _. OnlyReads) → Inside b c r (λ _ s t. IsTrue s.is_open → GoesOn s t) → Inside a c r (λ _. GoesOn)

@@ -1,27 +1,16 @@
 -- The rows of a database, read one at a time beside the postings that are left.
-use Rattle.zeb_leaves.proofs.Cited.{Row, State, state, Int, ◌≡◌, ◌↔◌, ◌++◌, ◌∷◌, ℕ, ℤ, pos, List, [], Option, Some, None, sym, subst, IsRest, IsStore, blocks_tree}
+use Rattle.zeb_leaves.proofs.Cited.{Row, State, state, Int, ◌≡◌, ◌↔◌, ◌++◌, ◌∷◌, ℕ, ℤ, pos, List, [], Option, Some, None, sym, subst, IsRest, IsStore, blocks_tree, Database, FailsToQuery, IsUnchanged, Shown, AreWalked, Leaf, TakeEntries, TakesLeaf, HasGiven, blocks_query, lists_blocks, refused, stopped, MayRefuse, IsListOf, KeyPosting, Store}
 use Rattle.std.proofs.Common.{Bool, true, false, append_assoc, append-nil}
 use Rattle.std.specs.Bool.{IsTrue}
-use Rattle.sqlite.specs.Effect.{Database}
 use Rattle.sqlite.specs.Held.{Held}
 use Rattle.sqlite.specs.declared.error.Error.{Error}
-use Rattle.sqlite.specs.State.{FailsToQuery, IsUnchanged, Shown}
-use Rattle.zeb_register.proofs.Cited.{HasGiven}
 use Rattle.sqlite_trees.specs.declared.store.Store as store
 use Rattle.zeb_leaves.proofs.AgreeingEnds.{taken_once}
 use Rattle.zeb_leaves.proofs.DatabaseRows.{one_leaf_shown}
-use Rattle.zeb_leaves.specs.PrivateAgreeing.{AreWalked, Leaf, TakeEntries, TakesLeaf}
 use Rattle.zeb_leaves.specs.declared.agreeing_walk.TheConstants.{LEAVES}
 use Rattle.zeb_register.proofs.Calls.{IsSilent, store_same}
-use Rattle.zeb_register.proofs.ExpectedStatements.{blocks_query, lists_blocks}
-use Rattle.zeb_register.proofs.Refusals.{refused}
-use Rattle.zeb_register.proofs.RowReads.{stopped}
 use Rattle.zeb_register.proofs.YesNoAnswers.{told_so}
-use Rattle.zeb_register.specs.Calls.{MayRefuse}
 use Rattle.zeb_register.specs.Faults.{fault_of}
-use Rattle.zeb_register.specs.Sql.{IsListOf}
-use Rattle.zeb_register.specs.declared.expected.KeyPosting.{KeyPosting}
-use Rattle.zeb_register.specs.declared.faults.RegFault.TheVariants.{Store}
 
 -- ---- the query
 

@@ -1,12 +1,9 @@
 -- What a walk over the rows of a database says of its leaves, and of the postings that they take.
-use Rattle.zeb_leaves.proofs.Cited.{Row, row_cmp, row_cmp_total, Has, all_has, has_either, has_left, has_right, has_mapped, mapped_has, ◌≡◌, ◌⊎◌, ◌∙◌, ◌∷◌, List, [], Option, Some, None, map, refl, sym, ap, ap₂, subst, inl, inr, Less, never_itself, Posting, Entry, SaysPart}
+use Rattle.zeb_leaves.proofs.Cited.{Row, row_cmp, row_cmp_total, Has, all_has, has_either, has_left, has_right, has_mapped, mapped_has, ◌≡◌, ◌⊎◌, ◌∙◌, ◌∷◌, List, [], Option, Some, None, map, refl, sym, ap, ap₂, subst, inl, inr, Less, never_itself, Posting, Entry, SaysPart, Key, with_key, KeyPosting}
 use Rattle.std.specs.List.Sorted.{IsStrictlySortedBy}
 use Rattle.zeb_leaves.proofs.DatabaseRows.{leaves_between, leaves_up, one_leaf_shown}
 use Rattle.zeb_leaves.proofs.SpanRuns.{less_up}
 use Rattle.zeb_leaves.specs.PrivateAgreeing.{AreWalked, Follows, IsBeside, IsFirst, IsWhole, Leaf, ShowsLeaf, TakeEntries, entry_key, key_of, own_of}
-use Rattle.zeb_keys.specs.declared.keys.Key.{Key}
-use Rattle.zeb_register.specs.PrivateRowExpected.{with_key}
-use Rattle.zeb_register.specs.declared.expected.KeyPosting.{KeyPosting}
 
 -- ---- entries that take postings
 

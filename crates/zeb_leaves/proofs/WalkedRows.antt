@@ -1,18 +1,9 @@
 -- Walks over the bytes of a row: which entries it has, and how they are counted one by one.
-use Rattle.zeb_leaves.proofs.Cited.{Row, column, Blob, ◌≡◌, ◌≢◌, ◌∙◌, ◌++◌, ◌∷◌, ℕ, true, false, List, [], Ok, Err, Result, filter, refl, sym, ap, subst, inl, inr, arith, Ordering, Less, Equal, Greater, Entry, ShowsEntries, TermCount, first_place}
+use Rattle.zeb_leaves.proofs.Cited.{Row, column, Blob, ◌≡◌, ◌≢◌, ◌∙◌, ◌++◌, ◌∷◌, ℕ, true, false, List, [], Ok, Err, Result, filter, refl, sym, ap, subst, inl, inr, arith, Ordering, Less, Equal, Greater, Entry, ShowsEntries, TermCount, first_place, filter-append, is_lt, Reaches, Spells, reaches_end, reaches_stuck, key_cmp, AreEnough, CountUntil, CountsRow, HidesRow, ShowsNone, AreEntries, CountsIn, End, ShowsOwn, is_own, Answers, IfRowDamaged, HasTextTerm}
 use Rattle.std.proofs.Common.{Bool, Global, Vec, cond, not}
-use Rattle.std.specs.Ordering.{is_lt}
-use Rattle.std.proofs.lemmas.List.Elements.{filter-append}
 use Rattle.zeb_leaf.proofs.Behind.{past_behind, still_past}
-use Rattle.zeb_leaf.proofs.Walked.{Reaches, Spells, reaches_end, reaches_stuck}
 use Rattle.zeb_leaf.specs.Leaves.{entries_bytes}
-use Rattle.zeb_leaf.specs.Spans.{key_cmp}
 use Rattle.zeb_leaf.specs.Walks.{Follows, IsStuck, Place, Steps, Walk}
-use Rattle.zeb_leaves.specs.PrivateSpans.{ShowsNone}
-use Rattle.zeb_leaves.specs.PrivateNearTerms.{AreEnough, CountUntil, CountsRow, HidesRow}
-use Rattle.zeb_leaves.specs.PrivateTermReads.{AreEntries, CountsIn, End, ShowsOwn, is_own}
-use Rattle.zeb_register.specs.Answers.{Answers, IfRowDamaged}
-use Rattle.zeb_register.specs.Covering.{HasTextTerm}
 use Rattle.zeb_register.specs.declared.faults.RowFault.{RowFault}
 
 -- ---- the entries of bytes

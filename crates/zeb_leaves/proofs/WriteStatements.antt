@@ -1,22 +1,14 @@
 -- The statements that write leaves, each with what it is compiled to.
-use Rattle.zeb_leaves.proofs.Cited.{arith, ◌≡◌, ◌∙◌, ◌∷◌, ℕ, ℤ, List, [], Ok, drop, refl, sym, ap, ap₂, inl, inr, Blob, Int, Null, Text, Row, State, IsStore, blocks_tree, store_schema}
+use Rattle.zeb_leaves.proofs.Cited.{arith, ◌≡◌, ◌∙◌, ◌∷◌, ℕ, ℤ, List, [], Ok, drop, refl, sym, ap, ap₂, inl, inr, Blob, Int, Null, Text, Row, State, IsStore, blocks_tree, store_schema, Executes, Term, col, lit, blocks, blocks_static, Condition, alone, equals, no_limit, reading, IsNumberedRow, Gains, Renews, Changes, HasMoreLeaves}
 use Rattle.sqlite.proofs.Callers.{IsPlain, command_of}
 use Rattle.sqlite.specs.Command.TheVariants.{Insert, Update}
 use Rattle.sqlite.specs.Listing.{understood}
 use Rattle.sqlite.specs.Source.TheVariants.{Values}
-use Rattle.sqlite.specs.State.{Executes}
-use Rattle.sqlite.specs.Term.{Term, col, lit}
 use Rattle.sqlite.specs.declared.types.Value.{Value}
 use Rattle.sqlite_tied.specs.Compute.{everything}
 use Rattle.zeb_leaves.specs.declared.writes.TheConstants.{ADD, SET}
-use Rattle.zeb_register.proofs.PostingStatements.{blocks, blocks_static}
 use Rattle.zeb_register.proofs.RowCounts.{gained_longer, remade_as_many}
-use Rattle.zeb_register.proofs.StatementForms.{Condition, alone, equals, no_limit, reading}
 use Rattle.zeb_register.proofs.Writes.{RemakesRows, changed_so, gains, inserts, updates}
-use Rattle.zeb_register.specs.PrivateKeyColumns.{IsNumberedRow}
-use Rattle.zeb_register.specs.PrivateRowStatements.{Gains, Renews}
-use Rattle.zeb_register.specs.Store.{Changes}
-use Rattle.zeb_register.specs.Tallies.{HasMoreLeaves}
 
 abbrev pub six : ℤ → ℤ → ℤ → List ℕ → ℤ → List ℕ → Row
 six db idx reg term block bytes = Int db ∷ Int idx ∷ Int reg ∷ Text term ∷ Int block ∷ Blob bytes ∷ []

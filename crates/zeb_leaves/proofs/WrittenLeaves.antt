@@ -1,14 +1,5 @@
 -- What is written of leaves: one row in the place of another, and then one row more after the other.
-use Rattle.zeb_leaves.proofs.Cited.{Row, Trees, State, has_either, has_left, has_right, ◌≡◌, ◌⊎◌, ◌∙◌, ◌+◌, ◌<◌, ◌++◌, ◌∷◌, ℕ, ℤ, true, false, List, [], length, refl, sym, ap, subst, inl, inr, blocks_tree}
-use Rattle.std.proofs.Common.{Bool, get_or, take}
-use Rattle.std.proofs.lemmas.List.{take_more}
-use Rattle.zeb_leaf.specs.declared.parting.NewLeaf.{NewLeaf}
-use Rattle.zeb_leaves.specs.PrivateLeafWrites.{GainsLeaves, IfToldPuts, IsLeafWith, IsNewRow, leaf_columns, new_row}
-use Rattle.zeb_register.proofs.Calls.{alters_so, changes_then}
-use Rattle.zeb_register.specs.Calls.{Alters}
-use Rattle.zeb_register.specs.PrivateRowStatements.{Gains, Renews}
-use Rattle.zeb_register.specs.Store.{Changes}
-use Rattle.zeb_register.specs.declared.registers.RegisterOf.{RegisterOf}
+use Rattle.zeb_leaves.proofs.Cited.{Row, Trees, State, has_either, has_left, has_right, ◌≡◌, ◌⊎◌, ◌∙◌, ◌+◌, ◌<◌, ◌++◌, ◌∷◌, ℕ, ℤ, true, false, List, [], length, refl, sym, ap, subst, inl, inr, blocks_tree, Bool, get_or, take, take_more, NewLeaf, GainsLeaves, IfToldPuts, IsLeafWith, IsNewRow, leaf_columns, new_row, alters_so, changes_then, Alters, Gains, Renews, Changes, RegisterOf}
 
 module _ (at : RegisterOf) where
   -- ---- one leaf more

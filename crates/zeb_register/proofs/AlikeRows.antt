@@ -1,11 +1,6 @@
 -- Tables that have the same rows of one key, or leaves that say the same of it: its units read alike from both, and allow the same changes.
-use Rattle.zeb_register.proofs.Cited.{◌↔◌, ◌++◌, ◌/◌, ℕ, ℤ, List, [], ◌∷◌, sym, subst, Row, Trees, HasRow, Posting, Key, Place, RecordChange, Format, packed_blocks, packed_leaves, plain_rows, key_row, postings_tree, blocks_tree, dict_tree}
+use Rattle.zeb_register.proofs.Cited.{◌↔◌, ◌++◌, ◌/◌, ℕ, ℤ, List, [], ◌∷◌, sym, subst, Row, Trees, HasRow, Posting, Key, Place, RecordChange, Format, packed_blocks, packed_leaves, plain_rows, key_row, postings_tree, blocks_tree, dict_tree, LeavesRead, BlockReads, CountsAs, RowsRead, TurnsAny, counts_on, AllowsChanges, KeyUnits, LacksBlock, is_counted}
 use Rattle.zeb_register.proofs.Malformed.{key_begins}
-use Rattle.zeb_register.specs.LeafUnits.{LeavesRead}
-use Rattle.zeb_register.specs.PackedUnits.{BlockReads, CountsAs}
-use Rattle.zeb_register.specs.PlainUnits.{RowsRead}
-use Rattle.zeb_register.specs.RunChanges.{TurnsAny, counts_on}
-use Rattle.zeb_register.specs.UnitChanges.{AllowsChanges, KeyUnits, LacksBlock, is_counted}
 use Rattle.zeb_register.specs.Units.{reads_as}
 
 abbrev pub HasAlike : ℕ → ℤ → Key → Trees → Trees → Type 0

@@ -1,8 +1,7 @@
 -- What a call that answers by one clause is known to answer.
-use Rattle.zeb_register.proofs.Cited.{State, Trees, ◌≡◌, ◌∙◌, err_from_is_err_and, ap, sym, subst, Result, Ok, Err, RegFault, Damaged, Store, Content, IsReasoned}
+use Rattle.zeb_register.proofs.Cited.{State, Trees, ◌≡◌, ◌∙◌, err_from_is_err_and, ap, sym, subst, Result, Ok, Err, RegFault, Damaged, Store, Content, IsReasoned, OnStore, Tells, TellsHeld}
 use Rattle.std.specs.Result.{IsErrAnd}
 use Rattle.zeb_register.specs.Answers.{Answers, IfDamaged, TellsOr}
-use Rattle.zeb_register.specs.Clauses.{OnStore, Tells, TellsHeld}
 
 -- a call that is refused so answers so
 pub refused_so : {A E : Type 0} (Refused : E → Type 0) (Done : A → Type 0) (result : Result A E) (fault : E) → result ≡ Err fault → Refused fault → Answers Refused Done result

@@ -1,10 +1,5 @@
 -- The lists of neighbouring terms are told by their units. What a call that lists them says of tables that hold a content.
-use Rattle.zeb_register.proofs.Cited.{Row, State, Text, has_mapped, mapped_has, Has, ◌≡◌, ◌↔◌, ◌∙◌, ℕ, List, [], ◌∷◌, ◌++◌, drop, map, refl, sym, ap, ap₂, subst, inl, inr, Result, Ok, Err, Vec, Global, Key, Posting, RegFault, RegisterOf, IsBetween, IsRestBetween, three_behind, register_columns, key_in, posting_row, first_three, IsListOf, IsRest, IsStore, postings_tree, Format, plain_rows, holds_in, term_list}
-use Rattle.zeb_register.specs.Between.{IsPostingBetween}
-use Rattle.zeb_register.specs.Clauses.{TellsHeld}
-use Rattle.zeb_register.specs.PlainUnits.{ShowsNone}
-use Rattle.zeb_register.specs.PrivateBetweenRows.{SomeShowsNoneBehind}
-use Rattle.zeb_register.specs.Units.{HasMalformedBetween, ListsBetween, ListsTerms}
+use Rattle.zeb_register.proofs.Cited.{Row, State, Text, has_mapped, mapped_has, Has, ◌≡◌, ◌↔◌, ◌∙◌, ℕ, List, [], ◌∷◌, ◌++◌, drop, map, refl, sym, ap, ap₂, subst, inl, inr, Result, Ok, Err, Vec, Global, Key, Posting, RegFault, RegisterOf, IsBetween, IsRestBetween, three_behind, register_columns, key_in, posting_row, first_three, IsListOf, IsRest, IsStore, postings_tree, Format, plain_rows, holds_in, term_list, IsPostingBetween, TellsHeld, ShowsNone, SomeShowsNoneBehind, HasMalformedBetween, ListsBetween, ListsTerms}
 use Rattle.zeb_register.proofs.BetweenRows.{has_under, shown_row, under, under_has, under_listed}
 use Rattle.zeb_register.proofs.ContentLemmas.{same_posting}
 use Rattle.zeb_register.proofs.KeyLists.{held_listing, one_listing}

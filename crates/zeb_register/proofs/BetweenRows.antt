@@ -1,6 +1,5 @@
 -- Rows of the terms from one text to another, whatever they hold, parted by their terms.
-use Rattle.zeb_register.proofs.Cited.{arith, Row, column, row_cmp, value_cmp, Value, Trees, Null, Int, Real, Text, Blob, has_filtered, has_kept, has_mapped, mapped_has, Has, row_cmp_total, value_cmp_total, value_cmp-Text, ◌≡◌, ◌≢◌, ◌∙◌, ℕ, Bool, true, false, List, [], ◌∷◌, ◌++◌, drop, filter, map, refl, sym, ap, ap₂, subst, Less, nat_cmp, is_eq, is_lt, slice_cmp, nat_list_cmp_total, tied_itself, ordering_then, RegisterOf, IsBetween, IsRestBetween, register_columns, key_in, key_row, IsListOf, IsRest}
-use Rattle.sqlite_value.proofs.OrderLemmas.{value_cmp-apart}
+use Rattle.zeb_register.proofs.Cited.{arith, Row, column, row_cmp, value_cmp, Value, Trees, Null, Int, Real, Text, Blob, has_filtered, has_kept, has_mapped, mapped_has, Has, row_cmp_total, value_cmp_total, value_cmp-Text, ◌≡◌, ◌≢◌, ◌∙◌, ℕ, Bool, true, false, List, [], ◌∷◌, ◌++◌, drop, filter, map, refl, sym, ap, ap₂, subst, Less, nat_cmp, is_eq, is_lt, slice_cmp, nat_list_cmp_total, tied_itself, ordering_then, RegisterOf, IsBetween, IsRestBetween, register_columns, key_in, key_row, IsListOf, IsRest, value_cmp-apart}
 use Rattle.zeb_register.proofs.BetweenLemmas.{up_to}
 use Rattle.zeb_register.proofs.RisingLists.{kept_rises}
 use Rattle.zeb_register.proofs.RowLemmas.{same_bytes}

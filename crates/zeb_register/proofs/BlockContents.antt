@@ -1,7 +1,6 @@
 -- Packed tables hold a content just where each unit and each count reads as it says, and no row stands beside.
-use Rattle.zeb_register.proofs.Cited.{◌≡◌, ◌≢◌, ◌↔◌, ◌∙◌, ◌≤◌, ◌/◌, ℕ, zero, suc, ℤ, pos, List, [], ◌∷◌, ◌++◌, length, nat_eq, refl, sym, ap, ap₂, subst, inl, arith, Int, Blob, Row, column, Trees, Has, all_has, Posting, BlockSpells, IsNumbered, Key, Content, IsStorable, posted, posting_cmp, HasKey, IsCount, IsInRecord, HasRow, blocks_tree, dict_tree, HoldsBlocks, IsBlockRow, IsDictRow, SpellsPart, block_row, part_in, key_row, packed_blocks}
+use Rattle.zeb_register.proofs.Cited.{◌≡◌, ◌≢◌, ◌↔◌, ◌∙◌, ◌≤◌, ◌/◌, ℕ, zero, suc, ℤ, pos, List, [], ◌∷◌, ◌++◌, length, nat_eq, refl, sym, ap, ap₂, subst, inl, arith, Int, Blob, Row, column, Trees, Has, all_has, Posting, BlockSpells, IsNumbered, Key, Content, IsStorable, posted, posting_cmp, HasKey, IsCount, IsInRecord, HasRow, blocks_tree, dict_tree, HoldsBlocks, IsBlockRow, IsDictRow, SpellsPart, block_row, part_in, key_row, packed_blocks, ◌*◌, places_in, BlockReads, CountsAs, IsMiscounted, ReadsAs, HoldsUnits}
 use Rattle.std.specs.List.Sorted.{IsStrictlySortedBy}
-use Rattle.std.proofs.Common.{◌*◌}
 use Rattle.zeb_register.proofs.BlockUnits.{held_units, none_rises, one_block_read}
 use Rattle.zeb_register.proofs.ContentChanges.{posting_total}
 use Rattle.zeb_register.proofs.ContentLemmas.{some_posting, told_apart}
@@ -11,9 +10,6 @@ use Rattle.zeb_register.proofs.OccurringLemmas.{key_posted}
 use Rattle.zeb_register.proofs.PackedLemmas.{block_rows, dict_there, in_part, not_empty, part_in_block, part_in_list}
 use Rattle.zeb_register.proofs.RisingLists.{kept_rises, same_list}
 use Rattle.zeb_register.proofs.TermsAmong.{records_count, records_of}
-use Rattle.zeb_register.specs.Content.{places_in}
-use Rattle.zeb_register.specs.PackedUnits.{BlockReads, CountsAs, IsMiscounted, ReadsAs}
-use Rattle.zeb_register.specs.Units.{HoldsUnits}
 
 pub some_counted : (P : ℕ → Type 0) (count : ℕ) → IsCount P count → 1 ≤ count → (n : ℕ) × P n
 some_counted P count it some = from it.numbers refl

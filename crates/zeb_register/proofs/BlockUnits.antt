@@ -1,9 +1,6 @@
 -- What packed rows say of a key, unit by unit: each has one reading, a malformed one none. What tables hold says each unit.
-use Rattle.zeb_register.proofs.Cited.{Row, column, Trees, Int, Blob, ◌≡◌, ◌∙◌, ◌/◌, ℕ, ℤ, pos, List, [], ◌∷◌, ◌++◌, map, refl, sym, ap, subst, Key, Place, Posting, Content, posting_cmp, HoldsBlockRows, SpellsPart, part_in, key_row}
+use Rattle.zeb_register.proofs.Cited.{Row, column, Trees, Int, Blob, ◌≡◌, ◌∙◌, ◌/◌, ℕ, ℤ, pos, List, [], ◌∷◌, ◌++◌, map, refl, sym, ap, subst, Key, Place, Posting, Content, posting_cmp, HoldsBlockRows, SpellsPart, part_in, key_row, places_in, AreAllSpelled, BlockReads, HasMalformed, IsBlockMalformed, IsMalformedAt, IsOfKey, ReadsAs}
 use Rattle.std.specs.List.Sorted.{IsStrictlySortedBy}
-use Rattle.zeb_register.specs.Content.{places_in}
-use Rattle.zeb_register.specs.PackedBlocks.{AreAllSpelled}
-use Rattle.zeb_register.specs.PackedUnits.{BlockReads, HasMalformed, IsBlockMalformed, IsMalformedAt, IsOfKey, ReadsAs}
 use Rattle.zeb_register.proofs.ContentLemmas.{some_posting, told_apart}
 use Rattle.zeb_register.proofs.KeyPlaces.{own_part, place_of}
 use Rattle.zeb_register.proofs.PackedLemmas.{block_spells, block_there, part_in_block, part_in_list}

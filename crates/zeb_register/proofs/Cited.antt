@@ -74,14 +74,14 @@ pub use Rattle.sqlite_trees.proofs.ListLemmas.{map-map, all-permutation, all-get
 pub use Rattle.sqlite_trees.proofs.TreeLemmas.{IsShaped-filter, IsShaped-put_row}
 pub use Rattle.sqlite_trees.specs.declared.error.StoreError.{StoreError}
 pub use Rattle.sqlite_value.proofs.KeyLemmas.{first_key-plain, then_tied}
-pub use Rattle.sqlite_value.proofs.OrderLemmas.{row_cmp_total, value_cmp_total, value_cmp-Text, value_cmp-Int, then-Equal, value_cmp-Blob}
+pub use Rattle.sqlite_value.proofs.OrderLemmas.{row_cmp_total, value_cmp_total, value_cmp-Text, value_cmp-Int, then-Equal, value_cmp-Blob, value_cmp-apart}
 pub use Rattle.sqlite_value.specs.Keys.{first_key, plain}
 pub use Rattle.sqlite_value.specs.Value.{owned}
-pub use Rattle.std.proofs.Common.{◌≡◌, ◌≢◌, ◌↔◌, ◌∙◌, ℕ, ℤ, pos, List, [], ◌∷◌, ◌++◌, drop, refl, sym, ap, subst, inl, map, Bool, true, false, cond, filter, string_bytes, ap₂, inr, Ordering, Less, Equal, nat_cmp, is_eq, ◌+◌, ◌<◌, ◌/◌, not, length, take, get_or, Greater, arith, codes, ◌⊎◌, IsTrue, None, IsSome, Result, Ok, Err, OnOk, OnErr, IfOk, IfErr, to_z, of_z, w64, FitsSigned, nat_eq, int_cmp, zero, suc, ◌≤◌, length-append, ◌^◌, ◌&&◌, ◌==◌, if◌then◌else◌, Some, IsUtf8, ◌-◌, length-drop, drop-cons, slice_get, ◌≤ℤ◌, ◌<ℤ◌, ◌+ℤ◌, Option, subst₂, Vec, append_assoc, append-nil, min, ◌||◌, eqb, true≢false, MatchOption, leb, negsuc, reverse, String, unwrap_or, IfSome, rules}
+pub use Rattle.std.proofs.Common.{◌≡◌, ◌≢◌, ◌↔◌, ◌∙◌, ℕ, ℤ, pos, List, [], ◌∷◌, ◌++◌, drop, refl, sym, ap, subst, inl, map, Bool, true, false, cond, filter, string_bytes, ap₂, inr, Ordering, Less, Equal, nat_cmp, is_eq, ◌+◌, ◌<◌, ◌/◌, not, length, take, get_or, Greater, arith, codes, ◌⊎◌, IsTrue, None, IsSome, Result, Ok, Err, OnOk, OnErr, IfOk, IfErr, to_z, of_z, w64, FitsSigned, nat_eq, int_cmp, zero, suc, ◌≤◌, length-append, ◌^◌, ◌&&◌, ◌==◌, if◌then◌else◌, Some, IsUtf8, ◌-◌, length-drop, drop-cons, slice_get, ◌≤ℤ◌, ◌<ℤ◌, ◌+ℤ◌, Option, subst₂, Vec, append_assoc, append-nil, min, ◌||◌, eqb, true≢false, MatchOption, leb, negsuc, reverse, String, unwrap_or, IfSome, rules, ◌*◌, lit<, lit≤}
 pub use Rattle.std.proofs.Math.Facts.{to_z-of_z}
 pub use Rattle.std.proofs.Math.Seq.{split_at, take-add}
-pub use Rattle.std.proofs.lemmas.Bool.{cases_Bool, cases_eq, and_parts, not-true, both_ways, eqb-true, eq-eqb, and_from, or_cases, or_left, or_right, ltb-true}
-pub use Rattle.std.proofs.lemmas.Bool.Decides.{Decides-int_eq, nat_tests, eqb_tells, Decides-eqb}
+pub use Rattle.std.proofs.lemmas.Bool.{cases_Bool, cases_eq, and_parts, not-true, both_ways, eqb-true, eq-eqb, and_from, or_cases, or_left, or_right, ltb-true, ne_eqb}
+pub use Rattle.std.proofs.lemmas.Bool.Decides.{Decides-int_eq, nat_tests, eqb_tells, Decides-eqb, Decides-and}
 pub use Rattle.std.proofs.lemmas.Cmp.{tied_itself, int_ranked, ranked, eq_by_cmp_equiv}
 pub use Rattle.std.proofs.lemmas.Int.{ints}
 pub use Rattle.std.proofs.lemmas.List.{length-map, map-append, take_more, length-take, length-take-le, take-append-drop, take_rest, reverse-append, length-reverse, reverse-reverse, take_all}
@@ -91,8 +91,8 @@ pub use Rattle.std.proofs.lemmas.List.Sums.{sum_by-cons}
 pub use Rattle.std.proofs.lemmas.Map.Keys.{IsDistinct-IsPermutation}
 pub use Rattle.std.proofs.lemmas.Map.Text.{is_eq-slice_cmp}
 pub use Rattle.std.proofs.lemmas.Result.{IfOk-weaker, err_from_is_err_and, IfErr-at_err, IfErr-weaker}
-pub use Rattle.std.proofs.lemmas.Slice.Eq.{bytes_eq-Decides}
-pub use Rattle.std.proofs.lemmas.Str.{IsUtf8-string_bytes}
+pub use Rattle.std.proofs.lemmas.Slice.Eq.{bytes_eq-Decides, slice_eq-Decides}
+pub use Rattle.std.proofs.lemmas.Str.{IsUtf8-string_bytes, IsUtf8-from_is_utf8, IsUtf8-nil, is_utf8-from_IsUtf8}
 pub use Rattle.std.specs.Bool.{Decides}
 pub use Rattle.std.specs.Cmp.{IsTotalOrder, on_total, then_total, nat_cmp_total, int_cmp_total, int_cmp_is}
 pub use Rattle.std.specs.Cmp.Lexicographic.{slice_cmp, nat_list_cmp_total}
@@ -106,44 +106,61 @@ pub use Rattle.zeb_blocks.proofs.Lists.{same_list as one_list_spelled}
 pub use Rattle.zeb_blocks.proofs.Taking.{spells_start}
 pub use Rattle.zeb_blocks.specs.Blocks.{BlockSpells, spelled_from, start_of, LiesIn, IsNumbered}
 pub use Rattle.zeb_blocks.specs.declared.postings.Posting.{Posting}
-pub use Rattle.zeb_keys.proofs.Rising.{key_total, keys_apart, both_equal, numbers_apart}
+pub use Rattle.zeb_keys.proofs.Rising.{key_total, keys_apart, both_equal, numbers_apart, texts_apart}
 pub use Rattle.zeb_keys.specs.Order.{key_order}
 pub use Rattle.zeb_keys.specs.Registers.{register_code}
 pub use Rattle.zeb_keys.specs.declared.Register.{Register}
 pub use Rattle.zeb_keys.specs.declared.Register.TheVariants.{Word, Phrase, Number}
 pub use Rattle.zeb_keys.specs.declared.keys.Key.{Key}
 pub use Rattle.zeb_keys.specs.declared.keys.Occurrence.{Occurrence}
-pub use Rattle.zeb_register.specs.Between.{AreKeysBetween, IsBetween, term_list}
+pub use Rattle.zeb_leaf.specs.Order.{entry_cmp, IsEntry}
+pub use Rattle.zeb_leaf.specs.declared.entries.Entry.{Entry}
+pub use Rattle.zeb_register.specs.Agreeing.{Owns, HoldsUnder, HasNames, IsThere, BelongsThere, EachThere, HoldsThere, KeepsExpectedTexts, ListsAgree, listed_name, expected_name, AreBeside, AreEnds, IsLeastFrom, IsListedId, RecordsAgree, HasRecords, LacksPostingsAndDict}
+pub use Rattle.zeb_register.specs.Answers.{TellsOr}
+pub use Rattle.zeb_register.specs.Between.{AreKeysBetween, IsBetween, term_list, IsPostingBetween}
 pub use Rattle.zeb_register.specs.Calls.{GoesOn, OnlyReads, ChangesNothing, Alters, Inside, Reading, MayRefuse}
-pub use Rattle.zeb_register.specs.Catalog.{AreDatabases, AreReadableDatabases, listed_order, PutsDatabase, AreCountedDatabases}
-pub use Rattle.zeb_register.specs.Clauses.{IsReasoned, IsReasonedError}
-pub use Rattle.zeb_register.specs.Content.{posted, Content, HasRisingLists, posting_cmp, posting_at, ArePlacesOf, IsChangedAt, IsWithout, place_cmp, AreChangedAt, AreListChanges, IsListChanged, TakesWhole, IsStorable}
+pub use Rattle.zeb_register.specs.Catalog.{AreDatabases, AreReadableDatabases, listed_order, PutsDatabase, AreCountedDatabases, IsDatabaseOf}
+pub use Rattle.zeb_register.specs.Clauses.{IsReasoned, IsReasonedError, TellsHeld, OnStore, Tells, IsHonestStorable}
+pub use Rattle.zeb_register.specs.Content.{posted, Content, HasRisingLists, posting_cmp, posting_at, ArePlacesOf, IsChangedAt, IsWithout, place_cmp, AreChangedAt, AreListChanges, IsListChanged, TakesWhole, IsStorable, places_in, OldsRise, AreStorablePlaces, IsStorablePlace}
+pub use Rattle.zeb_register.specs.Covering.{Covers, HasEntriesAt, ShowsEntries, leaf_key, own_key, LacksEntriesAt, IsUpTo}
 pub use Rattle.zeb_register.specs.Expected.{AreExpected, IsOrdered, IsExpectedAs, IsPostingExpected, key_posting_order, name_order, IsTextOf, number_order}
 pub use Rattle.zeb_register.specs.Faults.{fault_of, fault_of_rows}
 pub use Rattle.zeb_register.specs.Formats.{packed_blocks, packed_leaves, plain_rows, Format, holds_in, version_of}
-pub use Rattle.zeb_register.specs.Kept.{record_shown, AreNumbered, AreReadableIdents, AreReadable, IsFirstFrom, IsNumberOf}
-pub use Rattle.zeb_register.specs.Occurring.{HasKey, key_in, IsCount, AreCounts, term_cmp, AreTermsOf, Spot, spot_cmp, capped, TermIn, AreSpotsOf, AreTotals, is_before, is_from, last, HasSpot}
-pub use Rattle.zeb_register.specs.PackedBlocks.{HoldsBlocks, part_in, SpellsPart, blocks_of, block_row, IsBlockRow, IsDictRow, dict_row}
-pub use Rattle.zeb_register.specs.PlainRows.{HoldsRows, key_row, posting_row, register_front}
-pub use Rattle.zeb_register.specs.PrivateBetweenRows.{IsRestBetween, three_behind, two_behind}
-pub use Rattle.zeb_register.specs.PrivateCatalog.{listed_row}
+pub use Rattle.zeb_register.specs.HeldLeaves.{AreLeavesAlone, HoldsLeaves, IsLeafAlone}
+pub use Rattle.zeb_register.specs.Kept.{record_shown, AreNumbered, AreReadableIdents, AreReadable, IsFirstFrom, IsNumberOf, IsElderOf, IsIdentOf}
+pub use Rattle.zeb_register.specs.KeptUnits.{KeepsUnits, HasKeyUnit, HasUnit}
+pub use Rattle.zeb_register.specs.LeafUnits.{IsLeafMalformed, IsLeafOf, LeavesRead, LeavesReadBlock, AreLeavesMiscounted, AreLeavesWhole, HasMalformedLeaf, LeavesCount}
+pub use Rattle.zeb_register.specs.Occurring.{HasKey, key_in, IsCount, AreCounts, term_cmp, AreTermsOf, Spot, spot_cmp, capped, TermIn, AreSpotsOf, AreTotals, is_before, is_from, last, HasSpot, AreTermsBefore, AreTermsFrom}
+pub use Rattle.zeb_register.specs.PackedBlocks.{HoldsBlocks, part_in, SpellsPart, blocks_of, block_row, IsBlockRow, IsDictRow, dict_row, AreAllSpelled}
+pub use Rattle.zeb_register.specs.PackedUnits.{BlockReads, IsMalformedAt, IsOfBlock, ReadsAs, CountsAs, HasMalformed, IsBlockMalformed, IsOfKey, IsMiscounted}
+pub use Rattle.zeb_register.specs.PlainRows.{HoldsRows, key_row, posting_row, register_front, IsPostingRow}
+pub use Rattle.zeb_register.specs.PlainUnits.{HasShownNone, RowsCount, RowsRead, IsRowMalformed, IsUnderNumber, ShowsPosting, AreAllShown, HasRowIn, IsUnderKey, ShowsNone}
+pub use Rattle.zeb_register.specs.PrivateBetweenRows.{IsRestBetween, three_behind, two_behind, SomeShowsNoneBehind}
+pub use Rattle.zeb_register.specs.PrivateCatalog.{listed_row, IsIdOf}
 pub use Rattle.zeb_register.specs.PrivateClauses.{Ran}
-pub use Rattle.zeb_register.specs.PrivateKeyColumns.{IsNumberedRow, register_columns}
+pub use Rattle.zeb_register.specs.PrivateKeyColumns.{IsNumberedRow, register_columns, IsDictIn}
+pub use Rattle.zeb_register.specs.PrivateNearest.{IsNearer, IsOn, HasOn}
 pub use Rattle.zeb_register.specs.PrivatePackedRows.{AreSpelled, IsInBlock, HoldsBlockRows}
-pub use Rattle.zeb_register.specs.Agreeing.{Owns, HoldsUnder, HasNames, IsThere, BelongsThere, EachThere, HoldsThere, KeepsExpectedTexts, ListsAgree, listed_name, expected_name, AreBeside, AreEnds, IsLeastFrom, IsListedId, RecordsAgree, HasRecords, LacksPostingsAndDict}
+pub use Rattle.zeb_register.specs.PrivateRecordParts.{ComesLast, IsParted}
 pub use Rattle.zeb_register.specs.PrivateRowExpected.{BelongsTo, IsBlockRest, IsDictRest, key_shown, list_under, with_key, LacksPacked, posting_shown, AsExpected, EachAsExpected, HoldsExpected, IsPair, tree_of, text_rows, TakeAll, AreBlocks, IsBlockBefore, IsInOrder, AreInOrder, HoldsKeysAlone, TableHolds}
 pub use Rattle.zeb_register.specs.PrivateRowKeys.{BeginsOther, IsFrontOf, IsRunBefore, IsRunFrom, dict_rest}
-pub use Rattle.zeb_register.specs.PrivateRowPlaces.{first_two, first_three, DropsRegisters, IsTwoNumbers, place_row, KeepsBesidePostings, GainsPlaces, Puts, posting_columns, IsPlaceIn}
-pub use Rattle.zeb_register.specs.PrivateRowReads.{rests_text, ShowsFirst, greatest_text, least_text, next_text, Fits, size_of, ReadsRests}
+pub use Rattle.zeb_register.specs.PrivateRowPlaces.{first_two, first_three, DropsRegisters, IsTwoNumbers, place_row, KeepsBesidePostings, GainsPlaces, Puts, posting_columns, IsPlaceIn, SomeShowsNone}
+pub use Rattle.zeb_register.specs.PrivateRowReads.{rests_text, ShowsFirst, greatest_text, least_text, next_text, Fits, size_of, ReadsRests, IsFirst}
 pub use Rattle.zeb_register.specs.PrivateRowStatements.{Lists, ListsInside, IsMade, IsRestAtLeast, IsDatabaseShown, IsListedRow, AddsDatabase, SetsLast, IsDatabaseRow, IsValueRow, IsElderRow, IsIdentRow, Gains, place_key, whole_posting_row, IsRecordShown, ShowsCount, Empties}
 pub use Rattle.zeb_register.specs.PrivateRowTerms.{IsInRecord, ReadsRows, ReadsInside, IsCountedIn, term_with, IsShown, HasTerm, ShowsOccurrence, IsOccurrenceRow, ShowsTerm, IsTermRow, ShowsNearest, FindsNearest, HidesText, SomeIsNoOccurrence}
 pub use Rattle.zeb_register.specs.PrivateStoreTables.{HasEmpty, create_text, schema_after, schema_before, clear_text, tree_at, wipe_text}
+pub use Rattle.zeb_register.specs.PrivateUnits.{units_of, TurnsRows}
 pub use Rattle.zeb_register.specs.Queries.{LooksUp, IsSilent}
-pub use Rattle.zeb_register.specs.Sound.{KeepsBeside, KeepsMalformed, KeepsRowsBeside, keeps_malformed}
+pub use Rattle.zeb_register.specs.Readings.{PartReads, HasRecordOf, SaysPart, IsPartMalformed, LacksSum, SayPart, SumsRecords, IsAt}
+pub use Rattle.zeb_register.specs.RunChanges.{changes_in, IsAmong, IsCountAmong, IsOfRun, IsOwnCount, IsRunRefusedAs, IsUnitAmong, KeysRise, PutsKeys, TurnsAny, run_key, puts_run_rows, counts_on, KeepsBesideRun, keeps_run_others, AreChangedBy, TurnsKey}
+pub use Rattle.zeb_register.specs.Sound.{KeepsBeside, KeepsMalformed, KeepsRowsBeside, keeps_malformed, IsListSound, KeepsMalformedUnits}
 pub use Rattle.zeb_register.specs.Sql.{HasRow, IsListOf, IsKeyed, KeepsOthers, KeepsTables, HasLayout, Loses, Replaces, ChangesOneTable}
-pub use Rattle.zeb_register.specs.Store.{IsStore, blocks_tree, dict_tree, postings_tree, HasDatabase, records_tree, IsRest, key_of, Changes, IsEmptyStore, databases_tree, TakesDatabase, entry, meta_tree, IsOfDatabase, KeepsRegisters, LacksRegisters, AreReadableTexts, HasRecord, record_row, HasNumber, SharesRecord, IsEntryOf, KeepsLists}
+pub use Rattle.zeb_register.specs.Store.{IsStore, blocks_tree, dict_tree, postings_tree, HasDatabase, records_tree, IsRest, key_of, Changes, IsEmptyStore, databases_tree, TakesDatabase, entry, meta_tree, IsOfDatabase, KeepsRegisters, LacksRegisters, AreReadableTexts, HasRecord, record_row, HasNumber, SharesRecord, IsEntryOf, KeepsLists, IsValueOf}
 pub use Rattle.zeb_register.specs.Tables.{store_schema, databases_table, meta_table, postings_table, blocks_table, dict_table, records_table}
-pub use Rattle.zeb_register.specs.Tallies.{Rises}
+pub use Rattle.zeb_register.specs.Tallies.{Rises, AreInRange, works_for, RisesWithin, Works, WorksOnLeaves, CountsNothing}
+pub use Rattle.zeb_register.specs.Terms.{HidesCount, HidesNearest, ListsCounts, Comes, ListsBefore}
+pub use Rattle.zeb_register.specs.UnitChanges.{IsBlockAmong, IsOwnBlock, IsOwnPlace, IsPlaceAmong, IsUnitTouched, KeepsBut, KeyUnits, PutsAny, PutsCount, PutsPlaces, TurnsUnits, AllowsChanges, IsChanged, IsStorableChange, PutsUnits, TurnsPlaces, CountsOn, LacksBlock, is_counted, IsTouched, IsBlockCounted, TurnsUnit, turns_count, IsRefusedAs, NumbersRise, IsTold, IsBlockIn, keeps_others}
+pub use Rattle.zeb_register.specs.Units.{ListsKey, ListsUnits, counts_as, HasMalformedBetween, ListsBetween, ListsTerms, HoldsUnits}
 pub use Rattle.zeb_register.specs.declared.agreeing.Table.{Table as Keyed}
 pub use Rattle.zeb_register.specs.declared.agreeing.Table.TheVariants.{Blocks, Dict, Postings, Records}
 pub use Rattle.zeb_register.specs.declared.belonging.Ends.{Ends}
@@ -158,6 +175,7 @@ pub use Rattle.zeb_register.specs.declared.faults.RowFault.{RowFault}
 pub use Rattle.zeb_register.specs.declared.faults.RowFault.TheVariants.{Damaged as DamagedRow, Memory as NoMemory}
 pub use Rattle.zeb_register.specs.declared.kept.Record.{Record}
 pub use Rattle.zeb_register.specs.declared.plain_changes.TheConstants.{PUT}
+pub use Rattle.zeb_register.specs.declared.registers.KeyChanges.{KeyChanges}
 pub use Rattle.zeb_register.specs.declared.registers.Place.{Place}
 pub use Rattle.zeb_register.specs.declared.registers.RecordChange.{RecordChange}
 pub use Rattle.zeb_register.specs.declared.registers.RegisterOf.{RegisterOf}

@@ -1,12 +1,9 @@
 -- A key's list as changes make it of a content, and its units as they are turned, in each format.
-use Rattle.zeb_register.proofs.Cited.{true, length, drop, ◌≡◌, ◌≢◌, ◌∙◌, ◌+◌, ◌/◌, ◌==◌, ◌≤◌, ℕ, zero, suc, List, [], ◌∷◌, filter, nat_eq, refl, sym, ap, subst, inl, inr, arith, eqb-true, eqb_tells, AllByRecursion, Has, has_filtered, has_mapped, Posting, Place, RecordChange, AreListChanges, ArePlacesOf, IsListChanged, place_cmp, posting_at, posting_cmp, IsCount, IsInRecord, false, ◌⊎◌, ◌↔◌, Format, packed_blocks, packed_leaves, plain_rows}
-use Rattle.zeb_register.specs.Content.{OldsRise, places_in}
+use Rattle.zeb_register.proofs.Cited.{true, length, drop, ◌≡◌, ◌≢◌, ◌∙◌, ◌+◌, ◌/◌, ◌==◌, ◌≤◌, ℕ, zero, suc, List, [], ◌∷◌, filter, nat_eq, refl, sym, ap, subst, inl, inr, arith, eqb-true, eqb_tells, AllByRecursion, Has, has_filtered, has_mapped, Posting, Place, RecordChange, AreListChanges, ArePlacesOf, IsListChanged, place_cmp, posting_at, posting_cmp, IsCount, IsInRecord, false, ◌⊎◌, ◌↔◌, Format, packed_blocks, packed_leaves, plain_rows, OldsRise, places_in, units_of, CountsOn, IsBlockCounted, IsStorableChange, IsTouched, KeyUnits, TurnsUnit, TurnsUnits, turns_count}
 use Rattle.zeb_register.proofs.ContentChanges.{at_sysno}
 use Rattle.zeb_register.proofs.CountLemmas.{count_upto, counted_none, one_count}
 use Rattle.zeb_register.proofs.ListChanges.{list_changed}
 use Rattle.zeb_register.proofs.TermsAmong.{records_count, records_of}
-use Rattle.zeb_register.specs.PrivateUnits.{units_of}
-use Rattle.zeb_register.specs.UnitChanges.{CountsOn, IsBlockCounted, IsStorableChange, IsTouched, KeyUnits, TurnsUnit, TurnsUnits, turns_count}
 use Rattle.std.specs.List.Sorted.{IsStrictlySortedBy}
 use Rattle.zeb_register.proofs.PackedChanges.{count_changed, in_record}
 use Rattle.zeb_register.proofs.RisingPlaces.{are_in, same_places}

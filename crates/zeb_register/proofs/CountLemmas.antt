@@ -1,7 +1,6 @@
 -- Counting occurrences that come in the order of their terms and then of their numbers.
-use Rattle.zeb_register.proofs.Cited.{all_from, all_has, has_left, has_right, has_either, Has, ◌≡◌, ◌≢◌, ◌↔◌, ◌⊎◌, ◌∙◌, ◌<◌, ◌≤◌, ◌+◌, ℕ, List, [], ◌∷◌, ◌++◌, length, refl, sym, ap, subst, inl, inr, Less, Equal, nat_cmp, arith, length-append, ◌^◌, nat_tests, ranked, tied_itself, sum_by-cons, true, false, Ordering, Greater, ordering_reverse, is_lt, IsTotalOrder, on_total, nat_cmp_total, slice_cmp, nat_list_cmp_total, sum_by, TermCount, IsCount, AreCounts, term_cmp, IsCountedIn, term_with, Rises}
+use Rattle.zeb_register.proofs.Cited.{all_from, all_has, has_left, has_right, has_either, Has, ◌≡◌, ◌≢◌, ◌↔◌, ◌⊎◌, ◌∙◌, ◌<◌, ◌≤◌, ◌+◌, ℕ, List, [], ◌∷◌, ◌++◌, length, refl, sym, ap, subst, inl, inr, Less, Equal, nat_cmp, arith, length-append, ◌^◌, nat_tests, ranked, tied_itself, sum_by-cons, true, false, Ordering, Greater, ordering_reverse, is_lt, IsTotalOrder, on_total, nat_cmp_total, slice_cmp, nat_list_cmp_total, sum_by, TermCount, IsCount, AreCounts, term_cmp, IsCountedIn, term_with, Rises, Comes}
 use Rattle.std.specs.List.Sorted.{IsStrictlySortedBy}
-use Rattle.zeb_register.specs.Terms.{Comes}
 use Rattle.zeb_register.proofs.RowLemmas.{same_bytes}
 use Rattle.zeb_register.proofs.RisingLists.{same_list, pushed_rises, before_last, front_rises, snoc_of, same_last}
 

@@ -1,12 +1,7 @@
 -- The terms of a register are told by their counts. What a call that tells them says of tables that hold a content.
-use Rattle.zeb_register.proofs.Cited.{State, Trees, has_filtered, has_kept, Has, ◌≡◌, ◌≢◌, ◌↔◌, ◌⊎◌, ◌∙◌, ◌<◌, ◌≤◌, ℕ, ℤ, Bool, true, false, not, List, [], ◌∷◌, length, filter, take, reverse, refl, sym, ap, ap₂, subst, inl, inr, arith, cases_Bool, bytes_eq-Decides, reverse-reverse, length-reverse, is_lt, Result, Ok, Err, Vec, Global, Register, Posting, Spot, Totals, TermCount, RegFault, RegisterOf, Content, IsStorable, posted, Format, holds_in, HasKey, IsCount, AreTermsOf, AreTotals, HasSpot, TermIn, key_in, is_before, is_from, last, IsReasoned}
+use Rattle.zeb_register.proofs.Cited.{State, Trees, has_filtered, has_kept, Has, ◌≡◌, ◌≢◌, ◌↔◌, ◌⊎◌, ◌∙◌, ◌<◌, ◌≤◌, ℕ, ℤ, Bool, true, false, not, List, [], ◌∷◌, length, filter, take, reverse, refl, sym, ap, ap₂, subst, inl, inr, arith, cases_Bool, bytes_eq-Decides, reverse-reverse, length-reverse, is_lt, Result, Ok, Err, Vec, Global, Register, Posting, Spot, Totals, TermCount, RegFault, RegisterOf, Content, IsStorable, posted, Format, holds_in, HasKey, IsCount, AreTermsOf, AreTotals, HasSpot, TermIn, key_in, is_before, is_from, last, IsReasoned, TellsOr, IsHonestStorable, TellsHeld, places_in, AreTermsBefore, AreTermsFrom, counts_as}
 use Rattle.std.specs.Str.{bytes_eq}
-use Rattle.zeb_register.specs.Answers.{TellsOr}
-use Rattle.zeb_register.specs.Clauses.{IsHonestStorable, TellsHeld}
-use Rattle.zeb_register.specs.Content.{places_in}
-use Rattle.zeb_register.specs.Occurring.{AreTermsBefore, AreTermsFrom}
 use Rattle.zeb_register.specs.Terms.{AreListed, Comes, HidesCount, HidesSome, IsNearest, ListsAll, ListsBefore, ListsCounts, ListsFrom, ListsNearest, SumsUp, TellsAll, shows_count}
-use Rattle.zeb_register.specs.Units.{counts_as}
 use Rattle.zeb_register.proofs.Answered.{or_damaged, or_reasoned}
 use Rattle.zeb_register.proofs.BlockContents.{counted_list, some_counted}
 use Rattle.zeb_register.proofs.CountLemmas.{comes_is, comes_not, counted_none, one_count, term_total}

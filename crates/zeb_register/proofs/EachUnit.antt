@@ -1,8 +1,6 @@
 -- In a store each unit reads as some places or is malformed: none is neither. Each proof refutes that one is neither.
-use Rattle.zeb_register.proofs.Cited.{Row, column, row_cmp, row_cmp_total, State, Trees, Int, ◌≡◌, ◌≢◌, ◌∙◌, ◌++◌, ◌/◌, ℕ, ℤ, pos, List, [], ◌∷◌, drop, refl, sym, ap, subst, inl, inr, Ordering, Less, Equal, Greater, nat_cmp, slice_cmp, ordering_then, ordering_reverse, Key, Place, Posting, IsStore, postings_tree, store_schema, register_front, Format, packed_blocks, packed_leaves, plain_rows, key_row}
+use Rattle.zeb_register.proofs.Cited.{Row, column, row_cmp, row_cmp_total, State, Trees, Int, ◌≡◌, ◌≢◌, ◌∙◌, ◌++◌, ◌/◌, ℕ, ℤ, pos, List, [], ◌∷◌, drop, refl, sym, ap, subst, inl, inr, Ordering, Less, Equal, Greater, nat_cmp, slice_cmp, ordering_then, ordering_reverse, Key, Place, Posting, IsStore, postings_tree, store_schema, register_front, Format, packed_blocks, packed_leaves, plain_rows, key_row, numbers_apart, texts_apart, Entry, place_cmp, places_in, posting_at, Covers, HasEntriesAt, ShowsEntries, leaf_key, own_key, IsLeafMalformed, IsLeafOf, LeavesRead, SpellsPart, BlockReads, IsMalformedAt, IsOfBlock, ReadsAs, IsRowMalformed, IsUnderNumber, RowsRead, ShowsPosting, PartReads}
 use Rattle.std.specs.List.Sorted.{IsStrictlySortedBy}
-use Rattle.zeb_keys.proofs.Rising.{numbers_apart, texts_apart}
-use Rattle.zeb_leaf.specs.declared.entries.Entry.{Entry}
 use Rattle.zeb_register.proofs.ContentChanges.{place_total}
 use Rattle.zeb_register.proofs.KeyOrder.{key_order}
 use Rattle.zeb_register.proofs.KeyPlaces.{place_of}
@@ -13,13 +11,6 @@ use Rattle.zeb_register.proofs.RowLemmas.{code_at, text_of}
 use Rattle.zeb_register.proofs.SharedKeys.{single}
 use Rattle.zeb_register.proofs.ValueKinds.{codes_of}
 use Rattle.zeb_register.proofs.Writes.{codes_there}
-use Rattle.zeb_register.specs.Content.{place_cmp, places_in, posting_at}
-use Rattle.zeb_register.specs.Covering.{Covers, HasEntriesAt, ShowsEntries, leaf_key, own_key}
-use Rattle.zeb_register.specs.LeafUnits.{IsLeafMalformed, IsLeafOf, LeavesRead}
-use Rattle.zeb_register.specs.PackedBlocks.{SpellsPart}
-use Rattle.zeb_register.specs.PackedUnits.{BlockReads, IsMalformedAt, IsOfBlock, ReadsAs}
-use Rattle.zeb_register.specs.PlainUnits.{IsRowMalformed, IsUnderNumber, RowsRead, ShowsPosting}
-use Rattle.zeb_register.specs.Readings.{PartReads}
 use Rattle.zeb_register.specs.Units.{is_malformed, reads_as}
 
 -- ---- leaves

@@ -1,9 +1,5 @@
 -- The registers of tables that hold a content: the first leaf of each that has one has the least key.
-use Rattle.zeb_register.proofs.Cited.{Row, column, row_cmp, Trees, ◌≡◌, ◌≢◌, ◌∙◌, ◌++◌, ◌∷◌, ℕ, zero, suc, ℤ, List, [], refl, ap, inl, inr, arith, Greater, nat_cmp, slice_cmp, ordering_then, Key, Content, register_front}
-use Rattle.zeb_register.specs.Covering.{leaf_key, own_key}
-use Rattle.zeb_register.specs.HeldLeaves.{HoldsLeaves}
-use Rattle.zeb_register.specs.LeafUnits.{IsLeafOf}
-use Rattle.zeb_register.specs.Occurring.{key_in}
+use Rattle.zeb_register.proofs.Cited.{Row, column, row_cmp, Trees, ◌≡◌, ◌≢◌, ◌∙◌, ◌++◌, ◌∷◌, ℕ, zero, suc, ℤ, List, [], refl, ap, inl, inr, arith, Greater, nat_cmp, slice_cmp, ordering_then, Key, Content, register_front, leaf_key, own_key, HoldsLeaves, IsLeafOf, key_in}
 use Rattle.zeb_register.proofs.KeyOrder.{greater_is, key_order}
 
 -- no key is below the least one

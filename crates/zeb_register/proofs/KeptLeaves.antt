@@ -1,8 +1,6 @@
 -- Units that a change in leaves keeps: where nothing changes, where more is changed, and over two changes in turn.
-use Rattle.zeb_register.proofs.Cited.{inl, inr, ◌≡◌, ◌∙◌, ◌∷◌, [], ℕ, ℤ, pos, refl, sym, subst, Int, Trees, Key, register_code, KeepsRowsBeside, postings_tree, dict_tree}
+use Rattle.zeb_register.proofs.Cited.{inl, inr, ◌≡◌, ◌∙◌, ◌∷◌, [], ℕ, ℤ, pos, refl, sym, subst, Int, Trees, Key, register_code, KeepsRowsBeside, postings_tree, dict_tree, AreLeavesAlone, HasKeyUnit, HasUnit, KeepsUnits}
 use Rattle.zeb_register.proofs.Malformed.{table_same}
-use Rattle.zeb_register.specs.HeldLeaves.{AreLeavesAlone}
-use Rattle.zeb_register.specs.KeptUnits.{HasKeyUnit, HasUnit, KeepsUnits}
 
 pub kept_itself : (db : ℤ) (Changed : Key → ℕ → Type 0) (trees : Trees) → KeepsUnits db Changed trees trees
 kept_itself db Changed trees = record {

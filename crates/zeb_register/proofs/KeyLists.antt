@@ -1,8 +1,5 @@
 -- A key's list is told by its units, in each format. What a call that lists them says of tables that hold a content.
-use Rattle.zeb_register.proofs.Cited.{State, Trees, Has, ◌≡◌, ℕ, ℤ, List, subst, Result, Ok, Err, Vec, Global, Key, Place, Posting, RegFault, Content, IsStorable, Format, packed_blocks, packed_leaves, plain_rows, holds_in, HasKey, IsCount, posted}
-use Rattle.zeb_register.specs.Clauses.{TellsHeld}
-use Rattle.zeb_register.specs.Content.{places_in}
-use Rattle.zeb_register.specs.Sound.{IsListSound}
+use Rattle.zeb_register.proofs.Cited.{State, Trees, Has, ◌≡◌, ℕ, ℤ, List, subst, Result, Ok, Err, Vec, Global, Key, Place, Posting, RegFault, Content, IsStorable, Format, packed_blocks, packed_leaves, plain_rows, holds_in, HasKey, IsCount, posted, TellsHeld, places_in, IsListSound}
 use Rattle.zeb_register.specs.Units.{HoldsUnits, ListsKey, ListsUnits, counts_as, has_malformed, is_malformed, is_miscounted, is_whole, reads_as}
 use Rattle.zeb_register.proofs.BlockContents.{blocks_by_units, count_of_blocks, miscounted_none, one_key_count, units_by_blocks}
 use Rattle.zeb_register.proofs.BlockUnits.{held_sound, held_units, malformed_unread, one_reading, spelled_sound}

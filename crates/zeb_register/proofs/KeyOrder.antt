@@ -1,12 +1,5 @@
 -- The order of keys, as SQL gives rows in it.
-use Rattle.sqlite.specs.Order.{Row, row_cmp}
-use Rattle.sqlite_value.proofs.OrderLemmas.{row_cmp_total, then-Equal, value_cmp-Int, value_cmp-Text}
-use Rattle.std.proofs.Common.{◌≡◌, ◌≢◌, ◌∙◌, ◌<◌, ◌≤◌, ℕ, pos, true, false, List, Ordering, Less, Equal, Greater, sym, ap, arith, nat_cmp}
-use Rattle.std.proofs.lemmas.Bool.Decides.{nat_tests}
-use Rattle.std.proofs.lemmas.Cmp.{tied_itself}
-use Rattle.std.specs.Cmp.Lexicographic.{nat_list_cmp_total, slice_cmp}
-use Rattle.std.specs.Ordering.{is_lt, ordering_reverse, ordering_then}
-use Rattle.zeb_register.specs.Covering.{leaf_key}
+use Rattle.zeb_register.proofs.Cited.{Row, row_cmp, row_cmp_total, then-Equal, value_cmp-Int, value_cmp-Text, ◌≡◌, ◌≢◌, ◌∙◌, ◌<◌, ◌≤◌, ℕ, pos, true, false, List, Ordering, Less, Equal, Greater, sym, ap, arith, nat_cmp, nat_tests, tied_itself, nat_list_cmp_total, slice_cmp, is_lt, ordering_reverse, ordering_then, leaf_key}
 use Rattle.zeb_register.proofs.ContentLemmas.{ints_order}
 
 -- by the bytes of the term, and then by the block

@@ -1,7 +1,6 @@
 -- The places of records in a key's list of postings.
-use Rattle.zeb_register.proofs.Cited.{has_filtered, has_kept, has_mapped, mapped_has, Has, ◌≡◌, ◌∙◌, ℕ, true, List, [], ◌∷◌, filter, refl, sym, ap, subst, inl, inr, Equal, eq-eqb, eqb-true, eqb_tells, nat_cmp_total, tied_itself, ordering_then, nat_cmp, nat_eq, ◌==◌, ◌/◌, Place, Posting, posting_at, posting_cmp, place_cmp, part_in}
+use Rattle.zeb_register.proofs.Cited.{has_filtered, has_kept, has_mapped, mapped_has, Has, ◌≡◌, ◌∙◌, ℕ, true, List, [], ◌∷◌, filter, refl, sym, ap, subst, inl, inr, Equal, eq-eqb, eqb-true, eqb_tells, nat_cmp_total, tied_itself, ordering_then, nat_cmp, nat_eq, ◌==◌, ◌/◌, Place, Posting, posting_at, posting_cmp, place_cmp, part_in, places_in}
 use Rattle.std.specs.List.Sorted.{IsStrictlySortedBy}
-use Rattle.zeb_register.specs.Content.{places_in}
 use Rattle.zeb_register.proofs.ContentChanges.{posting_total}
 use Rattle.zeb_register.proofs.RisingLists.{kept_rises}
 use Rattle.zeb_register.proofs.Scans.{strictly_mapped}

@@ -1,12 +1,9 @@
 -- The places of a record put behind all postings of a list: nothing else of it is changed.
-use Rattle.zeb_register.proofs.Cited.{◌≡◌, ◌∙◌, ◌<◌, ◌≤◌, ◌/◌, ◌++◌, ◌∷◌, ℕ, true, false, List, [], map, filter, refl, sym, ap, ap₂, subst, inl, inr, arith, Ordering, Less, Equal, Greater, nat_cmp, nat_tests, ordering_then, all_has, has_right, Has, numbers_apart, LiesIn, Posting, posting_cmp, ◌==◌, Bool, cond, nat_lt, append-nil, posting_at, RecordChange}
+use Rattle.zeb_register.proofs.Cited.{◌≡◌, ◌∙◌, ◌<◌, ◌≤◌, ◌/◌, ◌++◌, ◌∷◌, ℕ, true, false, List, [], map, filter, refl, sym, ap, ap₂, subst, inl, inr, arith, Ordering, Less, Equal, Greater, nat_cmp, nat_tests, ordering_then, all_has, has_right, Has, numbers_apart, LiesIn, Posting, posting_cmp, ◌==◌, Bool, cond, nat_lt, append-nil, posting_at, RecordChange, places_in, ComesLast, IsStorableChange, TurnsPlaces}
 use Rattle.zeb_register.proofs.CountLemmas.{is_less}
 use Rattle.zeb_register.proofs.KeyPlaces.{place_of}
-use Rattle.zeb_register.specs.Content.{places_in}
 use Rattle.std.specs.List.Sorted.{IsStrictlySortedBy}
 use Rattle.zeb_register.proofs.RecordParts.{IsPutTogether, next_lies, places_turned}
-use Rattle.zeb_register.specs.UnitChanges.{IsStorableChange, TurnsPlaces}
-use Rattle.zeb_register.specs.PrivateRecordParts.{ComesLast}
 
 -- ---- what a test keeps
 

@@ -1,5 +1,5 @@
 -- What follows of changes of a key's units in leaves: for tables that hold a content, and for rows whatever they say.
-use Rattle.zeb_register.proofs.Cited.{◌≡◌, ◌⊎◌, ◌∙◌, ◌/◌, ◌≤◌, ℕ, ℤ, List, [], ◌∷◌, refl, sym, ap, ap₂, subst, inl, inr, int_cmp_total, key_total, keys_apart, AllByRecursion, Has, Row, Trees, Posting, Key, Place, RecordChange, AreChangedAt, AreListChanges, ArePlacesOf, Content, HasRisingLists, IsStorable, packed_leaves, place_cmp, posting_at, posting_cmp}
+use Rattle.zeb_register.proofs.Cited.{◌≡◌, ◌⊎◌, ◌∙◌, ◌/◌, ◌≤◌, ℕ, ℤ, List, [], ◌∷◌, refl, sym, ap, ap₂, subst, inl, inr, int_cmp_total, key_total, keys_apart, AllByRecursion, Has, Row, Trees, Posting, Key, Place, RecordChange, AreChangedAt, AreListChanges, ArePlacesOf, Content, HasRisingLists, IsStorable, packed_leaves, place_cmp, posting_at, posting_cmp, OldsRise, places_in, HoldsLeaves, HasUnit, KeepsUnits, IsLeafMalformed, IsLeafOf, LeavesRead, units_of, PartReads, KeepsMalformedUnits, AllowsChanges, IsStorableChange, IsTouched, IsUnitTouched, KeyUnits, PutsUnits}
 use Rattle.std.specs.List.Sorted.{IsStrictlySortedBy}
 use Rattle.zeb_register.proofs.BlockUnits.{none_rises}
 use Rattle.zeb_register.proofs.ContentChanges.{integers_apart, told_spot, with_list}
@@ -11,14 +11,6 @@ use Rattle.zeb_register.proofs.ListChanges.{changes_rise, content_changed, conte
 use Rattle.zeb_register.proofs.RisingLists.{told_by}
 use Rattle.zeb_register.proofs.RisingPlaces.{are_in, same_places}
 use Rattle.zeb_register.proofs.TermsAmong.{records_count, records_of}
-use Rattle.zeb_register.specs.Content.{OldsRise, places_in}
-use Rattle.zeb_register.specs.HeldLeaves.{HoldsLeaves}
-use Rattle.zeb_register.specs.KeptUnits.{HasUnit, KeepsUnits}
-use Rattle.zeb_register.specs.LeafUnits.{IsLeafMalformed, IsLeafOf, LeavesRead}
-use Rattle.zeb_register.specs.PrivateUnits.{units_of}
-use Rattle.zeb_register.specs.Readings.{PartReads}
-use Rattle.zeb_register.specs.Sound.{KeepsMalformedUnits}
-use Rattle.zeb_register.specs.UnitChanges.{AllowsChanges, IsStorableChange, IsTouched, IsUnitTouched, KeyUnits, PutsUnits}
 
 -- what a block reads as rises
 part_rises : (Leaves : Row → Type 0) (term : List ℕ) (block : ℕ) (part : List Posting) → PartReads Leaves term block part → IsStrictlySortedBy posting_cmp part

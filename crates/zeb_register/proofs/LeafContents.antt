@@ -1,7 +1,5 @@
 -- Tables hold a content in leaves just where each unit reads as it says, and no row and no entry stands beside.
-use Rattle.zeb_register.proofs.Cited.{Row, column, ◌↔◌, Trees, Int, Has, ◌≡◌, ◌∙◌, ◌++◌, ◌∷◌, ◌/◌, ℕ, ℤ, pos, List, [], map, refl, sym, ap, subst, inl, inr, arith, nat_eq, Posting, Key, Content, HasRisingLists, posted, posting_cmp, HasKey, IsCount, part_in, register_front, KeepsRegisters, LacksRegisters, Place, all_has}
-use Rattle.std.proofs.Common.{◌*◌}
-use Rattle.zeb_leaf.specs.declared.entries.Entry.{Entry}
+use Rattle.zeb_register.proofs.Cited.{Row, column, ◌↔◌, Trees, Int, Has, ◌≡◌, ◌∙◌, ◌++◌, ◌∷◌, ◌/◌, ℕ, ℤ, pos, List, [], map, refl, sym, ap, subst, inl, inr, arith, nat_eq, Posting, Key, Content, HasRisingLists, posted, posting_cmp, HasKey, IsCount, part_in, register_front, KeepsRegisters, LacksRegisters, Place, all_has, ◌*◌, Entry, places_in, AreLeavesAlone, HoldsLeaves, IsLeafAlone, AreLeavesMiscounted, AreLeavesWhole, HasMalformedLeaf, IsLeafMalformed, IsLeafOf, LeavesCount, LeavesRead, LeavesReadBlock, HasRecordOf, PartReads, SaysPart}
 use Rattle.zeb_register.proofs.BlockUnits.{none_rises}
 use Rattle.zeb_register.proofs.ContentChanges.{posting_total}
 use Rattle.zeb_register.proofs.CountLemmas.{count_so}
@@ -10,10 +8,6 @@ use Rattle.zeb_register.proofs.OccurringLemmas.{key_posted}
 use Rattle.zeb_register.proofs.PackedLemmas.{in_part, not_empty, part_in_block, part_in_list}
 use Rattle.zeb_register.proofs.RisingLists.{kept_rises, same_list}
 use Rattle.zeb_register.proofs.TermsAmong.{records_count}
-use Rattle.zeb_register.specs.Content.{places_in}
-use Rattle.zeb_register.specs.HeldLeaves.{AreLeavesAlone, HoldsLeaves, IsLeafAlone}
-use Rattle.zeb_register.specs.LeafUnits.{AreLeavesMiscounted, AreLeavesWhole, HasMalformedLeaf, IsLeafMalformed, IsLeafOf, LeavesCount, LeavesRead, LeavesReadBlock}
-use Rattle.zeb_register.specs.Readings.{HasRecordOf, PartReads, SaysPart}
 use Rattle.std.specs.List.Sorted.{IsStrictlySortedBy}
 use Rattle.zeb_register.proofs.LeafReadings.{lacks_sum, one_part_read, one_records_sum, part_unread}
 use Rattle.zeb_register.proofs.LeafSums.{records_summed}

@@ -1,14 +1,10 @@
 -- What leaves say of a term they say in one way, and not where they are malformed.
-use Rattle.zeb_register.proofs.Cited.{Row, Blob, ◌≡◌, ◌∙◌, ◌⊎◌, ℕ, List, [], ◌∷◌, length, sum_by, refl, sym, ap, subst, inl, inr, nat_cmp_total, nat_list_cmp_total, IsTotalOrder, on_total, then_total, Posting}
+use Rattle.zeb_register.proofs.Cited.{Row, Blob, ◌≡◌, ◌∙◌, ◌⊎◌, ℕ, List, [], ◌∷◌, length, sum_by, refl, sym, ap, subst, inl, inr, nat_cmp_total, nat_list_cmp_total, IsTotalOrder, on_total, then_total, Posting, entry_cmp, Entry, Covers, HasEntriesAt, LacksEntriesAt, ShowsEntries, leaf_key, IsPartMalformed, LacksSum, PartReads, SayPart, SaysPart, SumsRecords}
 use Rattle.zeb_leaf.proofs.Walked.{empty_leaf, leaf_spells, same_list as one_leaf_list}
 use Rattle.zeb_leaf.specs.Leaves.{IsLeaf}
-use Rattle.zeb_leaf.specs.Order.{entry_cmp}
 use Rattle.zeb_leaf.specs.Walks.{first_place}
-use Rattle.zeb_leaf.specs.declared.entries.Entry.{Entry}
 use Rattle.zeb_register.proofs.PackedLemmas.{one_spelled}
 use Rattle.zeb_register.proofs.RisingLists.{same_list}
-use Rattle.zeb_register.specs.Covering.{Covers, HasEntriesAt, LacksEntriesAt, ShowsEntries, leaf_key}
-use Rattle.zeb_register.specs.Readings.{IsPartMalformed, LacksSum, PartReads, SayPart, SaysPart, SumsRecords}
 
 pub entries_total : IsTotalOrder entry_cmp
 entries_total = then_total (on_total (λ (e : Entry). e.term) nat_list_cmp_total) (on_total (λ (e : Entry). e.block) nat_cmp_total)

@@ -1,18 +1,10 @@
 -- What follows of changes of the keys of a run in leaves: for tables that hold a content, and for rows whatever they say.
-use Rattle.zeb_register.proofs.Cited.{◌≡◌, ◌⊎◌, ◌∙◌, ◌/◌, ℕ, ℤ, List, [], ◌∷◌, refl, sym, ap, ap₂, subst, inl, inr, int_cmp_total, key_total, keys_apart, all_has, Has, Trees, Posting, Key, RecordChange, AreListChanges, Content, HasRisingLists, packed_leaves, posting_cmp}
+use Rattle.zeb_register.proofs.Cited.{◌≡◌, ◌⊎◌, ◌∙◌, ◌/◌, ℕ, ℤ, List, [], ◌∷◌, refl, sym, ap, ap₂, subst, inl, inr, int_cmp_total, key_total, keys_apart, all_has, Has, Trees, Posting, Key, RecordChange, AreListChanges, Content, HasRisingLists, packed_leaves, posting_cmp, places_in, HoldsLeaves, HasUnit, LeavesRead, AreChangedBy, IsOfRun, IsUnitAmong, PutsKeys, TurnsAny, TurnsKey, KeepsMalformedUnits, IsTouched, KeyChanges}
 use Rattle.std.specs.List.Sorted.{IsStrictlySortedBy}
 use Rattle.zeb_register.proofs.ContentChanges.{integers_apart}
 use Rattle.zeb_register.proofs.LeafChanges.{list_made, malformed_units, told_touched, unit_after, units_held, untouched_places}
 use Rattle.zeb_register.proofs.ListChanges.{changes_rise}
 use Rattle.zeb_register.proofs.RisingLists.{told_by}
-use Rattle.zeb_register.specs.Content.{places_in}
-use Rattle.zeb_register.specs.HeldLeaves.{HoldsLeaves}
-use Rattle.zeb_register.specs.KeptUnits.{HasUnit}
-use Rattle.zeb_register.specs.LeafUnits.{LeavesRead}
-use Rattle.zeb_register.specs.RunChanges.{AreChangedBy, IsOfRun, IsUnitAmong, PutsKeys, TurnsAny, TurnsKey}
-use Rattle.zeb_register.specs.Sound.{KeepsMalformedUnits}
-use Rattle.zeb_register.specs.UnitChanges.{IsTouched}
-use Rattle.zeb_register.specs.declared.registers.KeyChanges.{KeyChanges}
 
 -- ---- whether a key, and a unit, is of the run
 

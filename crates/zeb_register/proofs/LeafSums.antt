@@ -1,16 +1,11 @@
 -- Where each block of a term reads as a list's part in it, the term's entries sum up to the records of the list.
-use Rattle.zeb_register.proofs.Cited.{Row, Has, all_from, all_has, has_either, has_left, has_right, has_mapped, mapped_has, ◌≡◌, ◌≢◌, ◌↔◌, ◌∙◌, ◌/◌, ◌<◌, ◌++◌, ◌∷◌, ℕ, List, [], length, map, refl, sym, ap, subst, inl, inr, arith, Less, Equal, nat_cmp, nat_cmp_total, nat_list_cmp_total, slice_cmp, ordering_then, sum_by, tied_itself, length-append, Posting, numbers_apart, IsCount, part_in}
-use Rattle.std.specs.Prelude.{◌≤◌}
-use Rattle.zeb_leaf.specs.Order.{IsEntry, entry_cmp}
-use Rattle.zeb_leaf.specs.declared.entries.Entry.{Entry}
+use Rattle.zeb_register.proofs.Cited.{Row, Has, all_from, all_has, has_either, has_left, has_right, has_mapped, mapped_has, ◌≡◌, ◌≢◌, ◌↔◌, ◌∙◌, ◌/◌, ◌<◌, ◌++◌, ◌∷◌, ℕ, List, [], length, map, refl, sym, ap, subst, inl, inr, arith, Less, Equal, nat_cmp, nat_cmp_total, nat_list_cmp_total, slice_cmp, ordering_then, sum_by, tied_itself, length-append, Posting, numbers_apart, IsCount, part_in, sum_by-cons, ◌≤◌, IsEntry, entry_cmp, Entry, Covers, HasEntriesAt, ShowsEntries, leaf_key}
 use Rattle.zeb_register.proofs.ContentLemmas.{some_posting}
 use Rattle.zeb_register.proofs.CountLemmas.{is_less, less_is, one_count}
 use Rattle.zeb_register.proofs.PackedLemmas.{in_part, not_empty, part_in_block, part_in_list}
 use Rattle.zeb_register.proofs.RisingLists.{all_rise, all_there, joined_rises, with_all}
-use Rattle.zeb_register.specs.Covering.{Covers, HasEntriesAt, ShowsEntries, leaf_key}
 use Rattle.zeb_register.specs.Readings.{HasRecordOf, IsAt, IsEntryOf, PartReads, SaysPart, SumsRecords}
 use Rattle.std.specs.List.Sorted.{IsStrictlySortedBy}
-use Rattle.std.proofs.lemmas.List.Sums.{sum_by-cons}
 use Rattle.zeb_register.proofs.LeafReadings.{one_shown}
 
 -- ---- entries of one term

@@ -1,12 +1,8 @@
 -- Each register that is held in leaves has a list of its terms: they are among those of the entries of its leaves.
-use Rattle.zeb_register.proofs.Cited.{Row, column, Trees, Int, Real, Null, Text, Blob, Has, has_left, has_right, mapped_has, ◌≡◌, ◌∙◌, ◌++◌, ◌∷◌, ◌/◌, ℕ, ℤ, pos, List, [], map, refl, sym, ap, subst, inl, inr, Key, Content, TermCount, Register, posted, part_in, register_front, blocks_tree, AreTermsOf, key_in}
-use Rattle.zeb_leaf.specs.declared.entries.Entry.{Entry}
+use Rattle.zeb_register.proofs.Cited.{Row, column, Trees, Int, Real, Null, Text, Blob, Has, has_left, has_right, mapped_has, ◌≡◌, ◌∙◌, ◌++◌, ◌∷◌, ◌/◌, ℕ, ℤ, pos, List, [], map, refl, sym, ap, subst, inl, inr, Key, Content, TermCount, Register, posted, part_in, register_front, blocks_tree, AreTermsOf, key_in, Entry, ShowsEntries, HoldsLeaves, IsLeafAlone, IsLeafOf}
 use Rattle.zeb_register.proofs.OccurringLemmas.{key_posted}
 use Rattle.zeb_register.proofs.PackedLemmas.{in_part, not_empty}
 use Rattle.zeb_register.proofs.TermsAmong.{terms_among}
-use Rattle.zeb_register.specs.Covering.{ShowsEntries}
-use Rattle.zeb_register.specs.HeldLeaves.{HoldsLeaves, IsLeafAlone}
-use Rattle.zeb_register.specs.LeafUnits.{IsLeafOf}
 use Rattle.zeb_register.proofs.LeafReadings.{one_shown}
 use Rattle.zeb_register.proofs.LeafSums.{leaf_there}
 

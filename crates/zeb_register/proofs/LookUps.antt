@@ -1,13 +1,8 @@
 -- What is read of the first row of an answer, as it stands in the tables.
-use Rattle.zeb_register.proofs.Cited.{Row, column, Trees, Int, Text, Blob, Has, ◌≡◌, ℕ, ℤ, pos, List, [], ◌∷◌, length, arith, Option, Some, None, String, string_bytes, inl, refl, sym, ap, subst, ◌∙◌, IsListOf, HasRow, AreReadableTexts, HasDatabase, HasRecord, IsValueRow, IsDatabaseRow, IsElderRow, IsIdentRow, AreCountedDatabases, AreNumbered, AreReadableIdents, entry, meta_tree}
-use Rattle.std.specs.declared.alloc.Global.{Global}
+use Rattle.zeb_register.proofs.Cited.{Row, column, Trees, Int, Text, Blob, Has, ◌≡◌, ℕ, ℤ, pos, List, [], ◌∷◌, length, arith, Option, Some, None, String, string_bytes, inl, refl, sym, ap, subst, ◌∙◌, IsListOf, HasRow, AreReadableTexts, HasDatabase, HasRecord, IsValueRow, IsDatabaseRow, IsElderRow, IsIdentRow, AreCountedDatabases, AreNumbered, AreReadableIdents, entry, meta_tree, Global, IsDatabaseOf, IsElderOf, IsIdentOf, IsIdOf, IsValueOf}
 use Rattle.zeb_register.specs.declared.catalog.Database.{Database}
 use Rattle.zeb_register.specs.declared.catalog.DatabaseId.{DatabaseId}
 use Rattle.zeb_register.specs.declared.kept.Elder.{Elder}
-use Rattle.zeb_register.specs.Catalog.{IsDatabaseOf}
-use Rattle.zeb_register.specs.Kept.{IsElderOf, IsIdentOf}
-use Rattle.zeb_register.specs.Store.{IsValueOf}
-use Rattle.zeb_register.specs.PrivateCatalog.{IsIdOf}
 use Rattle.zeb_register.specs.PrivateFirstRows.{ShowsFound, AreShown, ShowsElder, IsElderShown, ShowsText, IsTextShown, ShowsDatabase, IsCountedRow, ShowsId, BeginsWithId}
 
 -- rows under two numbers of an answer are those under the numbers that were meant

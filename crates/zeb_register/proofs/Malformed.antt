@@ -1,6 +1,5 @@
 -- What is malformed in the registers and is so still, and rows beside those of one key that are there still.
-use Rattle.zeb_register.proofs.Cited.{Database, Row, column, Trees, Int, Null, Text, Has, ◌≡◌, ◌∷◌, ◌++◌, [], ℕ, ℤ, pos, List, ap, sym, subst, Key, register_code, key_row, KeepsBeside, KeepsMalformed, KeepsRowsBeside, HasRow, KeepsRegisters, blocks_tree, dict_tree, postings_tree, Format, keeps_malformed, packed_blocks, packed_leaves, plain_rows}
-use Rattle.zeb_register.specs.LeafUnits.{IsLeafMalformed}
+use Rattle.zeb_register.proofs.Cited.{Database, Row, column, Trees, Int, Null, Text, Has, ◌≡◌, ◌∷◌, ◌++◌, [], ℕ, ℤ, pos, List, ap, sym, subst, Key, register_code, key_row, KeepsBeside, KeepsMalformed, KeepsRowsBeside, HasRow, KeepsRegisters, blocks_tree, dict_tree, postings_tree, Format, keeps_malformed, packed_blocks, packed_leaves, plain_rows, IsLeafMalformed}
 
 pub row_same : (tree : ℕ) (old new : Trees) → new tree ≡ old tree → (row : Row) → HasRow old tree row → HasRow new tree row
 row_same tree old new same row there = (there.0, subst (λ (rows : List Row). Has rows (Int there.0 ∷ row)) (sym same) there.1)

@@ -1,6 +1,5 @@
 -- A term whose count can't be shown, where those of all nearer ones are listed: of these there are no more.
-use Rattle.zeb_register.proofs.Cited.{Trees, ◌<◌, ℕ, ℤ, arith, List, length, Register, TermCount, Format}
-use Rattle.zeb_register.specs.Terms.{HidesCount, HidesNearest, ListsCounts}
+use Rattle.zeb_register.proofs.Cited.{Trees, ◌<◌, ℕ, ℤ, arith, List, length, Register, TermCount, Format, HidesCount, HidesNearest, ListsCounts}
 use Rattle.zeb_register.proofs.CountLemmas.{term_total}
 use Rattle.zeb_register.proofs.CountLists.{shown_listed}
 use Rattle.zeb_register.proofs.RisingLists.{no_longer}

@@ -1,12 +1,9 @@
 -- Tables that differ in one leaf say the same of each key that this leaf doesn't cover.
-use Rattle.zeb_register.proofs.Cited.{Row, row_cmp, Trees, ◌≡◌, ◌≢◌, ◌∙◌, ◌⊎◌, ◌/◌, ◌++◌, ℕ, ℤ, pos, refl, sym, ap, subst, inl, inr, arith, Greater, int_cmp_total, Key, register_code, register_front, HasRow, blocks_tree}
-use Rattle.std.proofs.Common.{◌*◌}
+use Rattle.zeb_register.proofs.Cited.{Row, row_cmp, Trees, ◌≡◌, ◌≢◌, ◌∙◌, ◌⊎◌, ◌/◌, ◌++◌, ℕ, ℤ, pos, refl, sym, ap, subst, inl, inr, arith, Greater, int_cmp_total, Key, register_code, register_front, HasRow, blocks_tree, ◌*◌, Covers, leaf_key, own_key, IsLeafOf}
 use Rattle.zeb_register.proofs.ContentChanges.{integers_apart}
 use Rattle.zeb_register.proofs.RisingLists.{told_by}
 use Rattle.zeb_register.proofs.SameLeaves.{AgreeAt, agree_back, lacks_sum_there, malformed_there, part_there, sums_there}
-use Rattle.zeb_register.specs.Covering.{Covers, leaf_key, own_key}
 use Rattle.zeb_register.specs.DamagedLeaves.{AreAlikeBeside, CoversSome, CoversUnit, DifferInLeaf, leaf_row}
-use Rattle.zeb_register.specs.LeafUnits.{IsLeafOf}
 
 -- each leaf of L has its own key in M
 abbrev HasOwnKeys : (L M : Row → Type 0) → Type 0

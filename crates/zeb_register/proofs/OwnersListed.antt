@@ -1,6 +1,5 @@
 -- The ids with which rows of a table begin, one after the other, beside the databases that are listed.
-use Rattle.zeb_register.proofs.Cited.{Database, Row, State, IsUnchanged, Trees, Int, ◌≡◌, ◌∙◌, ◌≤◌, ◌+◌, ◌≤ℤ◌, ◌<ℤ◌, ◌+ℤ◌, ℕ, ℤ, pos, List, [], ◌∷◌, length, Option, Some, None, refl, sym, ap, subst, subst₂, inl, inr, Ordering, Less, Equal, Greater, arith, int_cmp, int_ranked, ints, ListedDatabase, Ends, IsListedId, Owns, AreEnds, ShowsFirst, IsStore, IsLeastFrom}
-use Rattle.zeb_register.specs.PrivateRowReads.{IsFirst}
+use Rattle.zeb_register.proofs.Cited.{Database, Row, State, IsUnchanged, Trees, Int, ◌≡◌, ◌∙◌, ◌≤◌, ◌+◌, ◌≤ℤ◌, ◌<ℤ◌, ◌+ℤ◌, ℕ, ℤ, pos, List, [], ◌∷◌, length, Option, Some, None, refl, sym, ap, subst, subst₂, inl, inr, Ordering, Less, Equal, Greater, arith, int_cmp, int_ranked, ints, ListedDatabase, Ends, IsListedId, Owns, AreEnds, ShowsFirst, IsStore, IsLeastFrom, IsFirst}
 use Rattle.zeb_register.proofs.Calls.{store_same}
 use Rattle.zeb_register.proofs.OwnerStatements.{cmp_below}
 

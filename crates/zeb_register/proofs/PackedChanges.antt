@@ -1,7 +1,5 @@
 -- Changes of a key's list in packed tables: what is held of one block, and the rows that are written of it.
-use Rattle.zeb_register.proofs.Cited.{◌≡◌, ◌≢◌, ◌↔◌, ◌⊎◌, ◌∙◌, ◌+◌, ℕ, ℤ, pos, List, [], ◌∷◌, refl, sym, ap, ap₂, subst, inl, inr, arith, nat_cmp_total, Int, Text, Row, Trees, Has, Posting, Key, register_code, numbers_apart, Place, RecordChange, AreChangedAt, ArePlacesOf, Content, IsListChanged, posted, posting_at, HasKey, IsCount, HoldsBlocks, IsDictRow, dict_row, HoldsBlockRows, IsInRecord, HasRow, dict_tree, postings_tree}
-use Rattle.zeb_register.specs.UnitChanges.{CountsOn, PutsCount}
-use Rattle.zeb_register.specs.PrivateKeyColumns.{IsDictIn}
+use Rattle.zeb_register.proofs.Cited.{◌≡◌, ◌≢◌, ◌↔◌, ◌⊎◌, ◌∙◌, ◌+◌, ℕ, ℤ, pos, List, [], ◌∷◌, refl, sym, ap, ap₂, subst, inl, inr, arith, nat_cmp_total, Int, Text, Row, Trees, Has, Posting, Key, register_code, numbers_apart, Place, RecordChange, AreChangedAt, ArePlacesOf, Content, IsListChanged, posted, posting_at, HasKey, IsCount, HoldsBlocks, IsDictRow, dict_row, HoldsBlockRows, IsInRecord, HasRow, dict_tree, postings_tree, IsDictIn, CountsOn, PutsCount}
 use Rattle.zeb_register.proofs.ContentChanges.{told_spot}
 use Rattle.zeb_register.proofs.ContentLemmas.{same_key}
 use Rattle.zeb_register.proofs.CountLemmas.{count_none, count_so, counted_none, one_count}

@@ -1,6 +1,5 @@
 -- What follows of changes of a key's units in packed blocks: for tables that hold a content, and for rows whatever they say.
-use Rattle.zeb_register.proofs.Cited.{true, HasRow, ◌≡◌, ◌≢◌, ◌↔◌, ◌∙◌, ◌/◌, ◌≤◌, ℕ, ℤ, zero, suc, pos, List, [], ◌∷◌, ◌++◌, nat_eq, refl, sym, ap, subst, inl, inr, arith, eqb_tells, AllByRecursion, Int, Blob, Row, column, Trees, Has, all_has, Posting, Key, Place, RecordChange, AreChangedAt, ArePlacesOf, Content, HasRisingLists, IsStorable, posted, posting_at, HasKey, IsCount, HoldsBlocks, block_row, part_in, key_row, HoldsBlockRows, IsInRecord, KeepsMalformed, KeepsRowsBeside, blocks_tree, dict_tree, postings_tree, ap₂, length, not, ◌==◌, packed_blocks, IsRest}
-use Rattle.zeb_register.specs.Content.{OldsRise, places_in}
+use Rattle.zeb_register.proofs.Cited.{true, HasRow, ◌≡◌, ◌≢◌, ◌↔◌, ◌∙◌, ◌/◌, ◌≤◌, ℕ, ℤ, zero, suc, pos, List, [], ◌∷◌, ◌++◌, nat_eq, refl, sym, ap, subst, inl, inr, arith, eqb_tells, AllByRecursion, Int, Blob, Row, column, Trees, Has, all_has, Posting, Key, Place, RecordChange, AreChangedAt, ArePlacesOf, Content, HasRisingLists, IsStorable, posted, posting_at, HasKey, IsCount, HoldsBlocks, block_row, part_in, key_row, HoldsBlockRows, IsInRecord, KeepsMalformed, KeepsRowsBeside, blocks_tree, dict_tree, postings_tree, ap₂, length, not, ◌==◌, packed_blocks, IsRest, OldsRise, places_in, BlockReads, CountsAs, IsOfBlock, ReadsAs, units_of, KeepsBut, IsTold, IsBlockAmong, IsBlockIn, IsOwnBlock, AllowsChanges, IsStorableChange, IsTouched, KeyUnits, LacksBlock, PutsUnits}
 use Rattle.zeb_register.proofs.ContentChanges.{posting_total, told_spot, with_list}
 use Rattle.zeb_register.proofs.ContentLemmas.{told_apart}
 use Rattle.zeb_register.proofs.CountLemmas.{count_none, count_so, counted_none}
@@ -10,9 +9,6 @@ use Rattle.zeb_register.proofs.OccurringLemmas.{key_posted}
 use Rattle.zeb_register.proofs.PackedLemmas.{block_rows, dict_there, in_part, not_empty, part_in_block, part_in_list}
 use Rattle.zeb_register.proofs.RisingLists.{kept_rises, same_list}
 use Rattle.zeb_register.proofs.TermsAmong.{records_count, records_of}
-use Rattle.zeb_register.specs.PrivateUnits.{units_of}
-use Rattle.zeb_register.specs.PackedUnits.{BlockReads, CountsAs, IsOfBlock, ReadsAs}
-use Rattle.zeb_register.specs.UnitChanges.{KeepsBut, IsTold, IsBlockAmong, IsBlockIn, IsOwnBlock, AllowsChanges, IsStorableChange, IsTouched, KeyUnits, LacksBlock, PutsUnits}
 use Rattle.zeb_register.proofs.BlockUnits.{held_block, held_units, one_block_read, one_reading, read_rises}
 use Rattle.zeb_register.proofs.KeyPlaces.{in_place, place_in, place_of}
 use Rattle.zeb_register.proofs.ContentTurns.{AreUnitsIn, InRange, count_turned, list_kept, list_there, list_turned, touched, units_turned}

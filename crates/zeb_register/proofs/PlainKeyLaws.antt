@@ -1,10 +1,5 @@
 -- What follows of changes of a key's units in plain rows: for tables that hold a content, and for rows whatever they say.
-use Rattle.zeb_register.proofs.Cited.{◌≤◌, IsPlaceIn, drop, ◌≡◌, ◌≢◌, ◌↔◌, ◌∙◌, ◌++◌, ℕ, ℤ, pos, List, refl, sym, ap, ap₂, subst, inl, inr, AllByRecursion, Int, Row, Trees, Has, Posting, Key, Place, RecordChange, AreChangedAt, ArePlacesOf, Content, IsStorable, plain_rows, HasRow, HoldsRows, key_row, posting_row, postings_tree, posting_at, KeepsMalformed, KeepsRowsBeside}
-use Rattle.zeb_register.specs.Content.{OldsRise, places_in}
-use Rattle.zeb_register.specs.PlainRows.{IsPostingRow}
-use Rattle.zeb_register.specs.PlainUnits.{RowsRead, ShowsPosting}
-use Rattle.zeb_register.specs.PrivateUnits.{units_of}
-use Rattle.zeb_register.specs.UnitChanges.{AllowsChanges, IsChanged, IsStorableChange, KeyUnits, PutsUnits}
+use Rattle.zeb_register.proofs.Cited.{◌≤◌, IsPlaceIn, drop, ◌≡◌, ◌≢◌, ◌↔◌, ◌∙◌, ◌++◌, ℕ, ℤ, pos, List, refl, sym, ap, ap₂, subst, inl, inr, AllByRecursion, Int, Row, Trees, Has, Posting, Key, Place, RecordChange, AreChangedAt, ArePlacesOf, Content, IsStorable, plain_rows, HasRow, HoldsRows, key_row, posting_row, postings_tree, posting_at, KeepsMalformed, KeepsRowsBeside, OldsRise, places_in, IsPostingRow, RowsRead, ShowsPosting, units_of, AllowsChanges, IsChanged, IsStorableChange, KeyUnits, PutsUnits}
 use Rattle.zeb_register.proofs.ContentChanges.{told_spot, with_list}
 use Rattle.zeb_register.proofs.ContentLemmas.{told_apart}
 use Rattle.zeb_register.proofs.ContentTurns.{AreUnitsIn, InRange, list_kept, list_there, list_turned, units_turned}

@@ -1,16 +1,12 @@
 -- The terms of a register as rows of postings show them, whatever the rows hold.
-use Rattle.zeb_register.proofs.Cited.{Row, column, State, Trees, Null, Int, Text, all_from, has_either, has_left, has_right, has_mapped, mapped_has, Has, row_cmp, ◌≡◌, ◌≢◌, ◌↔◌, ◌⊎◌, ◌∙◌, ◌<◌, ◌≤◌, ℕ, ℤ, pos, List, [], ◌∷◌, ◌++◌, drop, length, length-map, map, reverse, reverse-append, length-reverse, Less, nat_cmp, cases_Bool, slice_cmp, nat_list_cmp_total, is_lt, register_code, refl, sym, ap, subst, inl, inr, arith, Option, Some, None, Result, Ok, Err, IfOk, String, string_bytes, IsUtf8, Global, Spot, Totals, capped, posting_at, posting_row, spot_cmp, Register, Posting, TermCount, store_schema, IsListOf, IsRest, IsStore, postings_tree, register_front, plain_rows, key_in, term_cmp, IsCount, AreCounts, IsInRecord, IsOccurrenceRow, IsShown}
+use Rattle.zeb_register.proofs.Cited.{Row, column, State, Trees, Null, Int, Text, all_from, has_either, has_left, has_right, has_mapped, mapped_has, Has, row_cmp, ◌≡◌, ◌≢◌, ◌↔◌, ◌⊎◌, ◌∙◌, ◌<◌, ◌≤◌, ℕ, ℤ, pos, List, [], ◌∷◌, ◌++◌, drop, length, length-map, map, reverse, reverse-append, length-reverse, Less, nat_cmp, cases_Bool, slice_cmp, nat_list_cmp_total, is_lt, register_code, refl, sym, ap, subst, inl, inr, arith, Option, Some, None, Result, Ok, Err, IfOk, String, string_bytes, IsUtf8, Global, Spot, Totals, capped, posting_at, posting_row, spot_cmp, Register, Posting, TermCount, store_schema, IsListOf, IsRest, IsStore, postings_tree, register_front, plain_rows, key_in, term_cmp, IsCount, AreCounts, IsInRecord, IsOccurrenceRow, IsShown, AreAllShown, HasRowIn, HasShownNone, IsUnderKey, RowsCount, FindsNearest, HasTerm, HidesText, IsTermRow, ShowsNearest, ShowsTerm, SomeIsNoOccurrence, ListsUnits, RegisterOf}
 use Rattle.std.specs.declared.alloc.AllocError.{AllocError}
 use Rattle.std.specs.List.Sorted.{IsStrictlySortedBy}
 use Rattle.sqlite.specs.Effect.{Database}
-use Rattle.zeb_register.specs.declared.registers.RegisterOf.{RegisterOf}
-use Rattle.zeb_register.specs.PlainUnits.{AreAllShown, HasRowIn, HasShownNone, IsUnderKey, RowsCount}
-use Rattle.zeb_register.specs.PrivateRowTerms.{FindsNearest, HasTerm, HidesText, IsTermRow, ShowsNearest, ShowsTerm, SomeIsNoOccurrence}
 use Rattle.zeb_register.specs.PrivateNearest.{AreNearest, FindsCount, HasOn, HideNearest, HidesNext, IsNearer, IsNext, IsOn, in_order}
 use Rattle.zeb_register.specs.Terms.{Comes, HidesCount, HidesSome, ListsAll, ListsCounts, SumsUp, shows_count}
 use Rattle.zeb_register.specs.declared.terms.Way.{Way}
 use Rattle.zeb_register.specs.declared.terms.Way.TheVariants.{Up, Down}
-use Rattle.zeb_register.specs.Units.{ListsUnits}
 use Rattle.zeb_register.proofs.BetweenRows.{begins}
 use Rattle.zeb_register.proofs.CountLemmas.{comes_is, comes_not, comes_or, count_none, count_so, some_count, term_total}
 use Rattle.zeb_register.proofs.KeyPlaces.{place_in, place_of, placed_at}

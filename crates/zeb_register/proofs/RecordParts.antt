@@ -1,5 +1,5 @@
 -- One record's part of a list of postings: taken apart, compared and put together again.
-use Rattle.zeb_register.proofs.Cited.{◌≡◌, ◌⊎◌, ◌∙◌, ◌<◌, ◌≤◌, ◌/◌, ◌^◌, ◌==◌, ℕ, nat_lt, true, List, ◌++◌, map, filter, refl, sym, ap, ap₂, subst, inl, inr, Ordering, Less, Equal, Greater, nat_cmp, arith, nat_tests, Has, all_from, all_has, has_either, has_filtered, has_kept, has_left, has_right, has_mapped, mapped_has, numbers_apart, Posting, IsNumbered, LiesIn, Place, RecordChange, IsListChanged, posting_at, posting_cmp}
+use Rattle.zeb_register.proofs.Cited.{◌≡◌, ◌⊎◌, ◌∙◌, ◌<◌, ◌≤◌, ◌/◌, ◌^◌, ◌==◌, ℕ, nat_lt, true, List, ◌++◌, map, filter, refl, sym, ap, ap₂, subst, inl, inr, Ordering, Less, Equal, Greater, nat_cmp, arith, nat_tests, Has, all_from, all_has, has_either, has_filtered, has_kept, has_left, has_right, has_mapped, mapped_has, numbers_apart, Posting, IsNumbered, LiesIn, Place, RecordChange, IsListChanged, posting_at, posting_cmp, AreStorablePlaces, IsStorablePlace, places_in, IsStorableChange, TurnsPlaces}
 use Rattle.std.specs.List.Sorted.{IsStrictlySortedBy}
 use Rattle.zeb_register.proofs.ContentChanges.{posting_total}
 use Rattle.zeb_register.proofs.CountLemmas.{is_less}
@@ -8,8 +8,6 @@ use Rattle.zeb_register.proofs.ListChanges.{place_is}
 use Rattle.zeb_register.proofs.RisingLists.{joined_rises, kept_rises}
 use Rattle.zeb_register.proofs.RisingPlaces.{are_in, mapped_back, places_rise, same_places}
 use Rattle.zeb_register.proofs.StorablePlaces.{below_first}
-use Rattle.zeb_register.specs.Content.{AreStorablePlaces, IsStorablePlace, places_in}
-use Rattle.zeb_register.specs.UnitChanges.{IsStorableChange, TurnsPlaces}
 
 -- ---- the postings of a record
 

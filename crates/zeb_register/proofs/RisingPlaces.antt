@@ -1,8 +1,7 @@
 -- The places of records in lists that rise.
-use Rattle.zeb_register.proofs.Cited.{◌≡◌, ◌↔◌, ◌∙◌, ◌==◌, ℕ, List, [], ◌∷◌, filter, map, nat_eq, refl, sym, ap, subst, eq-eqb, eqb-true, Has, has_filtered, has_kept, has_mapped, mapped_has, Posting, Place, ArePlacesOf, place_cmp, posting_at, posting_cmp, Ordering, nat_cmp, nat_cmp_total, ordering_then, tied_itself}
+use Rattle.zeb_register.proofs.Cited.{◌≡◌, ◌↔◌, ◌∙◌, ◌==◌, ℕ, List, [], ◌∷◌, filter, map, nat_eq, refl, sym, ap, subst, eq-eqb, eqb-true, Has, has_filtered, has_kept, has_mapped, mapped_has, Posting, Place, ArePlacesOf, place_cmp, posting_at, posting_cmp, Ordering, nat_cmp, nat_cmp_total, ordering_then, tied_itself, places_in}
 use Rattle.zeb_register.proofs.ContentChanges.{posting_total}
 use Rattle.zeb_register.proofs.RisingLists.{kept_rises, same_list}
-use Rattle.zeb_register.specs.Content.{places_in}
 use Rattle.zeb_register.proofs.KeyPlaces.{place_of}
 use Rattle.std.specs.List.Sorted.{IsStrictlySortedBy}
 use Rattle.zeb_register.proofs.Scans.{strictly_mapped}

@@ -1,10 +1,6 @@
 -- What plain rows say of a key, unit by unit: each has one reading, a malformed one none. What tables hold says each unit.
-use Rattle.zeb_register.proofs.Cited.{Row, column, row_cmp, value_cmp-Int, row_cmp_total, State, Trees, Int, Null, all_from, all_has, has_mapped, mapped_has, Has, ◌≡◌, ◌↔◌, ◌∙◌, ℕ, ℤ, pos, List, [], ◌∷◌, ◌++◌, drop, map, refl, sym, ap, ap₂, subst, inl, inr, Ordering, Less, Equal, Greater, nat_cmp, ordering_then, Key, Place, Posting, Content, posting_at, posting_cmp, HoldsRows, key_row, posting_row, first_three, HasRow, IsListOf, IsStore, postings_tree, plain_rows, posted, HasKey, IsCount}
+use Rattle.zeb_register.proofs.Cited.{Row, column, row_cmp, value_cmp-Int, row_cmp_total, State, Trees, Int, Null, all_from, all_has, has_mapped, mapped_has, Has, ◌≡◌, ◌↔◌, ◌∙◌, ℕ, ℤ, pos, List, [], ◌∷◌, ◌++◌, drop, map, refl, sym, ap, ap₂, subst, inl, inr, Ordering, Less, Equal, Greater, nat_cmp, ordering_then, Key, Place, Posting, Content, posting_at, posting_cmp, HoldsRows, key_row, posting_row, first_three, HasRow, IsListOf, IsStore, postings_tree, plain_rows, posted, HasKey, IsCount, places_in, AreAllShown, HasRowIn, HasShownNone, IsRowMalformed, IsUnderKey, RowsCount, RowsRead, ShowsPosting, SomeShowsNone, HoldsUnits, ListsUnits}
 use Rattle.std.specs.List.Sorted.{IsStrictlySortedBy}
-use Rattle.zeb_register.specs.Content.{places_in}
-use Rattle.zeb_register.specs.PlainUnits.{AreAllShown, HasRowIn, HasShownNone, IsRowMalformed, IsUnderKey, RowsCount, RowsRead, ShowsPosting}
-use Rattle.zeb_register.specs.PrivateRowPlaces.{SomeShowsNone}
-use Rattle.zeb_register.specs.Units.{HoldsUnits, ListsUnits}
 use Rattle.zeb_register.proofs.ContentChanges.{place_total, postings_apart}
 use Rattle.zeb_register.proofs.ContentLemmas.{ints_order, same_posting, told_apart}
 use Rattle.zeb_register.proofs.CountLemmas.{count_so, one_count}

@@ -1,9 +1,6 @@
 -- Work that is counted for a run of keys, and keys of a run that are left.
-use Rattle.zeb_register.proofs.Cited.{◌≡◌, ◌+◌, ◌≤◌, ℕ, zero, suc, List, [], ◌∷◌, drop, length, ap, refl, subst, arith, Trees, blocks_tree, Format}
+use Rattle.zeb_register.proofs.Cited.{◌≡◌, ◌+◌, ◌≤◌, ℕ, zero, suc, List, [], ◌∷◌, drop, length, ap, refl, subst, arith, Trees, blocks_tree, Format, changes_in, AreInRange, works_for, KeyChanges}
 use Rattle.zeb_register.proofs.WorkCounts.{works_both, works_none}
-use Rattle.zeb_register.specs.RunChanges.{changes_in}
-use Rattle.zeb_register.specs.Tallies.{AreInRange, works_for}
-use Rattle.zeb_register.specs.declared.registers.KeyChanges.{KeyChanges}
 use Rattle.zeb_register.specs.declared.registers.Work.{Work}
 
 pub none_run : (i : ℕ) (run : List KeyChanges) → length run ≤ i → drop i run ≡ []

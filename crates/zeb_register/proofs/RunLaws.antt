@@ -1,11 +1,7 @@
 -- What follows of changes of the keys of a run, in each format: for tables that hold a content, and for rows whatever they say.
-use Rattle.zeb_register.proofs.Cited.{◌≡◌, ◌≢◌, ◌∙◌, ℤ, pos, Int, Text, register_code, List, [], ◌∷◌, ◌++◌, refl, sym, ap, ap₂, subst, inl, inr, AllByRecursion, Has, all_from, all_has, Row, Trees, Key, AreListChanges, AreChangedAt, Content, IsStorable, Posting, Format, holds_in, packed_blocks, packed_leaves, plain_rows, key_row, KeepsRowsBeside, keeps_malformed}
+use Rattle.zeb_register.proofs.Cited.{◌≡◌, ◌≢◌, ◌∙◌, ℤ, pos, Int, Text, register_code, List, [], ◌∷◌, ◌++◌, refl, sym, ap, ap₂, subst, inl, inr, AllByRecursion, Has, all_from, all_has, Row, Trees, Key, AreListChanges, AreChangedAt, Content, IsStorable, Posting, Format, holds_in, packed_blocks, packed_leaves, plain_rows, key_row, KeepsRowsBeside, keeps_malformed, OldsRise, AreChangedBy, IsUnitAmong, KeepsBesideRun, KeysRise, PutsKeys, keeps_run_others, puts_run_rows, AllowsChanges, IsStorableChange, KeyUnits, KeyChanges}
 use Rattle.std.specs.List.Sorted.{IsStrictlySortedBy}
-use Rattle.zeb_register.specs.Content.{OldsRise}
 use Rattle.zeb_register.specs.Formats.{KeepsRows}
-use Rattle.zeb_register.specs.RunChanges.{AreChangedBy, IsUnitAmong, KeepsBesideRun, KeysRise, PutsKeys, keeps_run_others, puts_run_rows}
-use Rattle.zeb_register.specs.UnitChanges.{AllowsChanges, IsStorableChange, KeyUnits}
-use Rattle.zeb_register.specs.declared.registers.KeyChanges.{KeyChanges}
 use Rattle.zeb_register.proofs.ContentChanges.{told_spot, with_list, with_list_here, with_list_there}
 use Rattle.zeb_register.proofs.KeptLeaves.{kept_beside}
 use Rattle.zeb_register.proofs.LeafRuns as leaves

@@ -1,15 +1,9 @@
 -- Rows of the keys of a run: those of a call on one key, and those of two calls in turn.
-use Rattle.zeb_register.proofs.Cited.{◌≡◌, ◌≢◌, ◌∙◌, ◌++◌, ◌≤◌, ℕ, ℤ, zero, suc, pos, List, [], ◌∷◌, refl, sym, ap, subst, inl, inr, arith, Has, Row, column, Trees, Int, HasRow, Key, RecordChange, Format, packed_blocks, packed_leaves, plain_rows, key_row, dict_row, postings_tree, blocks_tree, dict_tree}
+use Rattle.zeb_register.proofs.Cited.{◌≡◌, ◌≢◌, ◌∙◌, ◌++◌, ◌≤◌, ℕ, ℤ, zero, suc, pos, List, [], ◌∷◌, refl, sym, ap, subst, inl, inr, arith, Has, Row, column, Trees, Int, HasRow, Key, RecordChange, Format, packed_blocks, packed_leaves, plain_rows, key_row, dict_row, postings_tree, blocks_tree, dict_tree, KeepsUnits, CountsAs, IsDictIn, IsAmong, IsCountAmong, IsOfRun, IsOwnCount, IsUnitAmong, KeepsBesideRun, TurnsAny, keeps_run_others, puts_run_rows, IsBlockAmong, IsOwnBlock, IsOwnPlace, IsPlaceAmong, IsUnitTouched, KeepsBut, KeyUnits, PutsAny, PutsCount, PutsPlaces, TurnsUnits, KeyChanges}
 use Rattle.zeb_register.proofs.AlikeRows.{AreAlike, are_alike}
 use Rattle.zeb_register.proofs.ContentLemmas.{told_apart}
 use Rattle.zeb_register.proofs.KeptLeaves.{kept_same, kept_then, kept_wider}
 use Rattle.zeb_register.proofs.Malformed.{key_begins, row_same}
-use Rattle.zeb_register.specs.KeptUnits.{KeepsUnits}
-use Rattle.zeb_register.specs.PackedUnits.{CountsAs}
-use Rattle.zeb_register.specs.PrivateKeyColumns.{IsDictIn}
-use Rattle.zeb_register.specs.RunChanges.{IsAmong, IsCountAmong, IsOfRun, IsOwnCount, IsUnitAmong, KeepsBesideRun, TurnsAny, keeps_run_others, puts_run_rows}
-use Rattle.zeb_register.specs.UnitChanges.{IsBlockAmong, IsOwnBlock, IsOwnPlace, IsPlaceAmong, IsUnitTouched, KeepsBut, KeyUnits, PutsAny, PutsCount, PutsPlaces, TurnsUnits}
-use Rattle.zeb_register.specs.declared.registers.KeyChanges.{KeyChanges}
 
 -- ---- a row is of one key
 

@@ -1,15 +1,11 @@
 -- A run of keys that are changed together, as the first key changed before the others: tables can be told that stand between.
-use Rattle.zeb_register.proofs.Cited.{◌≡◌, ◌≢◌, ◌⊎◌, ◌↔◌, ◌∙◌, ◌++◌, ◌==◌, ℕ, ℤ, pos, Bool, true, false, not, if◌then◌else◌, List, [], ◌∷◌, drop, filter, refl, sym, ap, ap₂, subst, inl, inr, eqb_tells, int_cmp_total, Has, all_from, all_has, has_either, has_filtered, has_kept, has_left, has_right, Value, Int, Blob, Text, Null, Real, Row, column, Trees, HasRow, Key, register_code, RecordChange, Format, packed_blocks, packed_leaves, plain_rows, postings_tree, blocks_tree, dict_tree, KeepsLists}
+use Rattle.zeb_register.proofs.Cited.{◌≡◌, ◌≢◌, ◌⊎◌, ◌↔◌, ◌∙◌, ◌++◌, ◌==◌, ℕ, ℤ, pos, Bool, true, false, not, if◌then◌else◌, List, [], ◌∷◌, drop, filter, refl, sym, ap, ap₂, subst, inl, inr, eqb_tells, int_cmp_total, Has, all_from, all_has, has_either, has_filtered, has_kept, has_left, has_right, Value, Int, Blob, Text, Null, Real, Row, column, Trees, HasRow, Key, register_code, RecordChange, Format, packed_blocks, packed_leaves, plain_rows, postings_tree, blocks_tree, dict_tree, KeepsLists, IsDictIn, IsAmong, IsCountAmong, IsOfRun, IsOwnCount, KeysRise, PutsKeys, TurnsAny, TurnsKey, puts_run_rows, IsBlockAmong, IsOwnBlock, IsOwnPlace, IsPlaceAmong, KeepsBut, PutsAny, PutsUnits, KeyChanges}
 use Rattle.zeb_register.specs.Formats.{KeepsRows}
 use Rattle.zeb_register.proofs.AlikeRows.{alike_back, turns_from, turns_to}
 use Rattle.zeb_register.proofs.ContentChanges.{integers_apart}
 use Rattle.zeb_register.proofs.RisingLists.{told_by}
 use Rattle.zeb_register.proofs.RunRows.{beside_alike, block_of_key, count_of_key, count_row, one_key, own_block_of_key, own_count_of_key, own_place_of_key, place_of_key, puts_key_rows, rows_alone, rows_beside}
 use Rattle.zeb_register.proofs.RunTurns.{not_first, stands_once}
-use Rattle.zeb_register.specs.PrivateKeyColumns.{IsDictIn}
-use Rattle.zeb_register.specs.RunChanges.{IsAmong, IsCountAmong, IsOfRun, IsOwnCount, KeysRise, PutsKeys, TurnsAny, TurnsKey, puts_run_rows}
-use Rattle.zeb_register.specs.UnitChanges.{IsBlockAmong, IsOwnBlock, IsOwnPlace, IsPlaceAmong, KeepsBut, PutsAny, PutsUnits}
-use Rattle.zeb_register.specs.declared.registers.KeyChanges.{KeyChanges}
 
 -- ---- whether a row is of a key
 

@@ -1,14 +1,11 @@
 -- Keys of a run that are changed one after the other, told of the tables before all and after all.
-use Rattle.zeb_register.proofs.Cited.{◌≡◌, ◌∙◌, ℕ, zero, suc, ℤ, List, [], ◌∷◌, drop, refl, sym, ap, subst, inl, inr, Result, Ok, Err, Has, all_from, all_has, mapped_has, tied_itself, map, Less, Equal, Row, Trees, postings_tree, blocks_tree, dict_tree, packed_blocks, packed_leaves, plain_rows, Key, key_order, key_total, RegFault, RecordChange, Format, KeepsLists}
+use Rattle.zeb_register.proofs.Cited.{◌≡◌, ◌∙◌, ℕ, zero, suc, ℤ, List, [], ◌∷◌, drop, refl, sym, ap, subst, inl, inr, Result, Ok, Err, Has, all_from, all_has, mapped_has, tied_itself, map, Less, Equal, Row, Trees, postings_tree, blocks_tree, dict_tree, packed_blocks, packed_leaves, plain_rows, Key, key_order, key_total, RegFault, RecordChange, Format, KeepsLists, IsAmong, IsCountAmong, IsOfRun, IsOwnCount, IsRunRefusedAs, IsUnitAmong, KeysRise, PutsKeys, TurnsAny, run_key, puts_run_rows, IsBlockAmong, IsOwnBlock, IsOwnPlace, IsPlaceAmong, IsRefusedAs, KeepsBut, PutsAny, KeyChanges}
 use Rattle.std.specs.List.Sorted.{IsStrictlySortedBy}
 use Rattle.zeb_register.proofs.AlikeRows.{are_alike, allows_alike, alike_back, turns_from, turns_to}
 use Rattle.zeb_register.proofs.KeptLeaves.{kept_itself}
 use Rattle.zeb_register.proofs.RunRows.{beside_alike, rows_alone, rows_beside, rows_more, rows_put, turns_put}
 use Rattle.zeb_register.proofs.UnitChangeLaws.{any_lists}
 use Rattle.zeb_register.specs.Answers.{Answers}
-use Rattle.zeb_register.specs.RunChanges.{IsAmong, IsCountAmong, IsOfRun, IsOwnCount, IsRunRefusedAs, IsUnitAmong, KeysRise, PutsKeys, TurnsAny, run_key, puts_run_rows}
-use Rattle.zeb_register.specs.UnitChanges.{IsBlockAmong, IsOwnBlock, IsOwnPlace, IsPlaceAmong, IsRefusedAs, KeepsBut, PutsAny}
-use Rattle.zeb_register.specs.declared.registers.KeyChanges.{KeyChanges}
 
 none_kept : (These Such : Key → List RecordChange → Row → Type 0) (tree : ℕ) (trees : Trees) → KeepsBut (IsAmong These []) (IsAmong Such []) tree trees trees
 none_kept These Such tree trees = record { stays = λ row out there. there; comes = λ row there. inl (there, λ it. it.1) }

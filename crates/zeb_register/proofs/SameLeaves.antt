@@ -1,8 +1,5 @@
 -- Sets with the same leaves say the same, and of a key those do that agree on the leaf that covers it.
-use Rattle.zeb_register.proofs.Cited.{Row, ◌↔◌, ℕ, List, inl, inr, Posting}
-use Rattle.zeb_leaf.specs.declared.entries.Entry.{Entry}
-use Rattle.zeb_register.specs.Covering.{Covers, HasEntriesAt, LacksEntriesAt, leaf_key}
-use Rattle.zeb_register.specs.HeldLeaves.{IsLeafAlone}
+use Rattle.zeb_register.proofs.Cited.{Row, ◌↔◌, ℕ, List, inl, inr, Posting, Entry, Covers, HasEntriesAt, LacksEntriesAt, leaf_key, IsLeafAlone}
 use Rattle.zeb_register.specs.Readings.{IsEntryOf, IsPartMalformed, LacksSum, PartReads, SumsRecords}
 
 -- the same leaves cover the key, and where one set has a leaf so has the other

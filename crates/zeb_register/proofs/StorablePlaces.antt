@@ -1,6 +1,5 @@
 -- Places that rise, and that columns store.
-use Rattle.zeb_register.proofs.Cited.{◌≡◌, ◌⊎◌, ◌+◌, ◌<◌, ℕ, suc, List, [], ◌∷◌, ◌++◌, drop, drop-cons, get_or, length, sym, ap, subst, inl, inr, Ordering, Less, nat_cmp, arith, ordering_then, Has, all_from, all_has, Place, place_cmp}
-use Rattle.zeb_register.specs.Content.{AreStorablePlaces, IsStorablePlace}
+use Rattle.zeb_register.proofs.Cited.{◌≡◌, ◌⊎◌, ◌+◌, ◌<◌, ℕ, suc, List, [], ◌∷◌, ◌++◌, drop, drop-cons, get_or, length, sym, ap, subst, inl, inr, Ordering, Less, nat_cmp, arith, ordering_then, Has, all_from, all_has, Place, place_cmp, AreStorablePlaces, IsStorablePlace}
 use Rattle.zeb_register.proofs.ContentChanges.{place_total}
 use Rattle.zeb_register.proofs.CountLemmas.{has_end, less_is}
 use Rattle.zeb_register.proofs.RisingLists.{pushed_rises}

@@ -1,9 +1,7 @@
 -- Tables that hold a content in leaves, without the rows of one database.
-use Rattle.zeb_register.proofs.Cited.{Row, Trees, Int, Has, ◌≡◌, ◌≢◌, ◌↔◌, ◌++◌, ◌∷◌, ℕ, ℤ, List, [], refl, sym, ap, subst, inl, inr, int_cmp_total, Key, Posting, Content, IsWithout, part_in, register_front, IsOfDatabase, Loses, blocks_tree, dict_tree, postings_tree, State, Changes, DropsRegisters, TakesDatabase, databases_tree, records_tree, ◌∙◌, arith}
+use Rattle.zeb_register.proofs.Cited.{Row, Trees, Int, Has, ◌≡◌, ◌≢◌, ◌↔◌, ◌++◌, ◌∷◌, ℕ, ℤ, List, [], refl, sym, ap, subst, inl, inr, int_cmp_total, Key, Posting, Content, IsWithout, part_in, register_front, IsOfDatabase, Loses, blocks_tree, dict_tree, postings_tree, State, Changes, DropsRegisters, TakesDatabase, databases_tree, records_tree, ◌∙◌, arith, HoldsLeaves, IsLeafOf, LeavesReadBlock}
 use Rattle.zeb_register.proofs.ContentChanges.{integers_apart, posting_total}
 use Rattle.zeb_register.proofs.RisingLists.{same_list, told_by}
-use Rattle.zeb_register.specs.HeldLeaves.{HoldsLeaves}
-use Rattle.zeb_register.specs.LeafUnits.{IsLeafOf, LeavesReadBlock}
 use Rattle.zeb_register.proofs.LeafContents.{leaves_stay, none_reads}
 use Rattle.zeb_register.proofs.PlaceLemmas.{none_left}
 use Rattle.zeb_register.proofs.SameLeaves.{alone_so, part_so}

@@ -1,9 +1,7 @@
 -- Rows of a register as the terms of a content.
-use Rattle.zeb_register.proofs.Cited.{all_has, Row, column, value_cmp, row_cmp, Trees, Value, Null, Int, Real, Text, Blob, has_left, has_right, has_either, mapped_has, Has, row_cmp_total, value_cmp-Int, value_cmp-Text, ◌≡◌, ◌↔◌, ◌⊎◌, ◌∙◌, ◌<◌, ◌≤◌, ◌+◌, ℕ, ℤ, pos, negsuc, zero, suc, List, [], ◌∷◌, ◌++◌, length, map, take, drop, get_or, refl, sym, ap, ap₂, subst, inl, inr, Ordering, Less, Equal, Greater, nat_cmp, arith, take_more, slice_cmp, slice_set, ordering_then, Register, Posting, register_code, numbers_apart, TermCount, HasRow, postings_tree, key_of, Content, posted, posting_cmp, HoldsRows, posting_row, register_front, IsCount, AreTermsOf, Spot, TermIn, key_in, spot_cmp, IsInRecord, HasTerm, ShowsOccurrence, IsShown}
+use Rattle.zeb_register.proofs.Cited.{all_has, Row, column, value_cmp, row_cmp, Trees, Value, Null, Int, Real, Text, Blob, has_left, has_right, has_either, mapped_has, Has, row_cmp_total, value_cmp-Int, value_cmp-Text, ◌≡◌, ◌↔◌, ◌⊎◌, ◌∙◌, ◌<◌, ◌≤◌, ◌+◌, ℕ, ℤ, pos, negsuc, zero, suc, List, [], ◌∷◌, ◌++◌, length, map, take, drop, get_or, refl, sym, ap, ap₂, subst, inl, inr, Ordering, Less, Equal, Greater, nat_cmp, arith, take_more, slice_cmp, slice_set, ordering_then, Register, Posting, register_code, numbers_apart, TermCount, HasRow, postings_tree, key_of, Content, posted, posting_cmp, HoldsRows, posting_row, register_front, IsCount, AreTermsOf, Spot, TermIn, key_in, spot_cmp, IsInRecord, HasTerm, ShowsOccurrence, IsShown, cases_eq, eq-eqb, ne_eqb, ShowsPosting}
 use Rattle.std.specs.List.Sorted.{IsStrictlySortedBy}
-use Rattle.std.proofs.lemmas.Bool.{cases_eq, eq-eqb, ne_eqb}
 use Rattle.zeb_blocks.specs.Records.{record_count}
-use Rattle.zeb_register.specs.PlainUnits.{ShowsPosting}
 use Rattle.zeb_register.proofs.RisingLists.{front_rises, before_last}
 use Rattle.zeb_register.proofs.RowLemmas.{same_bytes}
 use Rattle.zeb_register.proofs.ContentLemmas.{ints_order}

@@ -1,5 +1,5 @@
 -- The statements that find the term next to a text.
-use Rattle.zeb_register.proofs.Cited.{reads_as, Select, Row, column, value_cmp, State, Term, col, lit, Trees, Value, Int, Text, Has, value_cmp-Text, then-Equal, ◌≡◌, ◌↔◌, ◌∙◌, ℕ, ℤ, pos, true, false, List, [], ◌∷◌, codes, refl, sym, ap, ap₂, subst, inl, inr, Equal, map, arith, nat_cmp, slice_cmp, is_lt, ordering_then, NOTHING, TERM_FROM, TERM_BEFORE, store_schema, IsStore, HasTerm, ShowsNearest}
+use Rattle.zeb_register.proofs.Cited.{reads_as, Select, Row, column, value_cmp, State, Term, col, lit, Trees, Value, Int, Text, Has, value_cmp-Text, then-Equal, ◌≡◌, ◌↔◌, ◌∙◌, ℕ, ℤ, pos, true, false, List, [], ◌∷◌, codes, refl, sym, ap, ap₂, subst, inl, inr, Equal, map, arith, nat_cmp, slice_cmp, is_lt, ordering_then, NOTHING, TERM_FROM, TERM_BEFORE, store_schema, IsStore, HasTerm, ShowsNearest, Comes}
 use Rattle.sqlite.specs.Listing.{understood}
 use Rattle.sqlite.specs.State.{Shown}
 use Rattle.sqlite_tied.specs.Compute.{everything}
@@ -12,7 +12,6 @@ use Rattle.zeb_register.proofs.FirstRows.{first_shown}
 use Rattle.zeb_register.proofs.Writes.{codes_there, meets_there}
 use Rattle.zeb_register.proofs.Refusals.{IsQuery}
 use Rattle.zeb_register.proofs.PostingStatements.{postings, postings_static}
-use Rattle.zeb_register.specs.Terms.{Comes}
 use Rattle.zeb_register.proofs.CountLemmas.{comes_is, comes_not}
 
 abbrev pub from_text : List ℕ

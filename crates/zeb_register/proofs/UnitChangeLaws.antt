@@ -1,8 +1,5 @@
 -- What follows of changes of a key's units, in each format: for tables that hold a content, and for rows whatever they say.
-use Rattle.zeb_register.proofs.Cited.{◌≡◌, ℤ, ℕ, List, [], ◌∷◌, refl, sym, subst, AllByRecursion, Trees, Key, RecordChange, AreChangedAt, Content, IsStorable, Format, holds_in, packed_blocks, packed_leaves, plain_rows, key_row, postings_tree, blocks_tree, dict_tree, keeps_malformed}
-use Rattle.zeb_register.specs.Content.{OldsRise}
-use Rattle.zeb_register.specs.Store.{KeepsLists}
-use Rattle.zeb_register.specs.UnitChanges.{AllowsChanges, IsStorableChange, IsUnitTouched, KeyUnits, PutsAny, PutsUnits, keeps_others}
+use Rattle.zeb_register.proofs.Cited.{◌≡◌, ℤ, ℕ, List, [], ◌∷◌, refl, sym, subst, AllByRecursion, Trees, Key, RecordChange, AreChangedAt, Content, IsStorable, Format, holds_in, packed_blocks, packed_leaves, plain_rows, key_row, postings_tree, blocks_tree, dict_tree, keeps_malformed, OldsRise, KeepsLists, AllowsChanges, IsStorableChange, IsUnitTouched, KeyUnits, PutsAny, PutsUnits, keeps_others}
 use Rattle.zeb_register.proofs.FormatLemmas.{registers_stay}
 use Rattle.zeb_register.proofs.KeptLeaves.{kept_same}
 use Rattle.zeb_register.proofs.LeafChanges as leaves

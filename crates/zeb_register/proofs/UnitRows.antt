@@ -1,8 +1,6 @@
 -- The rows of one record's unit in plain tables: what they read as, and what they are after its places were changed.
-use Rattle.zeb_register.proofs.Cited.{AllByRecursion, store_schema, ◌≡◌, ◌≢◌, ◌↔◌, ◌∙◌, ◌++◌, ℕ, ℤ, pos, Bool, true, false, IsTrue, List, [], ◌∷◌, drop, map, refl, sym, ap, ap₂, subst, inl, inr, Ordering, Less, Equal, Greater, ordering_then, Int, Row, column, row_cmp, value_cmp-Int, State, Trees, Has, has_mapped, mapped_has, IsUtf8, Key, Place, place_cmp, posting_at, IsListOf, IsRest, IsStore, Loses, key_row, posting_row, first_two, postings_tree, GainsPlaces, IsPlaceIn, IsTwoNumbers, KeepsBesidePostings, place_row, posting_columns}
+use Rattle.zeb_register.proofs.Cited.{AllByRecursion, store_schema, ◌≡◌, ◌≢◌, ◌↔◌, ◌∙◌, ◌++◌, ℕ, ℤ, pos, Bool, true, false, IsTrue, List, [], ◌∷◌, drop, map, refl, sym, ap, ap₂, subst, inl, inr, Ordering, Less, Equal, Greater, ordering_then, Int, Row, column, row_cmp, value_cmp-Int, State, Trees, Has, has_mapped, mapped_has, IsUtf8, Key, Place, place_cmp, posting_at, IsListOf, IsRest, IsStore, Loses, key_row, posting_row, first_two, postings_tree, GainsPlaces, IsPlaceIn, IsTwoNumbers, KeepsBesidePostings, place_row, posting_columns, IsUnderKey, RowsRead, ShowsPosting, TurnsRows}
 use Rattle.std.specs.List.Sorted.{IsStrictlySortedBy}
-use Rattle.zeb_register.specs.PlainUnits.{IsUnderKey, RowsRead, ShowsPosting}
-use Rattle.zeb_register.specs.PrivateUnits.{TurnsRows}
 use Rattle.zeb_register.proofs.ContentLemmas.{ints_order, one_list}
 use Rattle.zeb_register.proofs.PlaceLemmas.{beside_then, place_front, places_rise}
 use Rattle.zeb_register.proofs.PostingStatements.{postings, postings_static}

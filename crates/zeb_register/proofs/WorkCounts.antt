@@ -1,9 +1,7 @@
 -- Work that changes count adds up: nothing is counted of none, and what two count is what both do.
-use Rattle.zeb_register.proofs.Cited.{◌≡◌, ◌⊎◌, ◌∙◌, ◌+◌, ◌<◌, ◌≤◌, ℕ, length, refl, sym, ap, subst, inl, inr, arith, Trees, blocks_tree, Format, packed_blocks, packed_leaves, plain_rows, Rises}
+use Rattle.zeb_register.proofs.Cited.{◌≡◌, ◌⊎◌, ◌∙◌, ◌+◌, ◌<◌, ◌≤◌, ℕ, length, refl, sym, ap, subst, inl, inr, arith, Trees, blocks_tree, Format, packed_blocks, packed_leaves, plain_rows, Rises, ◌*◌, ◌-◌, ◌^◌, AreInRange, RisesWithin, Works, WorksOnLeaves, works_for}
 use Rattle.std.proofs.Math.Nat.{mul-add, mul-zero}
-use Rattle.std.specs.Prelude.{◌*◌, ◌-◌, ◌^◌}
 use Rattle.zeb_register.proofs.CountLemmas.{rises_then}
-use Rattle.zeb_register.specs.Tallies.{AreInRange, RisesWithin, Works, WorksOnLeaves, works_for}
 use Rattle.zeb_register.specs.declared.registers.Work.{Work}
 
 -- ---- rows

@@ -1,17 +1,10 @@
 -- Worked registers of two leaves: which of them covers what, and what they say.
-use Rattle.zeb_register.proofs.Cited.{Row, row_cmp, Blob, Text, Has, row_cmp_total, ◌≡◌, ◌≢◌, ◌∙◌, ◌⊎◌, ◌∷◌, ◌/◌, ℕ, zero, suc, List, [], length, eqb_tells, refl, sym, ap, subst, inl, inr, arith, Less, Equal, Greater, nat_cmp, slice_cmp, ordering_then, ordering_reverse, tied_itself, codes, Posting, IsCount, part_in}
-use Rattle.std.proofs.Common.{IsUtf8, true, false, lit<, lit≤}
+use Rattle.zeb_register.proofs.Cited.{Row, row_cmp, Blob, Text, Has, row_cmp_total, ◌≡◌, ◌≢◌, ◌∙◌, ◌⊎◌, ◌∷◌, ◌/◌, ℕ, zero, suc, List, [], length, eqb_tells, refl, sym, ap, subst, inl, inr, arith, Less, Equal, Greater, nat_cmp, slice_cmp, ordering_then, ordering_reverse, tied_itself, codes, Posting, IsCount, part_in, IsUtf8, true, false, lit<, lit≤, IsUtf8-from_is_utf8, IsUtf8-nil, is_utf8-from_IsUtf8, IsEntry, entry_cmp, Entry, Covers, HasEntriesAt, IsUpTo, LacksEntriesAt, ShowsEntries, leaf_key, own_key, IsLeafAlone, HasRecordOf, IsAt, IsPartMalformed, PartReads, SayPart, SaysPart, SumsRecords}
 use Rattle.std.specs.Str.{chars, is_utf8}
 use Rattle.std.proofs.Math.Utf8.{encode}
-use Rattle.std.proofs.lemmas.Str.{IsUtf8-from_is_utf8, IsUtf8-nil, is_utf8-from_IsUtf8}
 use Rattle.zeb_leaf.specs.Leaves.{IsLeaf, leaf_bytes}
-use Rattle.zeb_leaf.specs.Order.{IsEntry, entry_cmp}
-use Rattle.zeb_leaf.specs.declared.entries.Entry.{Entry}
 use Rattle.zeb_register.proofs.CountLemmas.{count_none, less_is, not_same, one_count}
 use Rattle.zeb_register.proofs.PackedLemmas.{one_spelled}
-use Rattle.zeb_register.specs.Covering.{Covers, HasEntriesAt, IsUpTo, LacksEntriesAt, ShowsEntries, leaf_key, own_key}
-use Rattle.zeb_register.specs.HeldLeaves.{IsLeafAlone}
-use Rattle.zeb_register.specs.Readings.{HasRecordOf, IsAt, IsPartMalformed, PartReads, SayPart, SaysPart, SumsRecords}
 use Rattle.std.specs.List.Sorted.{IsStrictlySortedBy}
 use Rattle.zeb_blocks.specs.Worked.{at}
 use Rattle.zeb_blocks.proofs.WorkedBlocks.{spelled_next_block, spelled_next_record, spelled_one}

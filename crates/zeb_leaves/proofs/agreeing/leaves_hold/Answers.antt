@@ -1,13 +1,9 @@
 -- The walk takes the postings just where the leaves hold them.
-use Rattle.zeb_leaves.proofs.Cited.{state, Int, None, ◌∷◌, [], IsRest, blocks_tree, subst, to_z-of_z}
-use Rattle.std.proofs.Common.{w64}
-use Rattle.std.proofs.lemmas.Result.{IfOk-weaker}
+use Rattle.zeb_leaves.proofs.Cited.{state, Int, None, ◌∷◌, [], IsRest, blocks_tree, subst, to_z-of_z, w64, IfOk-weaker, AreWalked, HoldsPostings, IsListOf}
 use Rattle.zeb_leaves.proofs.HeldWalk.{held_walked}
 use Rattle.zeb_leaves.proofs.OwnKeys.{own_keys}
 use Rattle.zeb_leaves.proofs.WalkedHold.{walked_hold}
-use Rattle.zeb_leaves.specs.PrivateAgreeing.{AreWalked, HoldsPostings}
 use Rattle.zeb_register.proofs.YesNoAnswers.{told_so}
-use Rattle.zeb_register.specs.Sql.{IsListOf}
 use Rattle.zeb_leaves.proofs.agreeing.leaves_hold.Goals as goal
 
 pub returns-clause-call : goal.returns-clause-call

@@ -1,7 +1,5 @@
-use Rattle.zeb_leaves.proofs.Cited.{◌+◌, drop, subst, sym}
+use Rattle.zeb_leaves.proofs.Cited.{◌+◌, drop, subst, sym, TakeEntries, leaf_of, drop_got}
 use Rattle.zeb_leaves.proofs.AgreeingEnds.{takes_more}
-use Rattle.zeb_leaves.specs.PrivateAgreeing.{TakeEntries, leaf_of}
-use Rattle.zeb_register.proofs.PackedBeside.{drop_got}
 use Rattle.zeb_leaves.proofs.agreeing_entries.entries_end.Goals as goal
 
 pub loop-entry-preserved : goal.loop-entry-preserved

@@ -1,7 +1,5 @@
 -- What is left of the entries takes the postings that are left, where all of them take those of the list.
-use Rattle.zeb_leaves.proofs.Cited.{◌↔◌, ◌≤◌, List, length, drop}
-use Rattle.zeb_leaves.specs.PrivateAgreeing.{TakeEntries, leaf_of}
-use Rattle.zeb_register.specs.declared.expected.KeyPosting.{KeyPosting}
+use Rattle.zeb_leaves.proofs.Cited.{◌↔◌, ◌≤◌, List, length, drop, TakeEntries, leaf_of, KeyPosting}
 use Rattle.zeb_leaves.proofs.agreeing_entries.entries_end.Given as goal
 
 abbrev pub invariant-loop-entry : goal.invariant-loop-entry

@@ -1,10 +1,5 @@
 -- The postings of the part are those that the entry says.
-use Rattle.zeb_leaves.proofs.Cited.{◌≡◌, ◌≢◌, ◌∙◌, ◌≤◌, ◌++◌, ℕ, List, Option, length, map, drop, ap, subst, Posting, SaysPart, key_in}
-use Rattle.std.specs.Prelude.{MatchOption}
-use Rattle.zeb_register.proofs.LeafReadings.{one_said}
-use Rattle.zeb_register.proofs.YesNoAnswers.{match_so}
-use Rattle.zeb_register.specs.PrivateRowExpected.{with_key}
-use Rattle.zeb_register.specs.declared.expected.KeyPosting.{KeyPosting}
+use Rattle.zeb_leaves.proofs.Cited.{◌≡◌, ◌≢◌, ◌∙◌, ◌≤◌, ◌++◌, ℕ, List, Option, length, map, drop, ap, subst, Posting, SaysPart, key_in, MatchOption, one_said, match_so, with_key, KeyPosting}
 use Rattle.zeb_leaves.specs.declared.agreeing_rows.ShownLeaf.{ShownLeaf}
 use Rattle.zeb_leaves.proofs.agreeing_entries.entry_end.Goals as goal
 

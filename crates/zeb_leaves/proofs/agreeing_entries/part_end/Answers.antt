@@ -1,7 +1,5 @@
-use Rattle.zeb_leaves.proofs.Cited.{◌∙◌, arith, key_in, sym}
+use Rattle.zeb_leaves.proofs.Cited.{◌∙◌, arith, key_in, sym, drop_over, with_key}
 use Rattle.zeb_leaves.proofs.AgreeingEnds.{none_left}
-use Rattle.zeb_register.proofs.PackedBeside.{drop_over}
-use Rattle.zeb_register.specs.PrivateRowExpected.{with_key}
 use Rattle.zeb_leaves.proofs.agreeing_entries.part_end.Goals as goal
 
 pub returns-in_err-expected : goal.returns-in_err-expected

@@ -1,7 +1,5 @@
 -- The postings from here on are those of the list that are left, where those from the start are those of the list.
-use Rattle.zeb_leaves.proofs.Cited.{◌≡◌, ◌↔◌, ◌≤◌, ◌++◌, List, length, map, drop, key_in}
-use Rattle.zeb_register.specs.PrivateRowExpected.{with_key}
-use Rattle.zeb_register.specs.declared.expected.KeyPosting.{KeyPosting}
+use Rattle.zeb_leaves.proofs.Cited.{◌≡◌, ◌↔◌, ◌≤◌, ◌++◌, List, length, map, drop, key_in, with_key, KeyPosting}
 use Rattle.zeb_leaves.proofs.agreeing_entries.part_end.Given as goal
 
 abbrev pub invariant-loop-posting : goal.invariant-loop-posting

@@ -1,6 +1,4 @@
-use Rattle.zeb_leaves.proofs.Cited.{◌∙◌, ap₂}
-use Rattle.std.specs.Ordering.{is_lt}
-use Rattle.zeb_leaf.specs.Spans.{key_cmp}
+use Rattle.zeb_leaves.proofs.Cited.{◌∙◌, ap₂, is_lt, key_cmp}
 use Rattle.zeb_leaves.proofs.AgreeingEnds.{from_told}
 use Rattle.zeb_leaves.proofs.agreeing_rows.are_from.Goals as goal
 

@@ -1,10 +1,7 @@
 -- What the columns and the entries tell of the leaf that the row shows.
-use Rattle.zeb_leaves.proofs.Cited.{◌≡◌, ◌∙◌, ◌≢◌, ◌≤◌, List, true, false, length, refl, sym, ap, subst, Greater, Has, Entry, entry_cmp, key_in, ShowsEntries, leaf_key, row_cmp}
+use Rattle.zeb_leaves.proofs.Cited.{◌≡◌, ◌∙◌, ◌≢◌, ◌≤◌, List, true, false, length, refl, sym, ap, subst, Greater, Has, Entry, entry_cmp, key_in, ShowsEntries, leaf_key, row_cmp, LEAF_BYTES, entry_key, leaf_shown, rest_shown, shown_rises}
 use Rattle.std.specs.List.Sorted.{IsStrictlySortedBy}
-use Rattle.zeb_leaf.specs.declared.entries.TheConstants.{LEAF_BYTES}
 use Rattle.zeb_leaves.proofs.AgreeingEnds.{is_whole, shown_by, whole_is}
-use Rattle.zeb_leaves.specs.PrivateAgreeing.{entry_key, leaf_shown, rest_shown}
-use Rattle.zeb_register.proofs.LeafSums.{shown_rises}
 use Rattle.zeb_leaves.proofs.agreeing_rows.whole_leaf.Goals as goal
 use Rattle.zeb_leaves.proofs.agreeing_rows.whole_leaf.Goals.{then-not-are_few-via-then-not-are_few, then-not-are_few-via-else-not-are_few+then-not-are_from}
 

@@ -1,20 +1,11 @@
-use Rattle.zeb_leaves.proofs.Cited.{state, HasCleanDisk, ◌≡◌, ◌↔◌, ◌∙◌, sym, ap, subst, refl, inl, inr, arith}
-use Rattle.std.proofs.Common.{false, true, slice_get}
+use Rattle.zeb_leaves.proofs.Cited.{state, HasCleanDisk, ◌≡◌, ◌↔◌, ◌∙◌, sym, ap, subst, refl, inl, inr, arith, false, true, slice_get, EachHasLeaves, OthersAreEmpty, nothing_then, store_same, quiet_then, unchanged_then, column_is, key_posting_order, ListedDatabase, ExpectedDatabase}
 use Rattle.std.proofs.lemmas.Int.{ints}
 use Rattle.std.specs.Bool.{IsTrue}
 use Rattle.std.specs.List.Sorted.{IsStrictlySortedBy}
 use Rattle.zeb_leaves.proofs.LeavesOfIds.{told_leaves}
-use Rattle.zeb_leaves.specs.PrivateAgreeing.{EachHasLeaves, OthersAreEmpty}
-use Rattle.zeb_register.proofs.Cited.{unchanged_then}
-use Rattle.zeb_register.proofs.Calls.{nothing_then, store_same}
-use Rattle.zeb_register.proofs.CallsInTurn.{quiet_then}
-use Rattle.zeb_register.proofs.Columns.{column_is}
 use Rattle.zeb_register.proofs.ContentLemmas.{has_at}
 use Rattle.zeb_register.proofs.ListsInStep.{at_or_below, got_in, got_is, got_same}
 use Rattle.zeb_register.proofs.YesNoAnswers.{first_told}
-use Rattle.zeb_register.specs.Expected.{key_posting_order}
-use Rattle.zeb_register.specs.declared.catalog.ListedDatabase.{ListedDatabase}
-use Rattle.zeb_register.specs.declared.expected.ExpectedDatabase.{ExpectedDatabase}
 use Rattle.zeb_leaves.proofs.agreeing_tables.ids_agree.Goals as goal
 
 pub returns-then-not-branch-clause-value : goal.returns-then-not-branch-clause-value

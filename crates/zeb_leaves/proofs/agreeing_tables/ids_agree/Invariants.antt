@@ -1,10 +1,4 @@
-use Rattle.zeb_leaves.proofs.Cited.{state, HasCleanDisk, ◌≡◌, ◌<◌, ℕ, Some, IsStore}
-use Rattle.std.proofs.Common.{false, slice_get}
-use Rattle.sqlite.specs.State.{IsUnchanged, Survives}
-use Rattle.zeb_leaves.specs.PrivateAgreeing.{HasLeaves, OthersAreEmpty, PostingsRise}
-use Rattle.zeb_register.specs.Calls.{ChangesNothing}
-use Rattle.zeb_register.specs.declared.catalog.ListedDatabase.{ListedDatabase}
-use Rattle.zeb_register.specs.declared.expected.ExpectedDatabase.{ExpectedDatabase}
+use Rattle.zeb_leaves.proofs.Cited.{state, HasCleanDisk, ◌≡◌, ◌<◌, ℕ, Some, IsStore, IsUnchanged, Survives, false, slice_get, HasLeaves, OthersAreEmpty, PostingsRise, ChangesNothing, ListedDatabase, ExpectedDatabase}
 use Rattle.zeb_leaves.proofs.agreeing_tables.ids_agree.Given as goal
 
 abbrev pub invariant-loop-at : goal.invariant-loop-at

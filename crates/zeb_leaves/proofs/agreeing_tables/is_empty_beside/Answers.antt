@@ -1,12 +1,6 @@
-use Rattle.zeb_leaves.proofs.Cited.{state, ℤ, [], refl, sym, subst, to_z-of_z}
-use Rattle.std.proofs.Common.{w64, to_z, of_z}
-use Rattle.std.proofs.lemmas.Result.{IfOk-weaker}
+use Rattle.zeb_leaves.proofs.Cited.{state, ℤ, [], refl, sym, subst, to_z-of_z, w64, to_z, of_z, IfOk-weaker, HasLeaves, IsEmptyBeside, quiet_still, still, IsListedId}
 use Rattle.std.specs.List.Sorted.{IsStrictlySortedBy}
-use Rattle.zeb_leaves.specs.PrivateAgreeing.{HasLeaves, IsEmptyBeside}
-use Rattle.zeb_register.proofs.CallsInTurn.{quiet_still}
-use Rattle.zeb_register.proofs.RowReads.{still}
 use Rattle.zeb_register.proofs.YesNoAnswers.{told_so}
-use Rattle.zeb_register.specs.Agreeing.{IsListedId}
 use Rattle.zeb_leaves.proofs.agreeing_tables.is_empty_beside.Goals as goal
 
 pub returns-then-is_listed-clause-call : goal.returns-then-is_listed-clause-call

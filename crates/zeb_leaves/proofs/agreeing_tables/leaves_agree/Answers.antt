@@ -1,18 +1,7 @@
-use Rattle.zeb_leaves.proofs.Cited.{state, HasCleanDisk, ◌≡◌, ◌↔◌, ◌∙◌, List, length, sym, ap, subst, arith}
-use Rattle.std.proofs.Common.{false, true}
-use Rattle.std.proofs.lemmas.Result.{IfOk-weaker}
+use Rattle.zeb_leaves.proofs.Cited.{state, HasCleanDisk, ◌≡◌, ◌↔◌, ◌∙◌, List, length, sym, ap, subst, arith, Database, false, true, IfOk-weaker, IfOk, EachHasLeaves, OthersAreEmpty, PostingsRise, lists_agree, store_same, AreBeside, LacksPostingsAndDict, ListsAgree, packed_leaves, ListedDatabase, ExpectedDatabase}
 use Rattle.std.specs.Bool.{IsTrue}
-use Rattle.std.specs.Prelude.{IfOk}
-use Rattle.sqlite.specs.Effect.{Database}
 use Rattle.zeb_leaves.proofs.ExpectedLeaves.{leaves_agree, leaves_expected}
 use Rattle.zeb_leaves.proofs.LeavesOfIds.{by_list, by_names}
-use Rattle.zeb_leaves.specs.PrivateAgreeing.{EachHasLeaves, OthersAreEmpty, PostingsRise}
-use Rattle.zeb_register.proofs.AgreeingTables.{lists_agree}
-use Rattle.zeb_register.proofs.Calls.{store_same}
-use Rattle.zeb_register.specs.Agreeing.{AreBeside, LacksPostingsAndDict, ListsAgree}
-use Rattle.zeb_register.specs.Formats.{packed_leaves}
-use Rattle.zeb_register.specs.declared.catalog.ListedDatabase.{ListedDatabase}
-use Rattle.zeb_register.specs.declared.expected.ExpectedDatabase.{ExpectedDatabase}
 use Rattle.zeb_leaves.proofs.agreeing_tables.leaves_agree.Goals as goal
 
 pub returns-in_default-clause-value : goal.returns-in_default-clause-value

@@ -1,17 +1,8 @@
-use Rattle.zeb_leaves.proofs.Cited.{state, HasCleanDisk, rules, ◌≡◌, Ok, sym, subst, arith, to_z-of_z, blocks_tree}
-use Rattle.std.proofs.Common.{Bool, FitsSigned, false, true, to_z, w64}
+use Rattle.zeb_leaves.proofs.Cited.{state, HasCleanDisk, rules, ◌≡◌, Ok, sym, subst, arith, to_z-of_z, blocks_tree, IsUnchanged, Bool, FitsSigned, false, true, to_z, w64, IsEmptyBeside, nothing_then, reading_behind, store_same, quiet_then, failed_after, Reading, IsReasonedError, RegFault}
 use Rattle.std.proofs.lemmas.Int.{ints}
-use Rattle.sqlite.specs.State.{IsUnchanged}
 use Rattle.zeb_leaves.proofs.LeavesOfIds.{next_there, others_empty, told_empty}
 use Rattle.zeb_leaves.proofs.OpenCalls.{open_then}
-use Rattle.zeb_leaves.specs.PrivateAgreeing.{IsEmptyBeside}
-use Rattle.zeb_register.proofs.Calls.{nothing_then, reading_behind, store_same}
-use Rattle.zeb_register.proofs.CallsInTurn.{quiet_then}
-use Rattle.zeb_register.proofs.Causes.{failed_after}
 use Rattle.zeb_register.proofs.OwnersListed.{IsReached, all_reached, first_reached, next_reached, none_next}
-use Rattle.zeb_register.specs.Calls.{Reading}
-use Rattle.zeb_register.specs.Clauses.{IsReasonedError}
-use Rattle.zeb_register.specs.declared.faults.RegFault.{RegFault}
 use Rattle.zeb_leaves.proofs.agreeing_tables.others_are_empty.Goals as goal
 
 pub returns-in_default-clause-value : goal.returns-in_default-clause-value

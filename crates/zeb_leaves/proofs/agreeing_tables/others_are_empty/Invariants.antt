@@ -1,9 +1,5 @@
-use Rattle.zeb_leaves.proofs.Cited.{state, HasCleanDisk, ◌≡◌, IsStore, blocks_tree}
-use Rattle.std.proofs.Common.{false}
-use Rattle.sqlite.specs.State.{IsUnchanged, Survives}
-use Rattle.zeb_leaves.specs.PrivateAgreeing.{IsEmptyBeside}
+use Rattle.zeb_leaves.proofs.Cited.{state, HasCleanDisk, ◌≡◌, IsStore, blocks_tree, IsUnchanged, Survives, false, IsEmptyBeside, ChangesNothing}
 use Rattle.zeb_register.proofs.OwnersListed.{IsReached}
-use Rattle.zeb_register.specs.Calls.{ChangesNothing}
 use Rattle.zeb_leaves.proofs.agreeing_tables.others_are_empty.Given as goal
 
 abbrev pub invariant-ids : goal.invariant-ids

@@ -1,12 +1,6 @@
-use Rattle.zeb_leaves.proofs.Cited.{state, HasCleanDisk, ◌≡◌, ◌↔◌, subst, arith}
-use Rattle.std.proofs.Common.{false, true}
-use Rattle.std.proofs.lemmas.Result.{IfOk-weaker}
+use Rattle.zeb_leaves.proofs.Cited.{state, HasCleanDisk, ◌≡◌, ◌↔◌, subst, arith, Database, false, true, IfOk-weaker, EachHasLeaves, OthersAreEmpty, reading_then, store_same, LacksPostingsAndDict}
 use Rattle.std.specs.Bool.{IsTrue}
-use Rattle.sqlite.specs.Effect.{Database}
-use Rattle.zeb_leaves.specs.PrivateAgreeing.{EachHasLeaves, OthersAreEmpty}
-use Rattle.zeb_register.proofs.Calls.{reading_then, store_same}
 use Rattle.zeb_register.proofs.YesNoAnswers.{both_told, first_told}
-use Rattle.zeb_register.specs.Agreeing.{LacksPostingsAndDict}
 use Rattle.zeb_leaves.proofs.agreeing_tables.registers_agree.Goals as goal
 
 pub returns-then-not-branch-clause-value : goal.returns-then-not-branch-clause-value

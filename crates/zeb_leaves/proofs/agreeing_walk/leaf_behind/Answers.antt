@@ -1,6 +1,5 @@
-use Rattle.zeb_leaves.proofs.Cited.{List, drop, subst, sym, Entry}
+use Rattle.zeb_leaves.proofs.Cited.{List, drop, subst, sym, Entry, Leaf, TakeEntries, leaf_of}
 use Rattle.zeb_leaves.proofs.DatabaseRows.{one_leaf_shown}
-use Rattle.zeb_leaves.specs.PrivateAgreeing.{Leaf, TakeEntries, leaf_of}
 use Rattle.zeb_leaves.proofs.agreeing_walk.leaf_behind.Goals as goal
 
 pub returns-in_default-2 : goal.returns-in_default-2

@@ -1,23 +1,6 @@
-use Rattle.zeb_leaves.proofs.Cited.{state, HasCleanDisk, Int, rules, ◌≡◌, ◌∙◌, ◌↔◌, ◌++◌, ◌≤◌, List, [], ◌∷◌, Ok, Err, nat_eq, length, drop, refl, sym, ap, subst, arith, to_z-of_z}
-use Rattle.std.proofs.Common.{Bool, false, not, w64, to_z, of_z}
-use Rattle.std.proofs.lemmas.Bool.Decides.{Decides-eqb}
-use Rattle.std.proofs.lemmas.Result.{err_from_is_err_and}
-use Rattle.sqlite.specs.State.{Shown}
+use Rattle.zeb_leaves.proofs.Cited.{state, HasCleanDisk, Int, rules, ◌≡◌, ◌∙◌, ◌↔◌, ◌++◌, ◌≤◌, List, [], ◌∷◌, Ok, Err, nat_eq, length, drop, refl, sym, ap, subst, arith, to_z-of_z, Shown, Bool, false, not, w64, to_z, of_z, Decides-eqb, err_from_is_err_and, Leaf, ReadsLeaves, TakesLeaf, before_of, leaf_of, leaf_shown, nothing, quiet, store_same, quiet_then, may_after, HasGiven, unchanged_then, shown_rises, drop_none, drop_over, begun_silent, failed_nothing, same_nothing, Reading, IsReasonedError, KeyPosting, RegFault, Memory}
 use Rattle.zeb_leaves.proofs.WalkCalls.{text, walk_broken, walk_further, walk_refused, walk_silent, walk_whole}
-use Rattle.zeb_leaves.specs.PrivateAgreeing.{Leaf, ReadsLeaves, TakesLeaf, before_of, leaf_of, leaf_shown}
-use Rattle.zeb_register.proofs.Cited.{HasGiven, unchanged_then}
-use Rattle.zeb_register.proofs.Calls.{nothing, quiet, store_same}
-use Rattle.zeb_register.proofs.CallsInTurn.{quiet_then}
-use Rattle.zeb_register.proofs.Causes.{may_after}
-use Rattle.zeb_register.proofs.LeafSums.{shown_rises}
-use Rattle.zeb_register.proofs.PackedBeside.{drop_none, drop_over}
-use Rattle.zeb_register.proofs.RowReads.{begun_silent, failed_nothing, same_nothing}
 use Rattle.zeb_register.proofs.YesNoAnswers.{told_so}
-use Rattle.zeb_register.specs.Calls.{Reading}
-use Rattle.zeb_register.specs.Clauses.{IsReasonedError}
-use Rattle.zeb_register.specs.declared.expected.KeyPosting.{KeyPosting}
-use Rattle.zeb_register.specs.declared.faults.RegFault.{RegFault}
-use Rattle.zeb_register.specs.declared.faults.RegFault.TheVariants.{Memory}
 use Rattle.zeb_leaves.proofs.agreeing_walk.leaves_walked.Goals as goal
 
 pub returns-in_err-rows-clause-call : goal.returns-in_err-rows-clause-call

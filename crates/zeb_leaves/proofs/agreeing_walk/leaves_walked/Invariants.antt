@@ -1,12 +1,7 @@
 -- The rows so far are leaves that took the postings before the place.
-use Rattle.zeb_leaves.proofs.Cited.{Row, HasCleanDisk, state, Int, ◌≡◌, ◌≤◌, ◌∷◌, [], List, length, drop, entry_cmp}
-use Rattle.std.proofs.Common.{false}
+use Rattle.zeb_leaves.proofs.Cited.{Row, HasCleanDisk, state, Int, ◌≡◌, ◌≤◌, ◌∷◌, [], List, length, drop, entry_cmp, IsUnchanged, Survives, false, IfSome, before_of, HasGiven}
 use Rattle.std.specs.List.Sorted.{IsStrictlySortedBy}
-use Rattle.std.specs.Prelude.{IfSome}
-use Rattle.sqlite.specs.State.{IsUnchanged, Survives}
-use Rattle.zeb_register.proofs.Cited.{HasGiven}
 use Rattle.zeb_leaves.proofs.WalkCalls.{GoesOn, text}
-use Rattle.zeb_leaves.specs.PrivateAgreeing.{before_of}
 use Rattle.zeb_leaves.proofs.agreeing_walk.leaves_walked.Given as goal
 
 abbrev pub invariant-rows : goal.invariant-rows

@@ -1,13 +1,6 @@
-use Rattle.zeb_leaves.proofs.Cited.{◌≡◌, ◌∙◌, ℕ, List, Err, false, ap, subst, rules, state, nat_cmp, nat_list_cmp_total, slice_cmp, tied_itself}
-use Rattle.std.specs.Ordering.{is_lt}
+use Rattle.zeb_leaves.proofs.Cited.{◌≡◌, ◌∙◌, ℕ, List, Err, false, ap, subst, rules, state, nat_cmp, nat_list_cmp_total, slice_cmp, tied_itself, is_lt, SayAll, SomeSaysNone, SomeShowsNoKey, refused_so, up_to, rows_told, IsBetween}
 use Rattle.zeb_leaf.specs.declared.entries.Held.{Held}
 use Rattle.zeb_leaves.proofs.SpanCalls.{listed_between, said_in_turn, uncovered_between, unsaid_between, unshown_between}
-use Rattle.zeb_leaves.specs.PrivateSaid.{SayAll, SomeSaysNone}
-use Rattle.zeb_leaves.specs.PrivateSpans.{SomeShowsNoKey}
-use Rattle.zeb_register.proofs.Answered.{refused_so}
-use Rattle.zeb_register.proofs.RowFaults.{rows_told}
-use Rattle.zeb_register.proofs.BetweenLemmas.{up_to}
-use Rattle.zeb_register.specs.Between.{IsBetween}
 use Rattle.zeb_leaves.proofs.between.ordered_between.Goals as goal
 
 -- a text that isn't above the last stands from itself to the last

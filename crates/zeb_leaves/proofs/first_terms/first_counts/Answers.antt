@@ -1,7 +1,5 @@
-use Rattle.zeb_leaves.proofs.Cited.{◌≡◌, ◌∙◌, sym, subst, inl, inr, true, false, rules}
+use Rattle.zeb_leaves.proofs.Cited.{◌≡◌, ◌∙◌, sym, subst, inl, inr, true, false, rules, CountRows, HideRows, refused_so}
 use Rattle.zeb_leaves.proofs.NearCalls.{hidden_past, hidden_row, keyless_row, left, past_row, stop_row}
-use Rattle.zeb_leaves.specs.PrivateNearTerms.{CountRows, HideRows}
-use Rattle.zeb_register.proofs.Answered.{refused_so}
 use Rattle.zeb_leaves.proofs.first_terms.first_counts.Goals as goal
 
 pub returns-in_err-own : goal.returns-in_err-own

@@ -1,6 +1,5 @@
 -- What becomes of the rows that are left and of those behind, becomes of all.
-use Rattle.zeb_leaves.proofs.Cited.{Row, List, [], ◌++◌, drop, TermCount}
-use Rattle.zeb_leaves.specs.PrivateNearTerms.{CountRows, HideRows}
+use Rattle.zeb_leaves.proofs.Cited.{Row, List, [], ◌++◌, drop, TermCount, CountRows, HideRows}
 use Rattle.zeb_leaves.proofs.first_terms.first_counts.Given as goal
 
 abbrev pub invariant-loop-next : goal.invariant-loop-next

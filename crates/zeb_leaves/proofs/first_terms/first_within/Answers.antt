@@ -1,6 +1,5 @@
-use Rattle.zeb_leaves.proofs.Cited.{◌++◌, state}
+use Rattle.zeb_leaves.proofs.Cited.{◌++◌, state, rows_told}
 use Rattle.zeb_leaves.proofs.NearTold.{first_found, first_hidden}
-use Rattle.zeb_register.proofs.RowFaults.{rows_told}
 use Rattle.zeb_leaves.proofs.first_terms.first_within.Goals as goal
 
 pub returns-clause-tells : goal.returns-clause-tells

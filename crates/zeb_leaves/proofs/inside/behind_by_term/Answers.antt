@@ -1,13 +1,7 @@
-use Rattle.zeb_leaves.proofs.Cited.{◌++◌, ◌∷◌, [], None, Some, HasCleanDisk, IsLeafIn, IsLeast, IsNextBehind, IsUpTo, TellsKey, arith, leaf_key, own_key, state, subst}
-use Rattle.sqlite.specs.Effect.{Database}
-use Rattle.std.proofs.lemmas.Result.{IfOk-weaker}
-use Rattle.zeb_leaf_rows.proofs.CoveringCalls.{next_number, up_to_next}
+use Rattle.zeb_leaves.proofs.Cited.{◌++◌, ◌∷◌, [], None, Some, HasCleanDisk, IsLeafIn, IsLeast, IsNextBehind, IsUpTo, TellsKey, arith, leaf_key, own_key, state, subst, Database, IfOk-weaker, next_number, up_to_next, IsOfTermFrom, IsRowFrom, store_same}
 use Rattle.zeb_leaves.proofs.InsideCalls.{inside_then}
 use Rattle.zeb_leaves.proofs.KeysTold.{leaf_told, none_told, told_so}
 use Rattle.zeb_leaves.proofs.LeavesBehind.{behind_above, behind_own}
-use Rattle.zeb_leaves.specs.PrivateLeafReads.{IsOfTermFrom}
-use Rattle.zeb_leaves.specs.PrivateTermReads.{IsRowFrom}
-use Rattle.zeb_register.proofs.Calls.{store_same}
 use Rattle.zeb_leaves.proofs.inside.behind_by_term.Goals as goal
 
 pub returns-in-Some-clause-finds : goal.returns-in-Some-clause-finds

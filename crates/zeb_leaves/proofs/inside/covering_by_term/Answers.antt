@@ -1,11 +1,5 @@
-use Rattle.zeb_leaves.proofs.Cited.{HasCleanDisk, IsGreatest, IsUpTo, arith, own_key, state, subst}
-use Rattle.sqlite.specs.Effect.{Database}
-use Rattle.std.proofs.lemmas.Result.{IfOk-weaker}
-use Rattle.zeb_leaf_rows.proofs.CoveringLeaves.{covers_below, covers_own}
-use Rattle.zeb_leaf_rows.proofs.CoveringCalls.{up_to_next}
+use Rattle.zeb_leaves.proofs.Cited.{HasCleanDisk, IsGreatest, IsUpTo, arith, own_key, state, subst, Database, IfOk-weaker, up_to_next, covers_below, covers_own, IsOfTermBelow, IsOfTermsBelow, store_same}
 use Rattle.zeb_leaves.proofs.InsideCalls.{inside_then}
-use Rattle.zeb_leaf_rows.specs.PrivateLeafRows.{IsOfTermBelow, IsOfTermsBelow}
-use Rattle.zeb_register.proofs.Calls.{store_same}
 use Rattle.zeb_leaves.proofs.inside.covering_by_term.Goals as goal
 
 pub returns-in-Some-clause-covers : goal.returns-in-Some-clause-covers

@@ -1,10 +1,6 @@
-use Rattle.zeb_leaves.proofs.Cited.{HasCleanDisk, ◌∙◌, ℕ, List, arith, state, subst, IsCovering, IsGreatest, IsLeafIn, IsUpTo, leaf_key}
-use Rattle.sqlite.specs.Effect.{Database}
-use Rattle.std.proofs.lemmas.Result.{IfOk-weaker}
+use Rattle.zeb_leaves.proofs.Cited.{HasCleanDisk, ◌∙◌, ℕ, List, arith, state, subst, IsCovering, IsGreatest, IsLeafIn, IsUpTo, leaf_key, Database, IfOk-weaker, IsOfTermsBelow, store_same}
 use Rattle.zeb_leaves.proofs.InsideCalls.{inside_then}
 use Rattle.zeb_leaves.proofs.NextLeaves.{covers_up_to}
-use Rattle.zeb_leaf_rows.specs.PrivateLeafRows.{IsOfTermsBelow}
-use Rattle.zeb_register.proofs.Calls.{store_same}
 use Rattle.zeb_leaves.proofs.inside.covering_leaf.Goals as goal
 
 pub returns-then-is_up_to-clause-covers : goal.returns-then-is_up_to-clause-covers

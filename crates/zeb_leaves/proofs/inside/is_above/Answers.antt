@@ -1,6 +1,5 @@
-use Rattle.zeb_leaves.proofs.Cited.{Row, ◌≡◌, ◌∙◌, Some, sym, subst}
+use Rattle.zeb_leaves.proofs.Cited.{Row, ◌≡◌, ◌∙◌, Some, sym, subst, ShowsKey}
 use Rattle.zeb_leaves.proofs.NextLeaves.{shown_above}
-use Rattle.zeb_leaves.specs.PrivateSpans.{ShowsKey}
 use Rattle.zeb_leaves.proofs.inside.is_above.Goals as goal
 
 pub returns-in-Ok : goal.returns-in-Ok

@@ -1,7 +1,5 @@
-use Rattle.zeb_leaves.proofs.Cited.{Row, ◌≡◌, ◌∙◌, Some, true, false, refl, sym, subst}
-use Rattle.std.proofs.Common.{Bool, not}
+use Rattle.zeb_leaves.proofs.Cited.{Row, ◌≡◌, ◌∙◌, Some, true, false, refl, sym, subst, Bool, not, ShowsKey}
 use Rattle.zeb_leaves.proofs.NextLeaves.{shown_up}
-use Rattle.zeb_leaves.specs.PrivateSpans.{ShowsKey}
 use Rattle.zeb_leaves.proofs.inside.is_up_to.Goals as goal
 
 no_more : (b : Bool) → not b ≡ true → b ≡ false

@@ -1,10 +1,6 @@
-use Rattle.zeb_leaves.proofs.Cited.{HasCleanDisk, ◌∙◌, ℕ, List, ap, arith, state, subst, IsLeafIn, IsNextBehind, IsUpTo, TellsKey, leaf_key, own_key}
-use Rattle.sqlite.specs.Effect.{Database}
-use Rattle.std.proofs.lemmas.Result.{IfOk-weaker}
-use Rattle.std.specs.Option.{option_map}
+use Rattle.zeb_leaves.proofs.Cited.{HasCleanDisk, ◌∙◌, ℕ, List, ap, arith, state, subst, IsLeafIn, IsNextBehind, IsUpTo, TellsKey, leaf_key, own_key, Database, IfOk-weaker, option_map, store_same}
 use Rattle.zeb_leaves.proofs.InsideCalls.{inside_then}
 use Rattle.zeb_leaves.proofs.NextLeaves.{behind_from}
-use Rattle.zeb_register.proofs.Calls.{store_same}
 use Rattle.zeb_leaves.proofs.inside.key_behind.Goals as goal
 
 pub returns-then-is_above-clause-finds : goal.returns-then-is_above-clause-finds

@@ -1,6 +1,4 @@
-use Rattle.zeb_leaves.proofs.Cited.{◌∙◌, ℕ, List, IsLeast, TellsKey, state, subst}
-use Rattle.std.proofs.lemmas.Result.{IfOk-weaker}
-use Rattle.zeb_leaves.specs.PrivateTermReads.{IsRowFrom}
+use Rattle.zeb_leaves.proofs.Cited.{◌∙◌, ℕ, List, IsLeast, TellsKey, state, subst, IfOk-weaker, IsRowFrom}
 use Rattle.zeb_leaves.proofs.inside.key_of_terms_above.Goals as goal
 
 pub returns-clause-finds : goal.returns-clause-finds

@@ -1,8 +1,5 @@
-use Rattle.zeb_leaves.proofs.Cited.{HasCleanDisk, arith, state}
-use Rattle.std.proofs.Common.{true}
-use Rattle.zeb_leaf_rows.proofs.CoveringCalls.{answered_uncovered}
+use Rattle.zeb_leaves.proofs.Cited.{HasCleanDisk, arith, state, true, answered_uncovered, store_same}
 use Rattle.zeb_leaves.proofs.InsideCalls.{inside_then}
-use Rattle.zeb_register.proofs.Calls.{store_same}
 use Rattle.zeb_leaves.proofs.inside.leaf_inside.Goals as goal
 
 pub returns-in-Some-clause-finds : goal.returns-in-Some-clause-finds

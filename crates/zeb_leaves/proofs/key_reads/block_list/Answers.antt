@@ -1,8 +1,5 @@
-use Rattle.zeb_leaves.proofs.Cited.{ℕ, List, Err, ap, inl, inr, subst, rules, state, Covers, IsLeafOf, IsUncovered, leaf_key}
+use Rattle.zeb_leaves.proofs.Cited.{ℕ, List, Err, ap, inl, inr, subst, rules, state, Covers, IsLeafOf, IsUncovered, leaf_key, refused_so, none_reads, rows_told}
 use Rattle.zeb_leaves.proofs.KeyCalls.{block_listed, block_malformed}
-use Rattle.zeb_register.proofs.LeafContents.{none_reads}
-use Rattle.zeb_register.proofs.Answered.{refused_so}
-use Rattle.zeb_register.proofs.RowFaults.{rows_told}
 use Rattle.zeb_leaves.proofs.key_reads.block_list.Goals as goal
 
 pub returns-in_ok-block_of_row-in-Some-clause-units : goal.returns-in_ok-block_of_row-in-Some-clause-units

@@ -1,9 +1,6 @@
-use Rattle.zeb_leaves.proofs.Cited.{◌∙◌, ◌++◌, List, ap, inl, rules, subst}
+use Rattle.zeb_leaves.proofs.Cited.{◌∙◌, ◌++◌, List, ap, inl, rules, subst, SayAll, SomeSaysNone, refused_so, Answers, IfRowDamaged}
 use Rattle.zeb_leaf.specs.declared.entries.Held.{Held}
-use Rattle.zeb_leaves.specs.PrivateSaid.{SayAll, SomeSaysNone}
 use Rattle.zeb_leaves.proofs.KeyCalls.{answers_said}
-use Rattle.zeb_register.specs.Answers.{Answers, IfRowDamaged}
-use Rattle.zeb_register.proofs.Answered.{refused_so}
 use Rattle.zeb_leaves.proofs.key_reads.block_of_row.Goals as goal
 
 pub returns-in_err-push_row_span : goal.returns-in_err-push_row_span

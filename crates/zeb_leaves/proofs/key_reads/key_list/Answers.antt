@@ -1,11 +1,7 @@
-use Rattle.zeb_leaves.proofs.Cited.{◌∙◌, ℕ, List, Err, ap, subst, rules, state, IsLeafOf, IsUncovered, leaf_key}
+use Rattle.zeb_leaves.proofs.Cited.{◌∙◌, ℕ, List, Err, ap, subst, rules, state, IsLeafOf, IsUncovered, leaf_key, SayAll, SomeSaysNone, AreSpanLeaves, SomeShowsNoKey, refused_so, rows_told}
 use Rattle.zeb_leaf.specs.declared.entries.Held.{Held}
 use Rattle.zeb_leaf_rows.proofs.OnlyLeaf.{below_above}
 use Rattle.zeb_leaves.proofs.KeyCalls.{held_listed, held_malformed, lacking_malformed, uncovered_lacking, unread_lacking}
-use Rattle.zeb_leaves.specs.PrivateSaid.{SayAll, SomeSaysNone}
-use Rattle.zeb_leaves.specs.PrivateSpans.{AreSpanLeaves, SomeShowsNoKey}
-use Rattle.zeb_register.proofs.Answered.{refused_so}
-use Rattle.zeb_register.proofs.RowFaults.{rows_told}
 use Rattle.zeb_leaves.proofs.key_reads.key_list.Goals as goal
 
 pub span_leaves-requires : goal.span_leaves-requires

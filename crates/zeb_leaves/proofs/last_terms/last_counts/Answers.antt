@@ -1,7 +1,5 @@
-use Rattle.zeb_leaves.proofs.Cited.{◌≡◌, ◌∙◌, refl, sym, subst, inl, inr, true, false, rules}
+use Rattle.zeb_leaves.proofs.Cited.{◌≡◌, ◌∙◌, refl, sym, subst, inl, inr, true, false, rules, CountBelow, refused_so}
 use Rattle.zeb_leaves.proofs.NearCalls.{down_past, hidden_further, hidden_here, keyless_below, left, stop_below}
-use Rattle.zeb_leaves.specs.PrivateNearTerms.{CountBelow}
-use Rattle.zeb_register.proofs.Answered.{refused_so}
 use Rattle.zeb_leaves.proofs.last_terms.last_counts.Goals as goal
 
 pub returns-in_err-own : goal.returns-in_err-own

@@ -1,6 +1,5 @@
 -- What becomes of the rows that are left and of those behind, becomes of all.
-use Rattle.zeb_leaves.proofs.Cited.{Row, List, [], ◌++◌, drop, TermCount}
-use Rattle.zeb_leaves.specs.PrivateNearTerms.{CountBelow, HideBelow}
+use Rattle.zeb_leaves.proofs.Cited.{Row, List, [], ◌++◌, drop, TermCount, CountBelow, HideBelow}
 use Rattle.zeb_leaves.proofs.last_terms.last_counts.Given as goal
 
 abbrev pub invariant-loop-row : goal.invariant-loop-row

@@ -1,8 +1,5 @@
-use Rattle.zeb_leaves.proofs.Cited.{◌++◌, ap, ap₂, arith, length, state, sym, HasCleanDisk}
+use Rattle.zeb_leaves.proofs.Cited.{◌++◌, ap, ap₂, arith, length, state, sym, HasCleanDisk, store_same, reasoned_after, rows_told}
 use Rattle.zeb_leaves.proofs.LastTold.{answers_leafless, last_found, last_hidden, more_there, none_there, some_there}
-use Rattle.zeb_register.proofs.Calls.{store_same}
-use Rattle.zeb_register.proofs.Causes.{reasoned_after}
-use Rattle.zeb_register.proofs.RowFaults.{rows_told}
 use Rattle.zeb_leaves.proofs.last_terms.last_within.Goals as goal
 
 pub returns-then-is_empty-clause-tells : goal.returns-then-is_empty-clause-tells

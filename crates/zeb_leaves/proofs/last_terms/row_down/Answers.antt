@@ -1,5 +1,4 @@
-use Rattle.zeb_leaves.proofs.Cited.{inl, rules}
-use Rattle.zeb_register.proofs.Answered.{refused_so}
+use Rattle.zeb_leaves.proofs.Cited.{inl, rules, refused_so}
 use Rattle.zeb_leaves.proofs.last_terms.row_down.Goals as goal
 
 pub returns-in_err-entries : goal.returns-in_err-entries

@@ -1,11 +1,4 @@
-use Rattle.zeb_leaves.proofs.Cited.{Text, ◌≡◌, true, pos, column, register_code, HasBlockFrom, IsRest, blocks_tree}
-use Rattle.std.specs.Ordering.{is_lt}
-use Rattle.sqlite.specs.Order.{value_cmp}
-use Rattle.zeb_leaves.specs.PrivateNearRows.{ListsBack}
-use Rattle.zeb_register.proofs.Calls.{all_read}
-use Rattle.zeb_register.proofs.Columns.{column_is}
-use Rattle.zeb_register.proofs.PostingStatements.{register_of}
-use Rattle.zeb_register.proofs.Refusals.{refused, why_failed}
+use Rattle.zeb_leaves.proofs.Cited.{Text, ◌≡◌, true, pos, column, register_code, HasBlockFrom, IsRest, blocks_tree, value_cmp, is_lt, ListsBack, all_read, column_is, register_of, refused, why_failed}
 use Rattle.zeb_leaves.proofs.NearStatements.{last_listed, last_query}
 use Rattle.zeb_leaves.proofs.near_rows.last_rows.Goals as goal
 

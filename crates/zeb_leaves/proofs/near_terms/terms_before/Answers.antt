@@ -1,11 +1,6 @@
-use Rattle.zeb_leaves.proofs.Cited.{◌≡◌, ℕ, List, length, refl, sym, subst, state}
-use Rattle.sqlite.specs.State.{IsUnchanged}
+use Rattle.zeb_leaves.proofs.Cited.{◌≡◌, ℕ, List, length, refl, sym, subst, state, IsUnchanged, HidesBeside, IsSide, ListsBeside, Below, packed_leaves, Comes, HidesBefore, ListsBefore}
 use Rattle.zeb_leaves.proofs.LastTold.{none_before, none_there, some_there}
 use Rattle.zeb_leaves.proofs.NearTold.{answers_none, none_asked, on_side}
-use Rattle.zeb_leaves.specs.PrivateNearCalls.{HidesBeside, IsSide, ListsBeside}
-use Rattle.zeb_leaves.specs.declared.near_terms.Side.TheVariants.{Below}
-use Rattle.zeb_register.specs.Formats.{packed_leaves}
-use Rattle.zeb_register.specs.Terms.{Comes, HidesBefore, ListsBefore}
 use Rattle.std.proofs.Common.{Global, Vec}
 use Rattle.zeb_leaves.proofs.Cited.{TermCount}
 use Rattle.zeb_leaves.proofs.near_terms.terms_before.Goals as goal

@@ -1,9 +1,7 @@
-use Rattle.zeb_leaves.proofs.Cited.{Err, Ok, Option, Some, TermCount, arith, rules, state, subst}
+use Rattle.zeb_leaves.proofs.Cited.{Err, Ok, Option, Some, TermCount, arith, rules, state, subst, MayTellBeside, refused_so}
 use Rattle.std.proofs.Common.{Global, Vec}
 use Rattle.zeb_leaves.proofs.NearTold.{may_tell_behind}
 use Rattle.zeb_leaves.proofs.NearTurns.{answered, none_yet, one_more, refused_still}
-use Rattle.zeb_leaves.specs.PrivateNearCalls.{MayTellBeside}
-use Rattle.zeb_register.proofs.Answered.{refused_so}
 use Rattle.zeb_leaves.proofs.near_terms.terms_beside.Goals as goal
 
 pub turns-init : goal.turns-init

@@ -1,14 +1,8 @@
-use Rattle.zeb_leaves.proofs.Cited.{◌≤◌, Err, TermCount, HasCleanDisk, ap, arith, rules, state, subst, sym}
+use Rattle.zeb_leaves.proofs.Cited.{◌≤◌, Err, TermCount, HasCleanDisk, ap, arith, rules, state, subst, sym, IsUnchanged, HidesBeside, IsSide, ListsBeside, refused_so, reading_then, packed_leaves, Comes, HidesFrom, ListsFrom}
 use Rattle.std.proofs.Common.{Global, Vec}
-use Rattle.sqlite.specs.State.{IsUnchanged}
 use Rattle.zeb_leaves.proofs.NearTold.{answers_none, leafless_from, none_asked, on_side, tells_behind, uncovered_from}
 use Rattle.zeb_leaves.proofs.NearTurns.{none_yet, one_more}
-use Rattle.zeb_leaves.specs.PrivateNearCalls.{HidesBeside, IsSide, ListsBeside}
 use Rattle.zeb_leaves.specs.declared.near_terms.Side.TheVariants.{From}
-use Rattle.zeb_register.proofs.Answered.{refused_so}
-use Rattle.zeb_register.proofs.Calls.{reading_then}
-use Rattle.zeb_register.specs.Formats.{packed_leaves}
-use Rattle.zeb_register.specs.Terms.{Comes, HidesFrom, ListsFrom}
 use Rattle.zeb_leaves.proofs.near_terms.terms_from.Goals as goal
 
 pub returns-then-n-eq0-clause-units : goal.returns-then-n-eq0-clause-units

@@ -1,5 +1,4 @@
-use Rattle.zeb_leaves.proofs.Cited.{state, subst, sym}
-use Rattle.zeb_leaves.specs.PrivateNearCalls.{MayTellBeside}
+use Rattle.zeb_leaves.proofs.Cited.{state, subst, sym, MayTellBeside}
 use Rattle.zeb_leaves.proofs.near_terms.terms_within.Goals as goal
 
 pub returns-in-Below-clause-tells : goal.returns-in-Below-clause-tells

@@ -1,17 +1,7 @@
 -- Each entry is own, or it is passed over.
-use Rattle.zeb_leaves.proofs.Cited.{◌≡◌, true, false, subst, ◌∙◌, ◌++◌, ◌∷◌, [], ℕ, List, ap, sym, rules, Entry, filter}
-use Rattle.std.proofs.lemmas.List.Elements.{filter-append}
-use Rattle.std.specs.Option.{option_map}
+use Rattle.zeb_leaves.proofs.Cited.{◌≡◌, true, false, subst, ◌∙◌, ◌++◌, ◌∷◌, [], ℕ, List, ap, sym, rules, Entry, filter, not, filter-append, option_map, is_lt, reaches_first, reaches_more, entry_of, key_cmp, BlockKey, is_own, refused_so}
 use Rattle.zeb_leaf.proofs.Numbers.{step_shorter}
-use Rattle.zeb_leaf.proofs.Walked.{reaches_first, reaches_more}
-use Rattle.zeb_leaf.specs.Answers.{entry_of}
-use Rattle.zeb_leaf.specs.declared.spans.BlockKey.{BlockKey}
-use Rattle.std.proofs.Common.{not}
-use Rattle.std.specs.Ordering.{is_lt}
-use Rattle.zeb_leaf.specs.Spans.{key_cmp}
 use Rattle.zeb_leaves.proofs.WalkedRows.{noted_from, stuck_none, told_own, walked_all}
-use Rattle.zeb_leaves.specs.PrivateTermReads.{is_own}
-use Rattle.zeb_register.proofs.Answered.{refused_so}
 use Rattle.zeb_leaves.proofs.own_entries.entries_in.Goals as goal
 
 pub loop-own-init : goal.loop-own-init

@@ -1,11 +1,7 @@
 -- The entries that were walked over so far, and which of them were taken.
-use Rattle.zeb_leaves.proofs.Cited.{◌≡◌, List, Entry, filter, length}
-use Rattle.std.specs.Option.{option_map}
-use Rattle.zeb_leaf.proofs.Walked.{Reaches}
-use Rattle.zeb_leaf.specs.declared.spans.BlockKey.{BlockKey}
+use Rattle.zeb_leaves.proofs.Cited.{◌≡◌, List, Entry, filter, length, option_map, Reaches, BlockKey, is_own}
 use Rattle.std.specs.Prelude.{IsTrue}
 use Rattle.zeb_leaves.proofs.WalkedRows.{AreFrom}
-use Rattle.zeb_leaves.specs.PrivateTermReads.{is_own}
 use Rattle.zeb_leaves.proofs.own_entries.entries_in.Given as goal
 
 abbrev pub invariant-loop-own : goal.invariant-loop-own

@@ -1,5 +1,4 @@
-use Rattle.std.specs.Option.{option_map}
-use Rattle.zeb_leaf.specs.declared.spans.BlockKey.{BlockKey}
+use Rattle.zeb_leaves.proofs.Cited.{option_map, BlockKey}
 use Rattle.zeb_leaves.proofs.WalkedRows.{own_answers}
 use Rattle.zeb_leaves.proofs.own_entries.own_entries.Goals as goal
 

@@ -1,7 +1,5 @@
 -- The changes so far are of records of the block.
-use Rattle.zeb_leaves.proofs.Cited.{AllByRecursion}
-use Rattle.std.proofs.Common.{take}
-use Rattle.zeb_register.specs.PrivatePackedRows.{IsInBlock}
+use Rattle.zeb_leaves.proofs.Cited.{AllByRecursion, take, IsInBlock}
 use Rattle.zeb_leaves.proofs.pieces.count_inside.Given as goal
 
 abbrev pub invariant-loop-count : goal.invariant-loop-count

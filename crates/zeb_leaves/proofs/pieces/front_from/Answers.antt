@@ -1,5 +1,4 @@
-use Rattle.zeb_leaves.proofs.Cited.{arith, drop}
-use Rattle.std.proofs.lemmas.List.{length-drop}
+use Rattle.zeb_leaves.proofs.Cited.{arith, drop, length-drop}
 use Rattle.zeb_leaves.proofs.CutPieces.{front_so}
 use Rattle.zeb_leaves.proofs.pieces.front_from.Goals as goal
 

@@ -1,9 +1,6 @@
-use Rattle.zeb_leaves.proofs.Cited.{◌∙◌, ◌++◌, List, [], all_has, ap, arith, refl, subst, sym, AllByRecursion}
-use Rattle.std.proofs.Math.ListN.{drop_of_length-le}
+use Rattle.zeb_leaves.proofs.Cited.{◌∙◌, ◌++◌, List, [], all_has, ap, arith, refl, subst, sym, AllByRecursion, drop_of_length-le, IsStorableChange, NumbersRise, KeyChanges}
 use Rattle.std.proofs.lemmas.List.{append_assoc, append-nil}
 use Rattle.zeb_register.proofs.ContentLemmas.{has_at}
-use Rattle.zeb_register.specs.UnitChanges.{IsStorableChange, NumbersRise}
-use Rattle.zeb_register.specs.declared.registers.KeyChanges.{KeyChanges}
 use Rattle.zeb_leaves.proofs.CutPieces.{PartsEach, parts_next, parts_pieces, parts_run}
 use Rattle.zeb_leaves.proofs.pieces.pieces_of.Goals as goal
 

@@ -1,7 +1,6 @@
 -- Where pieces are those of the keys that are left, they are behind the others those of all keys.
-use Rattle.zeb_leaves.proofs.Cited.{◌++◌, List, drop}
+use Rattle.zeb_leaves.proofs.Cited.{◌++◌, List, drop, KeyChanges}
 use Rattle.zeb_leaves.proofs.CutPieces.{PartsEach}
-use Rattle.zeb_register.specs.declared.registers.KeyChanges.{KeyChanges}
 use Rattle.zeb_leaves.proofs.pieces.pieces_of.Given as goal
 
 abbrev pub invariant-loop-one : goal.invariant-loop-one

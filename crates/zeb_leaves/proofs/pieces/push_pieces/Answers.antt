@@ -1,7 +1,5 @@
-use Rattle.zeb_leaves.proofs.Cited.{◌∙◌, ◌++◌, ◌∷◌, List, [], ap, arith, refl, subst, sym}
-use Rattle.std.proofs.Math.ListN.{drop_of_length-le}
+use Rattle.zeb_leaves.proofs.Cited.{◌∙◌, ◌++◌, ◌∷◌, List, [], ap, arith, refl, subst, sym, drop_of_length-le, KeyChanges}
 use Rattle.std.proofs.lemmas.List.{append_assoc}
-use Rattle.zeb_register.specs.declared.registers.KeyChanges.{KeyChanges}
 use Rattle.zeb_leaves.proofs.CutPieces.{AreCut, front_long, pieces_put, rest_is}
 use Rattle.zeb_leaves.proofs.pieces.push_pieces.Goals as goal
 

@@ -1,8 +1,6 @@
 -- Where pieces are those of the changes that are left, they are behind the others the pieces of all.
-use Rattle.zeb_leaves.proofs.Cited.{◌≡◌, ◌≤◌, ◌++◌, List, drop, length}
-use Rattle.std.proofs.Common.{◌-◌}
+use Rattle.zeb_leaves.proofs.Cited.{◌≡◌, ◌≤◌, ◌++◌, List, drop, length, ◌-◌, KeyChanges}
 use Rattle.zeb_leaves.proofs.CutPieces.{AreCut}
-use Rattle.zeb_register.specs.declared.registers.KeyChanges.{KeyChanges}
 use Rattle.zeb_leaves.proofs.pieces.push_pieces.Given as goal
 
 abbrev pub invariant-loop-done : goal.invariant-loop-done

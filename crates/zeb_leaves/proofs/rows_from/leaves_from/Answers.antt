@@ -1,5 +1,4 @@
-use Rattle.zeb_leaves.proofs.Cited.{HasCleanDisk, arith, state}
-use Rattle.zeb_register.proofs.Calls.{store_same}
+use Rattle.zeb_leaves.proofs.Cited.{HasCleanDisk, arith, state, store_same}
 use Rattle.zeb_leaves.proofs.TermsTold.{answers_from}
 use Rattle.zeb_leaves.proofs.rows_from.leaves_from.Goals as goal
 

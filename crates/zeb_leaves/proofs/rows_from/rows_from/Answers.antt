@@ -1,10 +1,4 @@
-use Rattle.zeb_leaves.proofs.Cited.{Text, ◌≡◌, false, pos, column, register_code, HasBlockFrom, IsRest, blocks_tree}
-use Rattle.std.specs.Ordering.{is_lt}
-use Rattle.sqlite.specs.Order.{value_cmp}
-use Rattle.zeb_register.proofs.Calls.{lists_read}
-use Rattle.zeb_register.proofs.Columns.{column_is}
-use Rattle.zeb_register.proofs.PostingStatements.{register_of}
-use Rattle.zeb_register.proofs.Refusals.{refused, why_failed}
+use Rattle.zeb_leaves.proofs.Cited.{Text, ◌≡◌, false, pos, column, register_code, HasBlockFrom, IsRest, blocks_tree, value_cmp, is_lt, lists_read, column_is, register_of, refused, why_failed}
 use Rattle.zeb_leaves.proofs.FromStatements.{from_listed, from_query}
 use Rattle.zeb_leaves.proofs.rows_from.rows_from.Goals as goal
 

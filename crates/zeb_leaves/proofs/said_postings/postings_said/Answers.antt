@@ -1,8 +1,5 @@
-use Rattle.zeb_leaves.proofs.Cited.{rules}
+use Rattle.zeb_leaves.proofs.Cited.{rules, refused_so, has_get, got}
 use Rattle.zeb_leaves.proofs.SaidMore.{said_more}
-use Rattle.zeb_register.proofs.Answered.{refused_so}
-use Rattle.zeb_register.proofs.ContentLemmas.{has_get}
-use Rattle.zeb_register.proofs.TermRows.{got}
 use Rattle.zeb_leaves.proofs.said_postings.postings_said.Goals as goal
 
 pub returns-in_err-push_said : goal.returns-in_err-push_said

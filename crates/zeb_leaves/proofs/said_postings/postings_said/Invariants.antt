@@ -1,6 +1,5 @@
 -- What those so far say.
-use Rattle.std.proofs.Common.{take}
-use Rattle.zeb_leaves.specs.PrivateSaid.{SayAll}
+use Rattle.zeb_leaves.proofs.Cited.{take, SayAll}
 use Rattle.zeb_leaves.proofs.said_postings.postings_said.Given as goal
 
 abbrev pub invariant-loop-one : goal.invariant-loop-one

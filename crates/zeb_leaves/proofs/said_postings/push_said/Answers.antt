@@ -1,7 +1,6 @@
 -- The postings of the entry's block are of as many records as it says, or of others.
-use Rattle.zeb_leaves.proofs.Cited.{◌∙◌, sym, subst, HasRecordOf, IsCount, one_count}
+use Rattle.zeb_leaves.proofs.Cited.{◌∙◌, sym, subst, HasRecordOf, IsCount, one_count, records_counted}
 use Rattle.zeb_blocks.specs.Records.{record_count}
-use Rattle.zeb_register.proofs.TermRows.{records_counted}
 use Rattle.zeb_leaves.proofs.said_postings.push_said.Goals as goal
 
 pub returns-in-Ok : goal.returns-in-Ok

@@ -1,5 +1,4 @@
-use Rattle.zeb_leaves.proofs.Cited.{HasCleanDisk, arith, state}
-use Rattle.zeb_register.proofs.Calls.{store_same}
+use Rattle.zeb_leaves.proofs.Cited.{HasCleanDisk, arith, state, store_same}
 use Rattle.zeb_leaves.proofs.SpanCalls.{answers_span}
 use Rattle.zeb_leaves.proofs.spans.many_leaves.Goals as goal
 

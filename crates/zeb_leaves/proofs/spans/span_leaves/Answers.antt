@@ -1,9 +1,5 @@
-use Rattle.zeb_leaves.proofs.Cited.{Row, ◌≡◌, ◌∙◌, ◌++◌, ◌∷◌, ℕ, List, [], HasCleanDisk, IsLeafIn, IsUncovered, ap, arith, leaf_key, state, subst, sym}
-use Rattle.sqlite.specs.Effect.{Database}
+use Rattle.zeb_leaves.proofs.Cited.{Row, ◌≡◌, ◌∙◌, ◌++◌, ◌∷◌, ℕ, List, [], HasCleanDisk, IsLeafIn, IsUncovered, ap, arith, leaf_key, state, subst, sym, Database, AreSpanLeaves, store_same, Answers, IfDamaged}
 use Rattle.zeb_leaves.proofs.SpanCalls.{only_spans}
-use Rattle.zeb_leaves.specs.PrivateSpans.{AreSpanLeaves}
-use Rattle.zeb_register.proofs.Calls.{store_same}
-use Rattle.zeb_register.specs.Answers.{Answers, IfDamaged}
 use Rattle.zeb_leaves.proofs.spans.span_leaves.Goals as goal
 
 pub returns-clause-finds : goal.returns-clause-finds

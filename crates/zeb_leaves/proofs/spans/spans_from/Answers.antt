@@ -1,9 +1,7 @@
-use Rattle.zeb_leaves.proofs.Cited.{◌∙◌, ◌++◌, List, sym, ap, subst, inl, inr, refl, rules}
+use Rattle.zeb_leaves.proofs.Cited.{◌∙◌, ◌++◌, List, sym, ap, subst, inl, inr, refl, rules, ShowSpans, refused_so}
 use Rattle.std.proofs.lemmas.List.{append_assoc, drop_all}
 use Rattle.zeb_leaf.specs.declared.entries.Held.{Held}
 use Rattle.zeb_leaves.proofs.SpanCalls.{span_step}
-use Rattle.zeb_leaves.specs.PrivateSpans.{ShowSpans}
-use Rattle.zeb_register.proofs.Answered.{refused_so}
 use Rattle.zeb_register.proofs.ContentLemmas.{has_at}
 use Rattle.zeb_leaves.proofs.spans.spans_from.Goals as goal
 

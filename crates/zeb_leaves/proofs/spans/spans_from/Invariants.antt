@@ -1,7 +1,6 @@
 -- What stands in the rows that are left leads from here to the whole; the row at hand is one of them.
-use Rattle.zeb_leaves.proofs.Cited.{Has, ◌++◌, ◌∷◌, List, drop}
+use Rattle.zeb_leaves.proofs.Cited.{Has, ◌++◌, ◌∷◌, List, drop, ShowSpans}
 use Rattle.zeb_leaf.specs.declared.entries.Held.{Held}
-use Rattle.zeb_leaves.specs.PrivateSpans.{ShowSpans}
 use Rattle.zeb_leaves.proofs.spans.spans_from.Given as goal
 
 abbrev pub invariant-loop-next : goal.invariant-loop-next

@@ -1,9 +1,7 @@
-use Rattle.zeb_leaves.proofs.Cited.{pos, register_code, to_z-of_z, IsLeast, TellsKey}
-use Rattle.zeb_register.proofs.Columns.{column_is}
+use Rattle.zeb_leaves.proofs.Cited.{pos, register_code, to_z-of_z, IsLeast, TellsKey, IsOfTermFrom, column_is}
 use Rattle.zeb_leaves.proofs.BehindStatements.{own_query, own_shown}
 use Rattle.zeb_leaves.proofs.InsideCalls.{finds}
 use Rattle.zeb_leaves.proofs.KeysTold.{key_shown}
-use Rattle.zeb_leaves.specs.PrivateLeafReads.{IsOfTermFrom}
 use Rattle.zeb_leaves.proofs.statements_inside.key_of_term_from.Goals as goal
 
 pub last_shown-requires : goal.last_shown-requires

@@ -1,9 +1,7 @@
-use Rattle.zeb_leaves.proofs.Cited.{pos, register_code, IsLeast, TellsKey}
-use Rattle.zeb_register.proofs.Columns.{column_is}
+use Rattle.zeb_leaves.proofs.Cited.{pos, register_code, IsLeast, TellsKey, IsRowFrom, column_is}
 use Rattle.zeb_leaves.proofs.BehindStatements.{from_query, from_shown}
 use Rattle.zeb_leaves.proofs.InsideCalls.{finds}
 use Rattle.zeb_leaves.proofs.KeysTold.{key_shown}
-use Rattle.zeb_leaves.specs.PrivateTermReads.{IsRowFrom}
 use Rattle.zeb_leaves.proofs.statements_inside.key_of_terms_from.Goals as goal
 
 pub last_shown-requires : goal.last_shown-requires

@@ -1,7 +1,5 @@
-use Rattle.zeb_leaves.proofs.Cited.{◌∙◌, Err, ap, rules}
-use Rattle.std.proofs.lemmas.Result.{err_from_is_err_and}
+use Rattle.zeb_leaves.proofs.Cited.{◌∙◌, Err, ap, rules, err_from_is_err_and, alone_inside}
 use Rattle.sqlite.specs.Values.{bound}
-use Rattle.zeb_register.proofs.Calls.{alone_inside}
 use Rattle.zeb_leaves.proofs.InsideCalls.{shows_none}
 use Rattle.zeb_leaves.proofs.statements_inside.last_shown.Goals as goal
 

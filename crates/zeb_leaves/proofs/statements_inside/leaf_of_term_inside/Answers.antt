@@ -1,9 +1,5 @@
-use Rattle.zeb_leaves.proofs.Cited.{pos, register_code, to_z-of_z, IsGreatest}
-use Rattle.zeb_register.proofs.Columns.{column_is}
-use Rattle.zeb_leaf_rows.proofs.CoveringLeaves.{shown_greatest}
+use Rattle.zeb_leaves.proofs.Cited.{pos, register_code, to_z-of_z, IsGreatest, shown_greatest, of_term_query, of_term_shown, IsOfTermBelow, column_is}
 use Rattle.zeb_leaves.proofs.InsideCalls.{finds}
-use Rattle.zeb_leaf_rows.proofs.LeafStatements.{of_term_query, of_term_shown}
-use Rattle.zeb_leaf_rows.specs.PrivateLeafRows.{IsOfTermBelow}
 use Rattle.zeb_leaves.proofs.statements_inside.leaf_of_term_inside.Goals as goal
 
 pub last_shown-requires : goal.last_shown-requires

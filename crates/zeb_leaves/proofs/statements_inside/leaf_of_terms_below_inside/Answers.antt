@@ -1,9 +1,5 @@
-use Rattle.zeb_leaves.proofs.Cited.{pos, register_code, IsGreatest}
-use Rattle.zeb_register.proofs.Columns.{column_is}
-use Rattle.zeb_leaf_rows.proofs.CoveringLeaves.{shown_greatest}
+use Rattle.zeb_leaves.proofs.Cited.{pos, register_code, IsGreatest, shown_greatest, below_query, below_shown, IsOfTermsBelow, column_is}
 use Rattle.zeb_leaves.proofs.InsideCalls.{finds}
-use Rattle.zeb_leaf_rows.proofs.LeafStatements.{below_query, below_shown}
-use Rattle.zeb_leaf_rows.specs.PrivateLeafRows.{IsOfTermsBelow}
 use Rattle.zeb_leaves.proofs.statements_inside.leaf_of_terms_below_inside.Goals as goal
 
 pub last_shown-requires : goal.last_shown-requires

@@ -1,8 +1,5 @@
-use Rattle.zeb_leaves.proofs.Cited.{pos, register_code, IsLeafIn, TellsSome}
-use Rattle.zeb_register.proofs.Columns.{column_is}
-use Rattle.zeb_leaf_rows.proofs.CoveringLeaves.{leaf_some, some_leaf}
+use Rattle.zeb_leaves.proofs.Cited.{pos, register_code, IsLeafIn, TellsSome, leaf_some, some_leaf, any_query, any_shown, column_is}
 use Rattle.zeb_leaves.proofs.InsideCalls.{finds, shown_some}
-use Rattle.zeb_leaf_rows.proofs.LeafStatements.{any_query, any_shown}
 use Rattle.zeb_leaves.proofs.statements_inside.some_row_inside.Goals as goal
 
 pub last_shown-requires : goal.last_shown-requires

@@ -1,6 +1,5 @@
-use Rattle.zeb_leaves.proofs.Cited.{rules, ◌+◌, length, arith}
+use Rattle.zeb_leaves.proofs.Cited.{rules, ◌+◌, length, arith, refused_so}
 use Rattle.zeb_leaves.proofs.SpotsSaid.{many_taken}
-use Rattle.zeb_register.proofs.Answered.{refused_so}
 use Rattle.zeb_register.proofs.ContentLemmas.{has_at}
 use Rattle.zeb_leaves.proofs.term_totals.entries_postings.Goals as goal
 

@@ -1,8 +1,5 @@
 -- What those so far say.
-use Rattle.zeb_leaves.proofs.Cited.{◌≡◌, ℕ}
-use Rattle.std.proofs.Common.{take}
-use Rattle.zeb_leaves.specs.PrivateTermReads.{SayMany}
-use Rattle.zeb_register.specs.Occurring.{capped}
+use Rattle.zeb_leaves.proofs.Cited.{◌≡◌, ℕ, take, SayMany, capped}
 use Rattle.zeb_leaves.proofs.term_totals.entries_postings.Given as goal
 
 abbrev pub invariant-loop-entry : goal.invariant-loop-entry

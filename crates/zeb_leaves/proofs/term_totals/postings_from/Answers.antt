@@ -1,9 +1,7 @@
-use Rattle.zeb_leaves.proofs.Cited.{◌++◌, ◌+◌, [], refl, sym, subst, inl, inr, arith, rules}
+use Rattle.zeb_leaves.proofs.Cited.{◌++◌, ◌+◌, [], refl, sym, subst, inl, inr, arith, rules, HideOwns, SaysNone, ShowOwns, refused_so}
 use Rattle.std.proofs.lemmas.List.{append_assoc, drop_all}
 use Rattle.zeb_leaves.proofs.SpotsSaid.{many_joined}
 use Rattle.zeb_leaves.proofs.TermCalls.{hidden_step, keyless_step, own_step}
-use Rattle.zeb_leaves.specs.PrivateTermReads.{HideOwns, SaysNone, ShowOwns}
-use Rattle.zeb_register.proofs.Answered.{refused_so}
 use Rattle.zeb_leaves.proofs.term_totals.postings_from.Goals as goal
 
 pub loop-next-init : goal.loop-next-init

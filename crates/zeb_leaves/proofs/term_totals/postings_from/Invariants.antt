@@ -1,7 +1,5 @@
 -- What stands in the rows that are left leads from here to the whole, and so does what is hidden there.
-use Rattle.zeb_leaves.proofs.Cited.{◌≡◌, ◌++◌, ℕ, List, drop, Entry}
-use Rattle.zeb_leaves.specs.PrivateTermReads.{HideOwns, SayMany, SaysNone, ShowOwns}
-use Rattle.zeb_register.specs.Occurring.{capped}
+use Rattle.zeb_leaves.proofs.Cited.{◌≡◌, ◌++◌, ℕ, List, drop, Entry, HideOwns, SayMany, SaysNone, ShowOwns, capped}
 use Rattle.zeb_leaves.proofs.term_totals.postings_from.Given as goal
 
 abbrev pub invariant-loop-next : goal.invariant-loop-next

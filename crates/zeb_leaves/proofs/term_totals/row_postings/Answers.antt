@@ -1,5 +1,4 @@
-use Rattle.zeb_leaves.proofs.Cited.{inl, rules}
-use Rattle.zeb_register.proofs.Answered.{refused_so}
+use Rattle.zeb_leaves.proofs.Cited.{inl, rules, refused_so}
 use Rattle.zeb_leaves.proofs.term_totals.row_postings.Goals as goal
 
 pub returns-in_err-own : goal.returns-in_err-own

@@ -1,9 +1,6 @@
-use Rattle.zeb_leaves.proofs.Cited.{Row, List, [], Err, ap, arith, inl, subst, rules, state}
+use Rattle.zeb_leaves.proofs.Cited.{Row, List, [], Err, ap, arith, inl, subst, rules, state, HideAllOwns, IsNoText, SaysNone, ShowAllOwns, refused_so, rows_told}
 use Rattle.zeb_leaves.proofs.SpotsSaid.{sums_hidden, sums_told, terms_hidden}
 use Rattle.zeb_leaves.proofs.TermsTold.{uncovered_hides}
-use Rattle.zeb_leaves.specs.PrivateTermReads.{HideAllOwns, IsNoText, SaysNone, ShowAllOwns}
-use Rattle.zeb_register.proofs.Answered.{refused_so}
-use Rattle.zeb_register.proofs.RowFaults.{rows_told}
 use Rattle.zeb_leaves.proofs.term_totals.totals.Goals as goal
 
 pub returns-clause-units : goal.returns-clause-units

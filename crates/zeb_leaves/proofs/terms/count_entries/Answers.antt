@@ -1,6 +1,5 @@
-use Rattle.zeb_leaves.proofs.Cited.{rules}
+use Rattle.zeb_leaves.proofs.Cited.{rules, refused_so}
 use Rattle.zeb_leaves.proofs.CountedTerms.{count_taken}
-use Rattle.zeb_register.proofs.Answered.{refused_so}
 use Rattle.zeb_register.proofs.ContentLemmas.{has_at}
 use Rattle.zeb_leaves.proofs.terms.count_entries.Goals as goal
 

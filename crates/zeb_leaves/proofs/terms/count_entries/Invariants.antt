@@ -1,6 +1,5 @@
 -- Those so far are counted.
-use Rattle.std.proofs.Common.{take}
-use Rattle.zeb_leaves.specs.PrivateTermReads.{CountAll}
+use Rattle.zeb_leaves.proofs.Cited.{take, CountAll}
 use Rattle.zeb_leaves.proofs.terms.count_entries.Given as goal
 
 abbrev pub invariant-loop-entry : goal.invariant-loop-entry

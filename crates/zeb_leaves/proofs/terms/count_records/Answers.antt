@@ -1,10 +1,4 @@
-use Rattle.zeb_leaves.proofs.Cited.{◌≡◌, ◌∙◌, ◌<◌, ◌++◌, ◌∷◌, [], List, suc, true, false, length, length-append, ap, sym, inl, inr, arith, rules, TermCount}
-use Rattle.std.proofs.Common.{◌-◌, take, vec_len}
-use Rattle.std.specs.Prelude.{IsUtf8}
-use Rattle.zeb_register.proofs.RisingLists.{same_last}
-use Rattle.zeb_register.proofs.TermRows.{last_set, last_view}
-use Rattle.zeb_leaves.specs.PrivateTermReads.{entry_with_records}
-use Rattle.zeb_register.specs.PrivateRowTerms.{term_with}
+use Rattle.zeb_leaves.proofs.Cited.{◌≡◌, ◌∙◌, ◌<◌, ◌++◌, ◌∷◌, [], List, suc, true, false, length, length-append, ap, sym, inl, inr, arith, rules, TermCount, ◌-◌, take, vec_len, IsUtf8, entry_with_records, same_last, last_set, last_view, term_with}
 use Rattle.zeb_leaves.proofs.terms.count_records.Goals as goal
 use Rattle.zeb_leaves.proofs.terms.count_records.Goals.{in-Some+else-is_term, in_default}
 

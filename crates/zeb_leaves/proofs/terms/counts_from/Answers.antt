@@ -1,9 +1,7 @@
-use Rattle.zeb_leaves.proofs.Cited.{◌++◌, [], sym, subst, inl, inr, rules}
+use Rattle.zeb_leaves.proofs.Cited.{◌++◌, [], sym, subst, inl, inr, rules, HideOwns, IsNoText, ShowOwns, refused_so}
 use Rattle.std.proofs.lemmas.List.{append_assoc, drop_all}
 use Rattle.zeb_leaves.proofs.CountedTerms.{count_joined}
 use Rattle.zeb_leaves.proofs.TermCalls.{hidden_step, keyless_step, own_step}
-use Rattle.zeb_leaves.specs.PrivateTermReads.{HideOwns, IsNoText, ShowOwns}
-use Rattle.zeb_register.proofs.Answered.{refused_so}
 use Rattle.zeb_leaves.proofs.terms.counts_from.Goals as goal
 
 pub loop-next-init : goal.loop-next-init

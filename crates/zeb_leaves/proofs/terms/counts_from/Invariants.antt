@@ -1,6 +1,5 @@
 -- What stands in the rows that are left leads from here to the whole, and so does what is hidden there.
-use Rattle.zeb_leaves.proofs.Cited.{◌++◌, List, [], drop, Entry}
-use Rattle.zeb_leaves.specs.PrivateTermReads.{CountAll, HideOwns, IsNoText, ShowOwns}
+use Rattle.zeb_leaves.proofs.Cited.{◌++◌, List, [], drop, Entry, CountAll, HideOwns, IsNoText, ShowOwns}
 use Rattle.zeb_leaves.proofs.terms.counts_from.Given as goal
 
 abbrev pub invariant-loop-next : goal.invariant-loop-next

@@ -1,8 +1,5 @@
-use Rattle.zeb_leaves.proofs.Cited.{Row, List, [], Err, ap, subst, rules, state}
+use Rattle.zeb_leaves.proofs.Cited.{Row, List, [], Err, ap, subst, rules, state, HideAllOwns, IsNoText, ShowAllOwns, refused_so, rows_told}
 use Rattle.zeb_leaves.proofs.TermsTold.{all_hidden, all_listed, uncovered_hides}
-use Rattle.zeb_leaves.specs.PrivateTermReads.{HideAllOwns, IsNoText, ShowAllOwns}
-use Rattle.zeb_register.proofs.Answered.{refused_so}
-use Rattle.zeb_register.proofs.RowFaults.{rows_told}
 use Rattle.zeb_leaves.proofs.terms.terms_of.Goals as goal
 
 pub returns-clause-units : goal.returns-clause-units

@@ -1,6 +1,5 @@
 -- The postings rise, and so what is counted is their records.
-use Rattle.zeb_leaves.proofs.Cited.{rules, sym, subst, HasRecordOf, IsCount}
-use Rattle.zeb_register.proofs.TermRows.{records_counted}
+use Rattle.zeb_leaves.proofs.Cited.{rules, sym, subst, HasRecordOf, IsCount, records_counted}
 use Rattle.zeb_leaves.proofs.turned_entries.block_with.Goals as goal
 
 pub returns : goal.returns

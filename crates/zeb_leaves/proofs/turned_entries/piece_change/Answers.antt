@@ -1,7 +1,4 @@
-use Rattle.zeb_leaves.proofs.Cited.{◌∙◌, ◌<◌, ap, arith, length, rules, subst, sym, List, Posting, SayPart}
-use Rattle.std.specs.Prelude.{◌^◌, IsUtf8}
-use Rattle.zeb_register.proofs.Answered.{refused_so}
-use Rattle.zeb_leaves.specs.PrivatePieces.{HasPostings, block_of}
+use Rattle.zeb_leaves.proofs.Cited.{◌∙◌, ◌<◌, ap, arith, length, rules, subst, sym, List, Posting, SayPart, ◌^◌, IsUtf8, HasPostings, block_of, refused_so}
 use Rattle.zeb_leaves.proofs.TurnedEntries.{entries_turned, lacks_turn, said_at, said_lies}
 use Rattle.zeb_leaves.proofs.turned_entries.piece_change.Goals as goal
 

@@ -1,11 +1,6 @@
-use Rattle.zeb_leaves.proofs.Cited.{◌∙◌, ◌++◌, ◌∷◌, List, [], ap, arith, refl, rules, subst, sym}
-use Rattle.std.proofs.Math.ListN.{drop_of_length-le}
+use Rattle.zeb_leaves.proofs.Cited.{◌∙◌, ◌++◌, ◌∷◌, List, [], ap, arith, refl, rules, subst, sym, drop_of_length-le, BlockChange, TurnAllEntries, refused_so, KeyChanges}
 use Rattle.std.proofs.lemmas.List.{append_assoc, append-nil}
-use Rattle.zeb_leaf.specs.declared.merging.BlockChange.{BlockChange}
-use Rattle.zeb_register.proofs.Answered.{refused_so}
 use Rattle.zeb_register.proofs.ContentLemmas.{has_at}
-use Rattle.zeb_register.specs.declared.registers.KeyChanges.{KeyChanges}
-use Rattle.zeb_leaves.specs.PrivatePieces.{TurnAllEntries}
 use Rattle.zeb_leaves.proofs.TurnedEntries.{turn_next}
 use Rattle.zeb_leaves.proofs.turned_entries.piece_changes.Goals as goal
 

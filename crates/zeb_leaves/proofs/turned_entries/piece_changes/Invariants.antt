@@ -1,7 +1,5 @@
 -- Where changes are those of the pieces that are left, they are behind the others those of all pieces.
-use Rattle.zeb_leaves.proofs.Cited.{◌++◌, List, drop}
-use Rattle.zeb_leaf.specs.declared.merging.BlockChange.{BlockChange}
-use Rattle.zeb_leaves.specs.PrivatePieces.{TurnAllEntries}
+use Rattle.zeb_leaves.proofs.Cited.{◌++◌, List, drop, BlockChange, TurnAllEntries}
 use Rattle.zeb_leaves.proofs.turned_entries.piece_changes.Given as goal
 
 abbrev pub invariant-loop-piece : goal.invariant-loop-piece

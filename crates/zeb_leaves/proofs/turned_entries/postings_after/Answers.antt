@@ -1,14 +1,6 @@
-use Rattle.zeb_leaves.proofs.Cited.{◌≡◌, ◌+◌, arith, drop, refl, rules, subst, suc, sym, all_has, LiesIn}
-use Rattle.std.proofs.Common.{drop-cons, get_or}
-use Rattle.zeb_register.proofs.Answered.{refused_so}
-use Rattle.zeb_register.proofs.ContentLemmas.{has_get}
+use Rattle.zeb_leaves.proofs.Cited.{◌≡◌, ◌+◌, arith, drop, refl, rules, subst, suc, sym, all_has, LiesIn, drop-cons, get_or, block_of, refused_so, has_get, packed_leaves, IsInBlock, units_of, TurnsUnits}
 use Rattle.zeb_register.proofs.ContentTurns.{none_left}
 use Rattle.zeb_register.proofs.ListChanges.{no_change}
-use Rattle.zeb_register.specs.Formats.{packed_leaves}
-use Rattle.zeb_register.specs.PrivatePackedRows.{IsInBlock}
-use Rattle.zeb_register.specs.PrivateUnits.{units_of}
-use Rattle.zeb_register.specs.UnitChanges.{TurnsUnits}
-use Rattle.zeb_leaves.specs.PrivatePieces.{block_of}
 use Rattle.zeb_leaves.proofs.TurnedEntries.{CanTurn, can_from, same_turned, turned_unit}
 use Rattle.zeb_leaves.proofs.turned_entries.postings_after.Goals as goal
 

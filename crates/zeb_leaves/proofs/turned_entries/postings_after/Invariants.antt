@@ -1,9 +1,5 @@
 -- What is left leads from here to any end as all of it does from the start, and where all can be turned, what is left can.
-use Rattle.zeb_leaves.proofs.Cited.{drop, LiesIn}
-use Rattle.zeb_register.specs.Formats.{packed_leaves}
-use Rattle.zeb_register.specs.PrivateUnits.{units_of}
-use Rattle.zeb_register.specs.UnitChanges.{KeyUnits, TurnsUnits}
-use Rattle.zeb_leaves.specs.PrivatePieces.{block_of}
+use Rattle.zeb_leaves.proofs.Cited.{drop, LiesIn, block_of, packed_leaves, units_of, KeyUnits, TurnsUnits}
 use Rattle.zeb_leaves.proofs.TurnedEntries.{CanTurn}
 use Rattle.zeb_leaves.proofs.turned_entries.postings_after.Given as goal
 

@@ -1,5 +1,4 @@
-use Rattle.zeb_leaves.proofs.Cited.{◌≡◌, ◌∙◌, ◌++◌, List, [], ap, refl, subst, sym, Posting, SayPart}
-use Rattle.std.specs.Prelude.{Vec}
+use Rattle.zeb_leaves.proofs.Cited.{◌≡◌, ◌∙◌, ◌++◌, List, [], ap, refl, subst, sym, Posting, SayPart, Vec}
 use Rattle.std.specs.declared.alloc.Global.{Global}
 use Rattle.zeb_leaves.proofs.TurnedEntries.{said_by, said_none, says_held}
 use Rattle.zeb_leaves.proofs.turned_entries.postings_at.Goals as goal

@@ -1,6 +1,5 @@
 -- The changes so far can all be stored.
-use Rattle.std.proofs.Common.{take}
-use Rattle.zeb_leaves.specs.PrivatePieces.{AreStorable}
+use Rattle.zeb_leaves.proofs.Cited.{take, AreStorable}
 use Rattle.zeb_leaves.proofs.turning.check_run.Given as goal
 
 abbrev pub invariant-loop-one : goal.invariant-loop-one

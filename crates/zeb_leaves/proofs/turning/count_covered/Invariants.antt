@@ -1,8 +1,5 @@
 -- The pieces so far are of the register, and below the end.
-use Rattle.zeb_leaves.proofs.Cited.{AllByRecursion}
-use Rattle.std.proofs.Common.{take}
-use Rattle.std.specs.Option.{option_map}
-use Rattle.zeb_leaf.specs.declared.spans.BlockKey.{BlockKey as KeyOfBlock}
+use Rattle.zeb_leaves.proofs.Cited.{AllByRecursion, take, option_map, KeyOfBlock}
 use Rattle.zeb_leaves.specs.PrivateTurning.{IsBelow, IsTextOf}
 use Rattle.zeb_leaves.proofs.turning.count_covered.Given as goal
 

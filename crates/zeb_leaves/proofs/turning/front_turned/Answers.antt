@@ -1,21 +1,9 @@
-use Rattle.zeb_leaves.proofs.Cited.{HasCleanDisk, Row, ◌∙◌, Option, arith, refl, rules, state, subst, IsLeafAt, IsLeafIn, IsNextBehind, TellsKey, leaf_key}
-use Rattle.std.specs.Option.{option_map}
-use Rattle.std.specs.Prelude.{IsUtf8, OnOk}
-use Rattle.sqlite.specs.Effect.{Database}
-use Rattle.zeb_leaf.specs.declared.spans.BlockKey.{BlockKey as KeyOfBlock}
-use Rattle.zeb_register.proofs.Answered.{refused_so}
-use Rattle.zeb_register.proofs.Calls.{store_same}
-use Rattle.zeb_register.specs.Tallies.{WorksOnLeaves}
-use Rattle.zeb_register.specs.declared.registers.RegisterOf.{RegisterOf}
+use Rattle.zeb_leaves.proofs.Cited.{HasCleanDisk, Row, ◌∙◌, Option, arith, refl, rules, state, subst, IsLeafAt, IsLeafIn, IsNextBehind, TellsKey, leaf_key, Database, option_map, IsUtf8, OnOk, KeyOfBlock, HidesEnd, IsEndAt, EndsLeaf, End, CoversFirst, PutsFront, refused_so, store_same, WorksOnLeaves, RegisterOf}
 use Rattle.zeb_leaves.proofs.CountedLeaves.{turn_counted}
 use Rattle.zeb_leaves.proofs.FrontPieces.{covers_read, ends_leaf, one_key, uncovered_lacks}
 use Rattle.zeb_leaves.proofs.KeysTold.{told_ends, told_hides}
 use Rattle.zeb_leaves.proofs.OwnedEntries.{end_shown}
 use Rattle.zeb_leaves.proofs.PiecesWritten.{store_distinct}
-use Rattle.zeb_leaves.specs.PrivateLeafWrites.{HidesEnd, IsEndAt}
-use Rattle.zeb_leaves.specs.PrivatePutPieces.{EndsLeaf}
-use Rattle.zeb_leaves.specs.PrivateTermReads.{End}
-use Rattle.zeb_leaves.specs.PrivateTurning.{CoversFirst, PutsFront}
 use Rattle.zeb_leaves.proofs.turning.front_turned.Goals as goal
 
 pub returns-in_err-leaf-clause-turned : goal.returns-in_err-leaf-clause-turned

@@ -1,10 +1,6 @@
-use Rattle.zeb_leaves.proofs.Cited.{◌∙◌, ◌+◌, ap, arith, blocks_tree, length, refl, state, sym, IsStore}
-use Rattle.sqlite.specs.Effect.{Database}
+use Rattle.zeb_leaves.proofs.Cited.{◌∙◌, ◌+◌, ap, arith, blocks_tree, length, refl, state, sym, IsStore, Database, on_ok_so, leaves_still, more_leaves, KeyChanges}
 use Rattle.zeb_leaves.proofs.LastTold.{some_there}
 use Rattle.zeb_leaves.proofs.OneKey.{one_answered, one_run}
-use Rattle.zeb_register.proofs.Calls.{on_ok_so}
-use Rattle.zeb_register.proofs.WorkCounts.{leaves_still, more_leaves}
-use Rattle.zeb_register.specs.declared.registers.KeyChanges.{KeyChanges}
 use Rattle.zeb_leaves.proofs.turning.key_changes.Goals as goal
 
 pub run_changes-requires : goal.run_changes-requires

@@ -1,17 +1,9 @@
-use Rattle.zeb_leaves.proofs.Cited.{arith, ◌+◌, ℕ, List, Option, true, subst, sym, Entry, blocks_tree, entry_cmp, state}
-use Rattle.std.proofs.Common.{take}
+use Rattle.zeb_leaves.proofs.Cited.{arith, ◌+◌, ℕ, List, Option, true, subst, sym, Entry, blocks_tree, entry_cmp, state, take, option_map, KeyOfBlock, IfToldPutsEntries, LackTurn, TurnAllEntries, End, refused_rows, Changes}
 use Rattle.std.specs.List.Sorted.{IsStrictlySortedBy}
-use Rattle.std.specs.Option.{option_map}
-use Rattle.zeb_leaf.specs.declared.spans.BlockKey.{BlockKey as KeyOfBlock}
-use Rattle.zeb_register.proofs.RowFaults.{refused_rows}
-use Rattle.zeb_register.specs.Store.{Changes}
 use Rattle.zeb_leaves.proofs.CountedLeaves.{front_counted}
 use Rattle.zeb_leaves.proofs.FrontPieces.{all_within, at_front, below_front, front_anywhere, hidden_lacks, key_shown, leaf_front_lacks, leaf_front_put, one_key}
 use Rattle.zeb_leaves.proofs.OwnedEntries.{own_are, own_rise}
 use Rattle.zeb_leaves.proofs.PieceChanges.{changes_are}
-use Rattle.zeb_leaves.specs.PrivateLeafWrites.{IfToldPutsEntries}
-use Rattle.zeb_leaves.specs.PrivatePieces.{LackTurn, TurnAllEntries}
-use Rattle.zeb_leaves.specs.PrivateTermReads.{End}
 use Rattle.zeb_leaves.proofs.turning.leaf_turned.Goals as goal
 
 abbrev end_of : Option KeyOfBlock → End

@@ -1,8 +1,4 @@
-use Rattle.zeb_leaves.proofs.Cited.{HasCleanDisk, ◌∙◌, ◌+◌, arith, length, refl, rules, state}
-use Rattle.zeb_register.proofs.Answered.{refused_so}
-use Rattle.zeb_register.proofs.Calls.{stays_still, stays_then}
-use Rattle.zeb_register.proofs.CallsInTurn.{quiet_still, quiet_then}
-use Rattle.zeb_register.proofs.WorkCounts.{both_leaves, leaves_still, more_leaves}
+use Rattle.zeb_leaves.proofs.Cited.{HasCleanDisk, ◌∙◌, ◌+◌, arith, length, refl, rules, state, refused_so, stays_still, stays_then, quiet_still, quiet_then, both_leaves, leaves_still, more_leaves}
 use Rattle.zeb_leaves.proofs.PiecesLeft.{all_put, count_within, leads_more, left_are, left_refused, some_left}
 use Rattle.zeb_leaves.proofs.turning.pieces_turned.Goals as goal
 

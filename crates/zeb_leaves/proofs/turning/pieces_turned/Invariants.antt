@@ -1,11 +1,6 @@
 -- The pieces so far are put; what is left leads to any end as all do from the start.
-use Rattle.zeb_leaves.proofs.Cited.{state, HasCleanDisk, ◌≡◌, ◌≤◌, length, IsStore}
+use Rattle.zeb_leaves.proofs.Cited.{state, HasCleanDisk, ◌≡◌, ◌≤◌, length, IsStore, Survives, Stays, LeadsOn, packed_leaves, WorksOnLeaves}
 use Rattle.std.proofs.Common.{◌-◌, IsTrue}
-use Rattle.sqlite.specs.State.{Survives}
-use Rattle.zeb_register.proofs.Calls.{Stays}
-use Rattle.zeb_register.proofs.RunTurns.{LeadsOn}
-use Rattle.zeb_register.specs.Formats.{packed_leaves}
-use Rattle.zeb_register.specs.Tallies.{WorksOnLeaves}
 use Rattle.zeb_leaves.proofs.turning.pieces_turned.Given as goal
 
 abbrev pub invariant-loop-done : goal.invariant-loop-done

@@ -1,13 +1,8 @@
-use Rattle.zeb_leaves.proofs.Cited.{arith, ◌+◌, List, [], false, subst, sym, AllByRecursion, Entry, IsEntry, blocks_tree, entry_cmp, state}
-use Rattle.std.proofs.Common.{take}
+use Rattle.zeb_leaves.proofs.Cited.{arith, ◌+◌, List, [], false, subst, sym, AllByRecursion, Entry, IsEntry, blocks_tree, entry_cmp, state, take, AreMerged, IfToldPutsEntries, refused_rows, Changes}
 use Rattle.std.specs.List.Sorted.{IsStrictlySortedBy}
-use Rattle.zeb_leaf.specs.Merging.{AreMerged}
-use Rattle.zeb_register.proofs.RowFaults.{refused_rows}
-use Rattle.zeb_register.specs.Store.{Changes}
 use Rattle.zeb_leaves.proofs.FrontPieces.{all_within, at_front, first_front_lacks, first_front_put, front_anywhere, one_key}
 use Rattle.zeb_leaves.proofs.CountedLeaves.{front_counted}
 use Rattle.zeb_leaves.proofs.PieceChanges.{changes_are}
-use Rattle.zeb_leaves.specs.PrivateLeafWrites.{IfToldPutsEntries}
 use Rattle.zeb_leaves.proofs.turning.register_begun.Goals as goal
 
 pub piece_changes-requires-clause-rising : goal.piece_changes-requires-clause-rising

@@ -1,16 +1,7 @@
-use Rattle.zeb_leaves.proofs.Cited.{HasCleanDisk, ◌≤◌, List, arith, length, state, subst, sym, IsStore}
-use Rattle.sqlite.specs.Effect.{Database}
-use Rattle.zeb_register.proofs.Calls.{on_ok_so, store_same}
-use Rattle.zeb_register.proofs.WorkCounts.{more_leaves}
-use Rattle.zeb_register.specs.Answers.{Answers}
-use Rattle.zeb_register.specs.Formats.{packed_leaves}
-use Rattle.zeb_register.specs.RunChanges.{IsRunRefusedAs, PutsKeys, changes_in}
-use Rattle.zeb_register.specs.Tallies.{WorksOnLeaves}
-use Rattle.zeb_register.specs.declared.registers.KeyChanges.{KeyChanges}
+use Rattle.zeb_leaves.proofs.Cited.{HasCleanDisk, ◌≤◌, List, arith, length, state, subst, sym, IsStore, Database, ArePieces, on_ok_so, store_same, more_leaves, Answers, packed_leaves, IsRunRefusedAs, PutsKeys, changes_in, WorksOnLeaves, KeyChanges}
 use Rattle.zeb_leaves.proofs.CountedLeaves.{pieces_few}
 use Rattle.zeb_leaves.proofs.PiecesOfRuns.{run_answered}
 use Rattle.zeb_leaves.proofs.TurningCalls.{reads_then_goes}
-use Rattle.zeb_leaves.specs.PrivatePieces.{ArePieces}
 use Rattle.zeb_leaves.proofs.turning.run_changes.Goals as goal
 
 pub pieces_turned-requires : goal.pieces_turned-requires

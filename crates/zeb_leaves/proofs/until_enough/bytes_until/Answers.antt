@@ -1,18 +1,7 @@
 -- Each entry is counted, or passed over, or there are enough before it.
-use Rattle.zeb_leaves.proofs.Cited.{◌≡◌, ◌∙◌, ap, Entry, ◌++◌, ◌∷◌, [], ℕ, List, true, false, sym, refl, subst, rules, filter}
-use Rattle.std.proofs.Common.{Bool, not}
-use Rattle.std.specs.Ordering.{is_lt}
-use Rattle.zeb_leaf.specs.Spans.{key_cmp}
-use Rattle.std.specs.Prelude.{IsUtf8}
-use Rattle.std.specs.Option.{option_map}
+use Rattle.zeb_leaves.proofs.Cited.{◌≡◌, ◌∙◌, ap, Entry, ◌++◌, ◌∷◌, [], ℕ, List, true, false, sym, refl, subst, rules, filter, Bool, not, option_map, is_lt, IsUtf8, reaches_first, reaches_more, entry_of, key_cmp, BlockKey, CountUntil, is_own, refused_so}
 use Rattle.zeb_leaf.proofs.Numbers.{step_shorter}
-use Rattle.zeb_leaf.proofs.Walked.{reaches_first, reaches_more}
-use Rattle.zeb_leaf.specs.Answers.{entry_of}
-use Rattle.zeb_leaf.specs.declared.spans.BlockKey.{BlockKey}
 use Rattle.zeb_leaves.proofs.WalkedRows.{counted_more, enough_more, noted_from, still_from, stuck_none, told_own, walked_all}
-use Rattle.zeb_leaves.specs.PrivateNearTerms.{CountUntil}
-use Rattle.zeb_leaves.specs.PrivateTermReads.{is_own}
-use Rattle.zeb_register.proofs.Answered.{refused_so}
 use Rattle.zeb_leaves.proofs.until_enough.bytes_until.Goals as goal
 
 pub loop-reader-init : goal.loop-reader-init

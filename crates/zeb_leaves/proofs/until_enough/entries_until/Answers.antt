@@ -1,7 +1,5 @@
-use Rattle.zeb_leaves.proofs.Cited.{◌≡◌, ◌∙◌, sym, subst, true, false, rules}
+use Rattle.zeb_leaves.proofs.Cited.{◌≡◌, ◌∙◌, sym, subst, true, false, rules, AreEnough, refused_so}
 use Rattle.zeb_leaves.proofs.NearCalls.{count_here, no_text_here, no_text_later, stop_here}
-use Rattle.zeb_leaves.specs.PrivateNearTerms.{AreEnough}
-use Rattle.zeb_register.proofs.Answered.{refused_so}
 use Rattle.zeb_leaves.proofs.until_enough.entries_until.Goals as goal
 
 pub returns-then-are_enough : goal.returns-then-are_enough

@@ -1,7 +1,5 @@
 -- What becomes of the entries that are left, becomes of all.
-use Rattle.zeb_leaves.proofs.Cited.{List, drop, TermCount}
-use Rattle.std.proofs.Common.{Bool}
-use Rattle.zeb_leaves.specs.PrivateNearTerms.{CountUntil, MeetNoText}
+use Rattle.zeb_leaves.proofs.Cited.{List, drop, TermCount, Bool, CountUntil, MeetNoText}
 use Rattle.zeb_leaves.proofs.until_enough.entries_until.Given as goal
 
 abbrev pub invariant-loop-entry : goal.invariant-loop-entry

@@ -1,8 +1,6 @@
 -- The entry is another's, or there are enough before it, or it is counted.
-use Rattle.zeb_leaves.proofs.Cited.{◌≡◌, ◌∙◌, List, TermCount, true, false, subst, sym}
-use Rattle.zeb_leaf.specs.Answers.{entry_of}
+use Rattle.zeb_leaves.proofs.Cited.{◌≡◌, ◌∙◌, List, TermCount, true, false, subst, sym, entry_of, AreEnough}
 use Rattle.zeb_leaves.proofs.WalkedRows.{counted_one, enough_before, passed_over}
-use Rattle.zeb_leaves.specs.PrivateNearTerms.{AreEnough}
 use Rattle.zeb_leaves.proofs.until_enough.own_until.Goals as goal
 
 pub returns-then-not-chosen : goal.returns-then-not-chosen

@@ -1,8 +1,5 @@
-use Rattle.zeb_leaves.proofs.Cited.{inl, rules}
-use Rattle.std.specs.Option.{option_map}
-use Rattle.zeb_leaf.specs.declared.spans.BlockKey.{BlockKey}
+use Rattle.zeb_leaves.proofs.Cited.{inl, rules, option_map, BlockKey, refused_so}
 use Rattle.zeb_leaves.proofs.WalkedRows.{until_answers}
-use Rattle.zeb_register.proofs.Answered.{refused_so}
 use Rattle.zeb_leaves.proofs.until_enough.row_until.Goals as goal
 
 pub returns-in_err-bytes : goal.returns-in_err-bytes

@@ -1,12 +1,7 @@
 -- The entries make no leaf, or the first has the key and the others stand beside.
-use Rattle.zeb_leaves.proofs.Cited.{◌≡◌, ◌∷◌, ◌∙◌, ℕ, pos, List, [], length, sym, ap, subst, rules, state, blocks_tree}
-use Rattle.std.specs.Prelude.{IsUtf8}
-use Rattle.std.proofs.lemmas.Result.{IfOk-weaker}
+use Rattle.zeb_leaves.proofs.Cited.{◌≡◌, ◌∷◌, ◌∙◌, ℕ, pos, List, [], length, sym, ap, subst, rules, state, blocks_tree, IfOk-weaker, IsUtf8, NewLeaf, IfToldPuts, Changes}
 use Rattle.zeb_leaf.specs.Cuts.{AreCut, bytes_above}
-use Rattle.zeb_leaf.specs.declared.parting.NewLeaf.{NewLeaf}
 use Rattle.zeb_leaves.proofs.PutEntries.{keys_are_texts, no_leaves, none_put, some_put}
-use Rattle.zeb_leaves.specs.PrivateLeafWrites.{IfToldPuts}
-use Rattle.zeb_register.specs.Store.{Changes}
 use Rattle.zeb_leaves.proofs.writes.entries_put.Goals as goal
 
 pub returns-in-None-clause-put : goal.returns-in-None-clause-put

@@ -1,6 +1,4 @@
-use Rattle.zeb_leaves.proofs.Cited.{rules, pos, to_z-of_z, register_code}
-use Rattle.zeb_register.proofs.Calls.{alters, carried_out, refused_keeps}
-use Rattle.zeb_register.proofs.Columns.{column_is}
+use Rattle.zeb_leaves.proofs.Cited.{rules, pos, to_z-of_z, register_code, alters, carried_out, refused_keeps, column_is}
 use Rattle.zeb_leaves.proofs.WriteStatements.{adds_leaf, adds_one}
 use Rattle.zeb_leaves.proofs.writes.leaf_add.Goals as goal
 

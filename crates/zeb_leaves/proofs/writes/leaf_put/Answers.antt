@@ -1,12 +1,6 @@
 -- The row is renewed where it is there, or put where none is.
-use Rattle.zeb_leaves.proofs.Cited.{[], pos, ℤ, rules, subst, sym, state, blocks_tree}
-use Rattle.std.proofs.Common.{Bool}
+use Rattle.zeb_leaves.proofs.Cited.{[], pos, ℤ, rules, subst, sym, state, blocks_tree, Bool, IfToldPuts, IsLeafWith, coming, leaf_columns, column_is, Alters, Gains, Renews, HasMoreLeaves}
 use Rattle.zeb_leaves.proofs.WrittenLeaves.{put_new, put_there}
-use Rattle.zeb_leaves.specs.PrivateLeafWrites.{IfToldPuts, IsLeafWith, coming, leaf_columns}
-use Rattle.zeb_register.proofs.Columns.{column_is}
-use Rattle.zeb_register.specs.Calls.{Alters}
-use Rattle.zeb_register.specs.PrivateRowStatements.{Gains, Renews}
-use Rattle.zeb_register.specs.Tallies.{HasMoreLeaves}
 use Rattle.zeb_leaves.proofs.writes.leaf_put.Goals as goal
 
 pub returns-then-is_there-clause-call : goal.returns-then-is_there-clause-call

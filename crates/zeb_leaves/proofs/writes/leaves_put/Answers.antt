@@ -1,7 +1,6 @@
 -- The first leaf is put, and then those behind it.
-use Rattle.zeb_leaves.proofs.Cited.{arith, length, refl, rules, pos, state, HasCleanDisk}
+use Rattle.zeb_leaves.proofs.Cited.{arith, length, refl, rules, pos, state, HasCleanDisk, goes_keeps, goes_then, on_err}
 use Rattle.zeb_leaves.proofs.WrittenLeaves.{all_put}
-use Rattle.zeb_register.proofs.Calls.{goes_keeps, goes_then, on_err}
 use Rattle.zeb_leaves.proofs.writes.leaves_put.Goals as goal
 
 pub returns-clause-call : goal.returns-clause-call

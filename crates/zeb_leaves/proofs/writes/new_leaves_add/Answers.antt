@@ -1,12 +1,7 @@
 -- One leaf is put after the other.
-use Rattle.zeb_leaves.proofs.Cited.{state, HasCleanDisk, all_has, ◌∙◌, [], arith, refl, blocks_tree}
-use Rattle.std.specs.Prelude.{IsUtf8}
+use Rattle.zeb_leaves.proofs.Cited.{state, HasCleanDisk, all_has, ◌∙◌, [], arith, refl, blocks_tree, IsUtf8, NewLeaf, GainsLeaves, changes_none, stays_still, stays_then, quiet_still, quiet_then}
 use Rattle.sqlite_rules.proofs.ListLemmas.{has_at}
-use Rattle.zeb_leaf.specs.declared.parting.NewLeaf.{NewLeaf}
-use Rattle.zeb_leaves.specs.PrivateLeafWrites.{GainsLeaves}
 use Rattle.zeb_leaves.proofs.WrittenLeaves.{gains_more, gains_none}
-use Rattle.zeb_register.proofs.CallsInTurn.{quiet_still, quiet_then}
-use Rattle.zeb_register.proofs.Calls.{changes_none, stays_still, stays_then}
 use Rattle.zeb_leaves.proofs.writes.new_leaves_add.Goals as goal
 
 pub loop-leaf-init : goal.loop-leaf-init

@@ -1,11 +1,6 @@
 -- The leaves so far were put.
-use Rattle.zeb_leaves.proofs.Cited.{state, HasCleanDisk, ◌≡◌, ◌≤◌, length, IsStore, blocks_tree}
+use Rattle.zeb_leaves.proofs.Cited.{state, HasCleanDisk, ◌≡◌, ◌≤◌, length, IsStore, blocks_tree, Survives, GainsLeaves, Stays, Changes, HasMoreLeaves}
 use Rattle.std.proofs.Common.{IsTrue, take}
-use Rattle.sqlite.specs.State.{Survives}
-use Rattle.zeb_leaves.specs.PrivateLeafWrites.{GainsLeaves}
-use Rattle.zeb_register.proofs.Calls.{Stays}
-use Rattle.zeb_register.specs.Store.{Changes}
-use Rattle.zeb_register.specs.Tallies.{HasMoreLeaves}
 use Rattle.zeb_leaves.proofs.writes.new_leaves_add.Given as goal
 
 abbrev pub invariant-loop-leaf : goal.invariant-loop-leaf

@@ -1,8 +1,7 @@
-use Rattle.zeb_register.proofs.Cited.{state, HasCleanDisk, rules, arith, ◌∙◌, subst, pos, ◌≡◌, ℤ, to_z, to_z-of_z, of_z, w64, Changes, databases_tree, SetsLast, AddsDatabase}
+use Rattle.zeb_register.proofs.Cited.{state, HasCleanDisk, rules, arith, ◌∙◌, subst, pos, ◌≡◌, ℤ, to_z, to_z-of_z, of_z, w64, Changes, databases_tree, SetsLast, AddsDatabase, IsIdOf}
 use Rattle.zeb_register.proofs.DatabaseStatements.{puts_added, puts_set}
 use Rattle.zeb_register.proofs.Calls.{changes_after, changes_so, goes_keeps, on_err, reads_goes, store_same}
 use Rattle.zeb_register.proofs.Columns.{column_is}
-use Rattle.zeb_register.specs.PrivateCatalog.{IsIdOf}
 use Rattle.zeb_register.proofs.catalog.database_put.Goals as goal
 
 pub returns-in_ok-last_set-in-Some-clause-put : goal.returns-in_ok-last_set-in-Some-clause-put

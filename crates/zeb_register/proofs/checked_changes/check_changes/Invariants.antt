@@ -1,5 +1,4 @@
-use Rattle.zeb_register.proofs.Cited.{take, AllByRecursion}
-use Rattle.zeb_register.specs.UnitChanges.{IsStorableChange}
+use Rattle.zeb_register.proofs.Cited.{take, AllByRecursion, IsStorableChange}
 use Rattle.zeb_register.proofs.checked_changes.check_changes.Given as goal
 
 abbrev pub invariant-loop-change : goal.invariant-loop-change

@@ -1,5 +1,4 @@
-use Rattle.zeb_register.proofs.Cited.{sym, subst, take, take_more, Place}
-use Rattle.std.proofs.Common.{slice_index_or}
+use Rattle.zeb_register.proofs.Cited.{sym, subst, take, take_more, Place, slice_index_or}
 use Rattle.zeb_register.proofs.StorablePlaces.{AreUpTo, rise_from, rise_next, upto_more, upto_none}
 use Rattle.zeb_register.proofs.checked_changes.check_numbers.Goals as goal
 

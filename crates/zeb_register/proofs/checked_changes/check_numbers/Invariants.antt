@@ -1,5 +1,4 @@
-use Rattle.zeb_register.proofs.Cited.{◌∷◌, drop, take, place_cmp}
-use Rattle.zeb_register.specs.Content.{AreStorablePlaces}
+use Rattle.zeb_register.proofs.Cited.{◌∷◌, drop, take, place_cmp, AreStorablePlaces}
 use Rattle.std.specs.List.Sorted.{IsStrictlySortedBy}
 use Rattle.zeb_register.proofs.StorablePlaces.{AreUpTo}
 use Rattle.zeb_register.proofs.checked_changes.check_numbers.Given as goal

@@ -1,5 +1,4 @@
-use Rattle.zeb_register.proofs.Cited.{state, subst, sym, IsListOf, key_in}
-use Rattle.zeb_register.specs.PlainUnits.{IsUnderKey}
+use Rattle.zeb_register.proofs.Cited.{state, subst, sym, IsListOf, key_in, IsUnderKey}
 use Rattle.zeb_register.proofs.RowFaults.{refused_rows}
 use Rattle.zeb_register.proofs.RowUnits.{rows_listed, shown_none}
 use Rattle.zeb_register.proofs.plain.postings_under.Goals as goal

@@ -1,5 +1,4 @@
-use Rattle.zeb_register.proofs.Cited.{Database, state, HasCleanDisk, ◌≡◌, ◌+◌, suc, Ok, Err, [], arith, drop, drop-cons, get_or, refl, rules, subst, sym, all-get_or, AllByRecursion}
-use Rattle.zeb_register.specs.UnitChanges.{IsStorableChange}
+use Rattle.zeb_register.proofs.Cited.{Database, state, HasCleanDisk, ◌≡◌, ◌+◌, suc, Ok, Err, [], arith, drop, drop-cons, get_or, refl, rules, subst, sym, all-get_or, AllByRecursion, IsStorableChange}
 use Rattle.zeb_register.proofs.Answered.{refused_so}
 use Rattle.zeb_register.proofs.Calls.{goes_then, reads_goes, store_same}
 use Rattle.zeb_register.proofs.ListChanges.{no_change}

@@ -1,6 +1,4 @@
-use Rattle.std.proofs.lemmas.Bool.Decides.{Decides-and}
-use Rattle.std.proofs.lemmas.Slice.Eq.{slice_eq-Decides}
-use Rattle.zeb_register.proofs.Cited.{◌≡◌, ◌==◌, ◌&&◌, Decides, true, false, ap, sym, ap₂, ◌∙◌, ℕ, Decides-eqb, Place}
+use Rattle.zeb_register.proofs.Cited.{◌≡◌, ◌==◌, ◌&&◌, Decides, true, false, ap, sym, ap₂, ◌∙◌, ℕ, Decides-eqb, Place, Decides-and, slice_eq-Decides}
 use Rattle.zeb_register.proofs.record_parts.are_same.Goals as goal
 
 place_by : ℕ → ℕ → Place

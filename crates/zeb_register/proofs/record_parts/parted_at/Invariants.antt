@@ -1,5 +1,4 @@
-use Rattle.zeb_register.proofs.Cited.{take}
-use Rattle.zeb_register.specs.PrivateRecordParts.{IsParted}
+use Rattle.zeb_register.proofs.Cited.{take, IsParted}
 use Rattle.zeb_register.proofs.record_parts.parted_at.Given as goal
 
 abbrev pub invariant-loop-posting : goal.invariant-loop-posting

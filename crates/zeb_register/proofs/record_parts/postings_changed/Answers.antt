@@ -1,10 +1,7 @@
 -- What comes last is put behind the list; another change is as one among others.
-use Rattle.zeb_register.proofs.Cited.{List, Posting, Vec, Global, ◌≢◌, subst}
+use Rattle.zeb_register.proofs.Cited.{List, Posting, Vec, Global, ◌≢◌, subst, places_in, ComesLast, TurnsPlaces}
 use Rattle.zeb_register.proofs.LastPlaces.{last_lies, last_turned}
 use Rattle.zeb_register.specs.Answers.{Answers, IfRowDamaged}
-use Rattle.zeb_register.specs.Content.{places_in}
-use Rattle.zeb_register.specs.PrivateRecordParts.{ComesLast}
-use Rattle.zeb_register.specs.UnitChanges.{TurnsPlaces}
 use Rattle.zeb_register.proofs.record_parts.postings_changed.Goals as goal
 
 pub returns-then-comes_last-clause-turned : goal.returns-then-comes_last-clause-turned

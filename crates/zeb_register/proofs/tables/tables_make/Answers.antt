@@ -1,6 +1,4 @@
-use Rattle.zeb_register.proofs.Cited.{unchanged_then, Database, state, HasCleanDisk, rules, subst, ◌∙◌, ap, arith, IfOk-weaker}
-use Rattle.zeb_register.specs.PrivateStoreTables.{HasEmpty, schema_before}
-use Rattle.sqlite.specs.Schema.{Schema}
+use Rattle.zeb_register.proofs.Cited.{unchanged_then, Database, state, HasCleanDisk, rules, subst, ◌∙◌, ap, arith, IfOk-weaker, Schema, HasEmpty, schema_before}
 use Rattle.zeb_register.proofs.Calls.{goes_then, on_ok_so}
 use Rattle.zeb_register.proofs.CreateKeepsTables.{keeps_then}
 use Rattle.zeb_register.proofs.tables.tables_make.Goals as goal

@@ -1,5 +1,4 @@
-use Rattle.zeb_register.proofs.Cited.{Database, state, HasCleanDisk, rules, ◌≡◌, arith, subst, string_bytes, IsUtf8-string_bytes, key_in}
-use Rattle.zeb_register.specs.PlainUnits.{HasShownNone, RowsCount}
+use Rattle.zeb_register.proofs.Cited.{Database, state, HasCleanDisk, rules, ◌≡◌, arith, subst, string_bytes, IsUtf8-string_bytes, key_in, HasShownNone, RowsCount}
 use Rattle.zeb_register.proofs.Answered.{refused_so}
 use Rattle.zeb_register.proofs.Calls.{store_same}
 use Rattle.zeb_register.proofs.PlainTerms.{count_hides_next, next_counted, text_hides_next}

@@ -1,5 +1,4 @@
-use Rattle.zeb_register.proofs.Cited.{state, HasCleanDisk, rules, ◌≡◌, ◌↔◌, [], ◌∷◌, None, Some, true, length, ap, subst, arith, string_bytes, length-append}
-use Rattle.zeb_register.specs.PrivateNearest.{IsNearer, IsOn}
+use Rattle.zeb_register.proofs.Cited.{state, HasCleanDisk, rules, ◌≡◌, ◌↔◌, [], ◌∷◌, None, Some, true, length, ap, subst, arith, string_bytes, length-append, IsNearer, IsOn}
 use Rattle.zeb_register.proofs.Answered.{refused_so}
 use Rattle.zeb_register.proofs.Calls.{reading_behind, store_same}
 use Rattle.zeb_register.proofs.PlainTerms.{found_now, gone_all, gone_hides, gone_more, hidden_now, none_gone}

@@ -1,6 +1,5 @@
-use Rattle.zeb_register.proofs.Cited.{state, rules, ◌∙◌, ap, sym, subst, IsCount, key_in, IsInRecord}
+use Rattle.zeb_register.proofs.Cited.{state, rules, ◌∙◌, ap, sym, subst, IsCount, key_in, IsInRecord, HasShownNone, RowsCount}
 use Rattle.zeb_blocks.specs.Records.{record_count}
-use Rattle.zeb_register.specs.PlainUnits.{HasShownNone, RowsCount}
 use Rattle.zeb_register.proofs.Answered.{refused_so}
 use Rattle.zeb_register.proofs.PlainTerms.{list_counted}
 use Rattle.zeb_register.proofs.TermRows.{records_counted}

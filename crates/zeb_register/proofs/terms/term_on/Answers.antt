@@ -1,5 +1,4 @@
-use Rattle.zeb_register.proofs.Cited.{state, Err, ap, sym, subst, ShowsNearest}
-use Rattle.zeb_register.specs.PrivateNearest.{HasOn, IsNearer}
+use Rattle.zeb_register.proofs.Cited.{state, Err, ap, sym, subst, ShowsNearest, HasOn, IsNearer}
 use Rattle.zeb_register.proofs.PlainTerms.{found_told, text_hidden}
 use Rattle.zeb_register.proofs.RowFaults.{refused_rows}
 use Rattle.zeb_register.proofs.terms.term_on.Goals as goal

@@ -1,5 +1,4 @@
-use Rattle.std.proofs.lemmas.Result.{IfOk-weaker}
-use Rattle.zeb_register.specs.Formats.{packed_leaves}
+use Rattle.zeb_leaves.proofs.Cited.{IfOk-weaker, packed_leaves}
 use Rattle.zeb_leaves.proofs.leaves.LeavesLayout.database_take.Goals as goal
 
 pub returns-clause-taken : goal.returns-clause-taken

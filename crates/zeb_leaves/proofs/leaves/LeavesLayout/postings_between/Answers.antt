@@ -1,8 +1,5 @@
-use Rattle.zeb_leaves.proofs.Cited.{state, arith, inl}
-use Rattle.std.proofs.lemmas.Result.{IfOk-weaker}
+use Rattle.zeb_leaves.proofs.Cited.{state, arith, inl, IfOk-weaker, none_in_sum, packed_leaves}
 use Rattle.zeb_register.proofs.BetweenLists.{between_told}
-use Rattle.zeb_register.proofs.CountLemmas.{none_in_sum}
-use Rattle.zeb_register.specs.Formats.{packed_leaves}
 use Rattle.zeb_leaves.proofs.leaves.LeavesLayout.postings_between.Goals as goal
 
 pub returns-clause-work : goal.returns-clause-work

@@ -1,6 +1,4 @@
-use Rattle.zeb_leaves.proofs.Cited.{arith, inl}
-use Rattle.std.proofs.lemmas.Result.{IfOk-weaker}
-use Rattle.zeb_register.proofs.CountLemmas.{none_in_sum}
+use Rattle.zeb_leaves.proofs.Cited.{arith, inl, IfOk-weaker, none_in_sum}
 use Rattle.zeb_leaves.proofs.leaves.LeavesLayout.totals.Goals as goal
 
 pub returns-clause-work : goal.returns-clause-work

@@ -1,6 +1,4 @@
-use Rattle.zeb_register.proofs.Cited.{state, subst, key_in, plain_rows}
-use Rattle.zeb_register.specs.PlainUnits.{HasShownNone}
-use Rattle.zeb_register.specs.Units.{ListsKey, ListsUnits}
+use Rattle.zeb_register.proofs.Cited.{state, subst, key_in, plain_rows, HasShownNone, ListsKey, ListsUnits}
 use Rattle.zeb_register.proofs.Answered.{told_or}
 use Rattle.zeb_register.proofs.plain.RowsLayout.key_list.Goals as goal
 

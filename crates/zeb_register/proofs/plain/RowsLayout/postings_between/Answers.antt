@@ -1,5 +1,4 @@
-use Rattle.zeb_register.proofs.Cited.{state, arith, inl, IfOk-weaker, plain_rows}
-use Rattle.zeb_register.specs.Units.{HasMalformedBetween, ListsBetween}
+use Rattle.zeb_register.proofs.Cited.{state, arith, inl, IfOk-weaker, plain_rows, HasMalformedBetween, ListsBetween}
 use Rattle.zeb_register.proofs.Answered.{told_or}
 use Rattle.zeb_register.proofs.BetweenLists.{between_told}
 use Rattle.zeb_register.proofs.CountLemmas.{none_in_sum}

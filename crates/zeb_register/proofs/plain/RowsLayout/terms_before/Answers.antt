@@ -1,5 +1,4 @@
-use Rattle.zeb_register.proofs.Cited.{state, plain_rows, subst, sym}
-use Rattle.zeb_register.specs.Terms.{ListsBefore}
+use Rattle.zeb_register.proofs.Cited.{state, plain_rows, subst, sym, ListsBefore}
 use Rattle.zeb_register.proofs.plain.RowsLayout.terms_before.Goals as goal
 
 pub returns-clause-units : goal.returns-clause-units

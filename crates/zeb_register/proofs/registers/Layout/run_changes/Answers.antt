@@ -1,11 +1,9 @@
-use Rattle.zeb_register.proofs.Cited.{Database, state, HasCleanDisk, blocks_tree, ◌≡◌, ◌∙◌, ◌+◌, suc, Ok, Err, [], ◌∷◌, ap, arith, drop, drop-cons, refl, rules, subst, sym, all-get_or}
+use Rattle.zeb_register.proofs.Cited.{Database, state, HasCleanDisk, blocks_tree, ◌≡◌, ◌∙◌, ◌+◌, suc, Ok, Err, [], ◌∷◌, ap, arith, drop, drop-cons, refl, rules, subst, sym, all-get_or, NumbersRise, KeyChanges}
 use Rattle.zeb_register.proofs.Answered.{fault_met, refused_so}
 use Rattle.zeb_register.proofs.Calls.{goes_keeps, goes_then, on_err, reads_goes, store_same}
 use Rattle.zeb_register.proofs.CallsInTurn.{quiet_then}
 use Rattle.zeb_register.proofs.RunCounts.{none_run, work_all, work_begun, work_more}
 use Rattle.zeb_register.proofs.RunTurns.{Answered, none_put, one_more, refused_first, rise_left}
-use Rattle.zeb_register.specs.UnitChanges.{NumbersRise}
-use Rattle.zeb_register.specs.declared.registers.KeyChanges.{KeyChanges}
 use Rattle.zeb_register.proofs.registers.Layout.run_changes.Goals as goal
 
 pub loop-one-init : goal.loop-one-init

@@ -1,7 +1,6 @@
-use Rattle.zeb_register.proofs.Cited.{state, HasCleanDisk, Survives, ◌≡◌, IsTrue, GoesOn, IsStore}
+use Rattle.zeb_register.proofs.Cited.{state, HasCleanDisk, Survives, ◌≡◌, IsTrue, GoesOn, IsStore, CountsNothing}
 use Rattle.zeb_register.proofs.RunTurns.{LeadsOn}
 use Rattle.zeb_register.proofs.RunCounts.{WorksSoFar}
-use Rattle.zeb_register.specs.Tallies.{CountsNothing}
 use Rattle.zeb_register.proofs.registers.Layout.run_changes.Given as goal
 
 abbrev pub invariant-loop-one : goal.invariant-loop-one

@@ -1,5 +1,4 @@
-use Rattle.zeb_register.proofs.Cited.{pos, register_code, HasTerm, ShowsNearest}
-use Rattle.zeb_register.specs.Terms.{Comes}
+use Rattle.zeb_register.proofs.Cited.{pos, register_code, HasTerm, ShowsNearest, Comes}
 use Rattle.zeb_register.proofs.Calls.{all_read}
 use Rattle.zeb_register.proofs.TermStatements.{shows_greatest, before_query}
 use Rattle.zeb_register.proofs.Columns.{column_is}
