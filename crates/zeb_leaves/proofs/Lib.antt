@@ -1,3 +1,4 @@
+pub mod ReachedIds
 pub mod Cited
 pub mod BehindStatements
 pub mod KeysTold

@@ -1,3 +1,4 @@
+pub mod FirstRows
 pub mod Falling
 pub mod PackedStatements
 pub mod BetweenStatements

@@ -2,7 +2,7 @@ use Rattle.zeb_leaves.proofs.Cited.{state, HasCleanDisk, rules, ◌≡◌, Ok, s
 use Rattle.std.proofs.lemmas.Int.{ints}
 use Rattle.zeb_leaves.proofs.LeavesOfIds.{next_there, others_empty, told_empty}
 use Rattle.zeb_leaves.proofs.OpenCalls.{open_then}
-use Rattle.zeb_register.proofs.OwnersListed.{IsReached, all_reached, first_reached, next_reached, none_next}
+use Rattle.zeb_leaves.proofs.ReachedIds.{IsReached, all_reached, first_reached, next_reached, none_next}
 use Rattle.zeb_leaves.proofs.agreeing_tables.others_are_empty.Goals as goal
 
 pub returns-in_default-clause-value : goal.returns-in_default-clause-value

@@ -1,5 +1,5 @@
 use Rattle.zeb_leaves.proofs.Cited.{state, HasCleanDisk, ◌≡◌, IsStore, blocks_tree, IsUnchanged, Survives, false, IsEmptyBeside, ChangesNothing}
-use Rattle.zeb_register.proofs.OwnersListed.{IsReached}
+use Rattle.zeb_leaves.proofs.ReachedIds.{IsReached}
 use Rattle.zeb_leaves.proofs.agreeing_tables.others_are_empty.Given as goal
 
 abbrev pub invariant-ids : goal.invariant-ids
