@@ -46,15 +46,14 @@ MADE_BY_HAND = {
         "the want of memory that the parser names, and of its texts",
     ),
     "crates/zeb_paths/src/disk.rt": (
-        ["store 2b979241", "read_in d2857c0c", "read 3d041ec4", "closed_by f541a0bd"],
+        ["store 4482489c", "read_in d2857c0c", "read 3d041ec4", "closed_by f541a0bd"],
         "whatever fails as a store is opened, a read of a file that isn't opened, or behind one that failed, and the want of memory of a close, as a clause says",
     ),
     "crates/zeb_paths/src/opening.rt": (
-        ["CANNOT_OPEN dedddd4e", "NO_MEMORY 5c3cca9c", "NO_MEMORY 5c3cca9c", "open_files 298fb469", "error_of 6621bb3c", "error_of 6621bb3c", "error_of 6621bb3c", "options_for 57304744"],
+        ["CANNOT_OPEN dedddd4e", "NO_MEMORY 5c3cca9c", "NO_MEMORY 5c3cca9c", "open_files 298fb469", "error_of 6621bb3c", "error_of 6621bb3c", "error_of 6621bb3c", "options_for d3264fc1"],
         "files that aren't opened, as a clause says; a path that isn't one of a file for SQLite; and no random number",
     ),
-    "crates/zeb_paths/src/looks.rt": (["is_beside 69d5131f", "use_beside df3a2a44"], "no memory for the name of a file beside the store"),
-    "crates/zeb_paths/src/shelf.rt": (["read 47e3c23b", "store 6bbb2170", "store 6bbb2170"], "a file that fails when it is read, and a shelf without a store under the path, or one that fails"),
+    "crates/zeb_paths/src/shelf.rt": (["read 47e3c23b", "store faf67884"], "a file that fails when it is read, and a shelf without a store under the path, or one that fails"),
     "crates/zeb_program/src/analyses.rt": (["number_behind 60ec3b10"], "more files than a number counts"),
     "crates/zeb_program/src/command_line.rt": (["refuse_words c50b24e8"], "the status of words that memory ran out for"),
     "crates/zeb_program/src/faults.rt": (["tell 440384c5"], "the status of a path that can't be read, as a clause says"),

@@ -14,10 +14,8 @@ use Rattle.zeb_paths.specs.declared.causes.PathCause.{PathCause}
 use Rattle.zeb_paths.specs.declared.causes.PathCause.TheVariants as cause
 use Rattle.zeb_paths.specs.declared.paths.PathKind.{PathKind}
 use Rattle.zeb_paths.specs.declared.paths.PathKind.TheVariants as kind
-use Rattle.zeb_paths.specs.declared.walk.Seen.{Seen}
-use Rattle.zeb_paths.specs.declared.walk.Seen.TheVariants.{File, Folder, End}
 use Rattle.zeb_paths.specs.declared.walk.WalkFault.{WalkFault}
-use Rattle.zeb_paths.specs.declared.walk.WalkFault.TheVariants.{Memory}
+use Rattle.zeb_paths.specs.declared.walk.WalkFault.TheVariants.{Memory, Unreadable}
 
 map_reversed : {X Y : Type 0} (f : X → Y) (xs : List X) → map f (reverse xs) ≡ reverse (map f xs)
 map_reversed f [] = refl
@@ -82,24 +80,19 @@ under_below named folder path below (one, has, inr under) = (one, has, inr (belo
 -- ---- what is seen
 
 -- what may stand at a path that is shown
-pub may_stand : (at : Tells) (path shown : List ℕ) (found : Result PathKind PathCause) → shown ≡ path → ((bytes : List ℕ) → at.bytes shown ≡ Some bytes → found ≡ Ok kind.File)
-    → IfSome (at.stands shown) (λ told. found ≡ told) → MayStand at path found
-may_stand at path shown found same file stands = subst (λ p. MayStand at p found) same (file, stands)
+pub may_stand : (at : Tells) (path shown : List ℕ) (found met : Result PathKind PathCause) → found ≡ met → shown ≡ path → ((bytes : List ℕ) → at.bytes shown ≡ Some bytes → found ≡ Ok kind.File)
+    → IfSome (at.stands shown) (λ told. found ≡ told) → MayStand at path met
+may_stand at path shown found met is same file stands = subst (MayStand at path) is (subst (λ p. MayStand at p found) same (file, stands))
 
--- at a step that is taken off
-pub sees_popped : (at : Tells) (before after : List Step) (last : Step) (later : List Due) (result : Result Seen WalkFault) → before ≡ after ++ last ∷ []
-    → Sees at (due_of last ∷ dues_left after) result later → Sees at (dues_left before) result later
-sees_popped at before after last later result e sees = subst (λ left. Sees at left result later) (sym (dues_last before after last e)) sees
-
-starved_anyway : (told : Option (List (List ℕ))) → IfSome told (λ names. (cause.Memory ≡ cause.Memory) ⊎ Contains names [])
+pub starved_anyway : (told : Option (List (List ℕ))) → IfSome told (λ names. (cause.Memory ≡ cause.Memory) ⊎ Contains names [])
 starved_anyway None = tt
 starved_anyway (Some names) = inl refl
 
-pub refused_starved : {X : Type 0} (given : String Global) (told : Option (List (List ℕ))) (r : Result X WalkFault) → r ≡ Err Memory
-    → IfErr r (λ met. (why : PathCause) × (met ≡ fault_at given why) × IfSome told (λ names. (why ≡ cause.Memory) ⊎ Contains names []))
-refused_starved given told r is =
-    subst (λ r. IfErr r (λ met. (why : PathCause) × (met ≡ fault_at given why) × IfSome told (λ names. (why ≡ cause.Memory) ⊎ Contains names []))) (sym is)
-    (cause.Memory, refl, starved_anyway told)
+-- a folder whose names aren't given, or not put in
+pub names_refused : (at : Tells) (here : Due) (shown : List ℕ) (why : PathCause) (r : Result PathKind PathCause) (left later : List Due) → MayStand at here.path (Ok kind.Folder) → shown ≡ here.path
+    → IfSome (at.names shown) (λ told. (why ≡ cause.Memory) ⊎ Contains told []) → r ≡ Err why → Sees at here r left later
+names_refused at here shown why r left later stands same refused is =
+    subst (λ r. Sees at here r left later) (sym is) (not_given stands (subst (λ path. IfSome (at.names path) (λ told. (why ≡ cause.Memory) ⊎ Contains told [])) same refused))
 
 -- a folder's names are put before what is left, the last one first
 pub entered_on : (folder : Due) (names : List (String Global)) (name : String Global) (before after : List Step) (last : Step) → after ≡ before ++ last ∷ []
@@ -114,21 +107,28 @@ entered_on folder names name before after last e is =
 
 -- ---- a walk
 
-pub sees_folder : (at : Tells) (left next : List Due) (result : Result (Option (String Global)) WalkFault) (later : List Due) → Sees at left (Ok Folder) next → WalksOn at next result later → WalksOn at left result later
-sees_folder at [] next result later sees on = absurd (let same = sees.0 in cc)
-sees_folder at (here ∷ rest) next result later (names, entered, is) on = at_folder entered (subst (λ left. WalksOn at left result later) is on)
+walked_from : (at : Tells) (before after : List Step) (last : Step) (result : Result (Option (String Global)) WalkFault) (later : List Due) → before ≡ after ++ last ∷ []
+    → WalksOn at (due_of last ∷ dues_left after) result later → WalksOn at (dues_left before) result later
+walked_from at before after last result later e on = subst (λ left. WalksOn at left result later) (sym (dues_last before after last e)) on
 
-pub sees_file : (at : Tells) (left later : List Due) (given : String Global) → Sees at left (Ok (File given)) later → WalksOn at left (Ok (Some given)) later
-sees_file at [] later given sees = absurd (let same = sees.0 in cc)
-sees_file at (here ∷ rest) later given (stands, same, is) = subst (λ left. WalksOn at (here ∷ rest) (Ok (Some given)) left) (sym is) (at_file stands same)
+pub sees_folder : (at : Tells) (before after : List Step) (last : Step) (next : List Due) (found : PathKind) (result : Result (Option (String Global)) WalkFault) (later : List Due) → before ≡ after ++ last ∷ []
+    → found ≡ kind.Folder → Sees at (due_of last) (Ok found) (dues_left after) next → WalksOn at next result later → WalksOn at (dues_left before) result later
+sees_folder at before after last next kind.Folder result later e found (names, entered, is) on =
+    walked_from at before after last result later e (at_folder entered (subst (λ left. WalksOn at left result later) is on))
+sees_folder at before after last next kind.File result later e found sees on = absurd cc
 
-pub sees_end : (at : Tells) (left later : List Due) → Sees at left (Ok End) later → WalksOn at left (Ok None) later
-sees_end at [] later sees = subst (λ left. WalksOn at [] (Ok None) left) (sym sees.1) at_end
-sees_end at (here ∷ rest) later sees = absurd sees
+pub sees_file : (at : Tells) (before after : List Step) (last : Step) (next : List Due) (found : PathKind) → before ≡ after ++ last ∷ [] → found ≡ kind.File → Sees at (due_of last) (Ok found) (dues_left after) next
+    → WalksOn at (dues_left before) (Ok (Some last.path)) next
+sees_file at before after last next kind.Folder e found sees = absurd cc
+sees_file at before after last next kind.File e found (stands, is) =
+    walked_from at before after last (Ok (Some last.path)) next e (subst (λ left. WalksOn at (due_of last ∷ dues_left after) (Ok (Some last.path)) left) (sym is) (at_file stands refl))
 
-pub sees_fault : (at : Tells) (left later : List Due) (met : WalkFault) → Sees at left (Err met) later → WalksOn at left (Err met) later
-sees_fault at [] later met sees = absurd (let same = sees.0 in cc)
-sees_fault at (here ∷ rest) later met (given, why, refused, same, is) = at_fault given why refused same is
+pub sees_end : (at : Tells) (before after : List Step) → before ≡ [] → after ≡ [] → WalksOn at (dues_left before) (Ok None) (dues_left after)
+sees_end at before after none still = rw (none, still) at_end
+
+pub sees_fault : (at : Tells) (before after : List Step) (last : Step) (next : List Due) (why : PathCause) (met : WalkFault) → before ≡ after ++ last ∷ []
+    → Sees at (due_of last) (Err why) (dues_left after) next → met ≡ fault_at last.path why → WalksOn at (dues_left before) (Err met) next
+sees_fault at before after last next why met e refused is = walked_from at before after last (Err met) next e (at_fault last.path why refused refl is)
 
 -- at a refused path no file's bytes are told
 refused_untold : (at : Tells) (here : Due) (why : PathCause) → IsRefused at here why → IsUntold at.bytes here.path
@@ -169,18 +169,19 @@ none_ended at dues result later (at_fault given why refused same met) none = abs
 pub walks_ended : (at : Tells) (steps later : List Step) (result : Result (Option (String Global)) WalkFault) → WalksOn at (dues_left steps) result (dues_left later) → paths_left steps ≡ [] → result ≡ Ok None
 walks_ended at steps later result on none = none_ended at (dues_left steps) result (dues_left later) on (paths_of_dues steps ∙ none)
 
-fault_untold : (tells : List ℕ → Option (List ℕ)) (given : String Global) (why : PathCause) → IsUntold tells (string_bytes given) → IsFaultUntold tells (fault_at given why)
-fault_untold tells given cause.Absent untold = untold
-fault_untold tells given cause.Forbidden untold = untold
-fault_untold tells given cause.Neither untold = untold
-fault_untold tells given cause.Folder untold = untold
-fault_untold tells given cause.TooDeep untold = untold
-fault_untold tells given cause.TooLong untold = untold
-fault_untold tells given cause.NoText untold = untold
-fault_untold tells given cause.NoRecord untold = untold
-fault_untold tells given cause.Name untold = untold
-fault_untold tells given cause.Failed untold = untold
-fault_untold tells given cause.Memory untold = tt
+-- the fault of a path names it, or is want of memory
+by_fault : (P : WalkFault → Type 0) (given : String Global) (why : PathCause) → P (Unreadable given) → P Memory → P (fault_at given why)
+by_fault P given cause.Absent named starved = named
+by_fault P given cause.Forbidden named starved = named
+by_fault P given cause.Neither named starved = named
+by_fault P given cause.Folder named starved = named
+by_fault P given cause.TooDeep named starved = named
+by_fault P given cause.TooLong named starved = named
+by_fault P given cause.NoText named starved = named
+by_fault P given cause.NoRecord named starved = named
+by_fault P given cause.Name named starved = named
+by_fault P given cause.Failed named starved = named
+by_fault P given cause.Memory named starved = starved
 
 -- a fault is of a path that isn't told
 pub walks_untold : (at : Tells) (dues : List Due) (result : Result (Option (String Global)) WalkFault) (later : List Due) → WalksOn at dues result later → IfErr result (IsFaultUntold at.bytes)
@@ -188,7 +189,7 @@ walks_untold at dues result later at_end = tt
 walks_untold at dues result later (at_file stands same) = tt
 walks_untold at dues result later (at_folder {here = here} {rest = others} {names = names} entered on) = walks_untold at (dues_in here names ++ others) result later on
 walks_untold at dues result later (at_fault {here = here} given why refused same met) =
-    subst (IsFaultUntold at.bytes) (sym met) (fault_untold at.bytes given why (subst (IsUntold at.bytes) (sym same) (refused_untold at here why refused)))
+    subst (IsFaultUntold at.bytes) (sym met) (by_fault (IsFaultUntold at.bytes) given why (subst (IsUntold at.bytes) (sym same) (refused_untold at here why refused)) tt)
 
 pub stops_untold : (at : Tells) (left later : List Due) (result : Result (Option (String Global)) WalkFault) → WalksOn at left result later → IfErr result (IsFaultUntold at.bytes)
 stops_untold at left later result on = walks_untold at left result later on
@@ -200,19 +201,6 @@ names_under named folder [] rest one all = all
 names_under named folder (name ∷ names) rest one all =
     (under_below named folder.path (slashed folder.path ++ name) (name, refl) one, names_under named folder names rest one all)
 
-fault_under : (named : List (List ℕ)) (given : String Global) (why : PathCause) → IsUnder named (string_bytes given) → IsFaultUnder named (fault_at given why)
-fault_under named given cause.Absent under = under
-fault_under named given cause.Forbidden under = under
-fault_under named given cause.Neither under = under
-fault_under named given cause.Folder under = under
-fault_under named given cause.TooDeep under = under
-fault_under named given cause.TooLong under = under
-fault_under named given cause.NoText under = under
-fault_under named given cause.NoRecord under = under
-fault_under named given cause.Name under = under
-fault_under named given cause.Failed under = under
-fault_under named given cause.Memory under = tt
-
 under_dues : (at : Tells) (named : List (List ℕ)) (left : List Due) (result : Result (Option (String Global)) WalkFault) (later : List Due) → WalksOn at left result later → AreUnder named (map due_path left)
     → GivesUnder named result × IfOk result (λ _. AreUnder named (map due_path later))
 unfolding due_path
@@ -221,7 +209,7 @@ under_dues at named left result later (at_file stands same) all = (subst (IsUnde
 under_dues at named left result later (at_folder {here = here} {rest = others} {names = names} entered on) all =
     under_dues at named (dues_in here names ++ others) result later on (names_under named here names others all.0 all.1)
 under_dues at named left result later (at_fault given why refused same met) all =
-    (subst (IsFaultUnder named) (sym met) (fault_under named given why (subst (IsUnder named) (sym same) all.0)), tt)
+    (subst (IsFaultUnder named) (sym met) (by_fault (IsFaultUnder named) given why (subst (IsUnder named) (sym same) all.0) tt), tt)
 
 -- what a walk gives, and what it leaves, stands below the paths that it is of
 pub walks_under : (at : Tells) (steps later : List Step) (result : Result (Option (String Global)) WalkFault) → WalksOn at (dues_left steps) result (dues_left later) → (named : List (List ℕ)) → AreUnder named (paths_left steps)
@@ -238,9 +226,7 @@ weight_last before after last e =
     omega (arith, ap walk_weight e, sum_by-append step_weight after (last ∷ []), one)
 
 pub weighs : (step : Step) → 0 < step_weight step
-weighs step =
-    let some : 0 < 18446744073709551616 ^ (33 - step.level) = omega (arith, one-le-pow (33 - step.level) 18446744073709551616 (omega arith)) in
-    some
+weighs step = omega (arith, one-le-pow (33 - step.level) 18446744073709551616 (omega arith))
 
 -- a name that is put in weighs what a step below its folder does
 pub weight_more : (w n m heavy new : ℕ) → new ≡ w + heavy → m ≡ n + 1 → new + heavy * n ≡ w + heavy * m

@@ -19,9 +19,9 @@ ghost use Rattle.zeb_paths.specs.declared.disk.Progress.TheVariants.{Ended};
 use crate::causes::{Closed, PathCause, StoreCause};
 use crate::looks::{may_have_store, why_unopened, why_unread};
 use crate::opening::open_store;
-use crate::paths::{Asked, OpenFailed, PathKind, Paths};
+use crate::paths::{Asked, OpenFailed, PathKind, Paths, push_name};
 use crate::tally::Tally;
-use sqlite::{Connection, File, FileStore, Unknown};
+use sqlite::{Connection, File, FileStore};
 use sqlite_disk::{Disk as Medium, Tally as Met};
 use sqlite_trees::error::StoreError;
 use sqlite_trees::store::Store;
@@ -86,7 +86,16 @@ fn close_store<D: Medium + Drop>(store: FileStore<D>) -> Closed
     // Nothing is undone, since no transaction is open; but just its own rollback tells what the log has.
     store.rollback();
     let copied = store.checkpoint();
-    closed_by(copied, store.tally())
+    closed_by(copied, met_by(store))
+}
+
+/// Ends a store to which nothing more is done, and tells what it has met.
+fn met_by<D: Medium + Drop>(store: FileStore<D>) -> Met
+    ensures { result ≡ tally store }
+{
+    let met = store.tally();
+    let _files = store.close();
+    met
 }
 
 /// How a store is closed whose log was copied so, and that has met this.
@@ -153,7 +162,7 @@ impl<'a> Paths for Disk<'a> {
     fn names(&self, alloc: Global, path: &str) -> Result<Vec<String>, PathCause> {
         let mut names = Vec::new(alloc);
         for entry in fs::read_dir(self.rt, path)? {
-            names.push(String::from_str(alloc, entry?.file_name())?)?;
+            push_name(alloc, &mut names, entry?.file_name())?;
         }
         Ok(names)
     }
@@ -177,7 +186,7 @@ impl<'a> Paths for Disk<'a> {
     }
 
     fn store(&mut self, path: &str) -> Result<Connection<FileStore<File>>, OpenFailed> {
-        match open_store(self.rt, path, Unknown) {
+        match open_store(self.rt, path) {
             Ok(connection) => Ok(connection),
             Err(error) => {
                 let cause = Some(why_unopened(self.rt, path, error));
@@ -191,7 +200,7 @@ impl<'a> Paths for Disk<'a> {
     }
 
     fn let_go(&self, store: FileStore<File>) -> Option<StoreCause> {
-        cause_of(store.tally())
+        cause_of(met_by(store))
     }
 }
 

@@ -43,9 +43,7 @@ fn read_anew(rt: &HostRuntime, path: &str, asked: Asked) -> io::Result<PathCause
 {
     let found = fs::metadata(rt, path)?;
     if found.is_dir() {
-        for entry in fs::read_dir(rt, path)? {
-            let _named = entry?;
-        }
+        read_folder(rt, path)?;
         return Ok(readable_folder(asked));
     }
     if !found.is_file() {
@@ -54,6 +52,16 @@ fn read_anew(rt: &HostRuntime, path: &str, asked: Asked) -> io::Result<PathCause
     let mut file = fs::open(rt, path)?;
     let _count = file.read(&mut [0u8])?;
     Ok(readable_file(asked, found.len()))
+}
+
+/// Lists a folder.
+fn read_folder(rt: &HostRuntime, path: &str) -> io::Result<()> {
+    for entry in fs::read_dir(rt, path)? {
+        if let Err(error) = entry {
+            return Err(error);
+        }
+    }
+    Ok(())
 }
 
 /// Why a folder isn't read that can be.
@@ -127,18 +135,20 @@ pub fn may_have_store(rt: &HostRuntime, path: &str) -> bool
 }
 
 /// Whether neither a journal nor a log stands beside the file that a path leads to.
-fn stands_alone(rt: &HostRuntime, path: &str) -> Result<bool, StoreCause> {
+fn stands_alone(rt: &HostRuntime, path: &str) -> io::Result<bool> {
     // A link is followed to the file itself: its journal and its log stand beside that.
     let real = fs::canonicalize(rt, path)?;
     Ok(!is_beside(rt, real.as_str(), "-journal")? && !is_beside(rt, real.as_str(), "-wal")?)
 }
 
 /// Whether something stands beside a file, at its path with this behind it.
-fn is_beside(rt: &HostRuntime, path: &str, behind: &str) -> Result<bool, StoreCause>
-    ensures looked { IfErr result (λ cause. is_looked_up cause ≡ true) }
-{
-    let beside = format!(in rt.alloc(); "{path}{behind}").map_err(|_| StoreCause::Memory)?;
-    Ok(is_there(rt, beside.as_str())?)
+fn is_beside(rt: &HostRuntime, path: &str, behind: &str) -> io::Result<bool> {
+    is_there(rt, beside(rt, path, behind)?.as_str())
+}
+
+/// A file's path with this behind it.
+fn beside(rt: &HostRuntime, path: &str, behind: &str) -> io::Result<String> {
+    Ok(format!(in rt.alloc(); "{path}{behind}")?)
 }
 
 /// Why the store at a path isn't opened, where this is what SQLite's kit says of it.
@@ -221,7 +231,7 @@ fn use_beside(rt: &HostRuntime, path: &str) -> Result<(), StoreCause>
     if is_beside(rt, path, "-journal")? {
         return Err(StoreCause::Journal);
     }
-    let log = format!(in rt.alloc(); "{path}-wal").map_err(|_| StoreCause::Memory)?;
+    let log = beside(rt, path, "-wal")?;
     match fs::symlink_metadata(rt, log.as_str()) {
         Ok(found) if !found.is_file() => Err(StoreCause::NoFile),
         _ => use_log(open_to_write(rt, log.as_str())),

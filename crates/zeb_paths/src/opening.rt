@@ -7,7 +7,9 @@ ghost use Rattle.sqlite_std_file.specs.File.{file_is_usable};
 ghost use Rattle.zeb_paths.specs.Opened.{IsPlainPath, IsWellOpened};
 ghost use Rattle.zeb_paths.specs.PrivateOpenings.{sqlite_error_of};
 
-use sqlite::{Connection, Error, ErrorCode, FileFrom, FileStore, Files, Options, Start};
+use sqlite::{
+    Connection, Error, ErrorCode, File, FileFrom, FileStore, Files, Options, Start, Unknown,
+};
 use sqlite_std_file::OpenError;
 use std::hash::{BuildHasher, RandomState};
 use std::{fs, io};
@@ -26,22 +28,18 @@ const LEAST_PAGES: u64 = 2_000;
 const MOST_PAGES: u64 = 4_000;
 
 /// Opens the store at a path as the kit does by itself, but for how many of its pages it keeps in memory. It is made where nothing stands
-/// there. `start` stands for what its files hold.
-pub(crate) fn open_store<S: Start>(
-    rt: &HostRuntime,
-    path: &str,
-    start: S,
-) -> Result<Connection<FileStore<FileFrom<S>>>, Error>
+/// there.
+pub(crate) fn open_store(rt: &HostRuntime, path: &str) -> Result<Connection<FileStore<File>>, Error>
     ensures idle { IfOk result (λ connection. connection.in_transaction ≡ false) }
     ensures given { IfOk result (λ connection. HasCleanDisk (file_state connection)
         → IsWellOpened (file_state connection)) }
     ensures plain { IfOk result (λ _. IsPlainPath path.now) }
 {
     let options = options_for(rt, path)?;
-    let files = open_files(rt, path, start)?;
+    let files = open_files(rt, path, Unknown)?;
     match Connection::open_files(rt.alloc(), files, options) {
         Ok(connection) => Ok(connection),
-        Err((error, _)) => Err(error),
+        Err(refused) => Err(refused.0),
     }
 }
 
@@ -81,7 +79,9 @@ fn error_of(error: OpenError) -> Error
 
 /// How the store at a path is opened.
 fn options_for(rt: &HostRuntime, path: &str) -> Result<Options, Error> {
-    let random = RandomState::new(rt).map_err(|_| CANNOT_OPEN)?;
+    let Ok(random) = RandomState::new(rt) else {
+        return Err(CANNOT_OPEN);
+    };
     let mut options = Options::new(random.hash_one(&0u8));
     options.cache_pages = pages_kept(rt, path);
     Ok(options)
@@ -92,6 +92,9 @@ fn options_for(rt: &HostRuntime, path: &str) -> Result<Options, Error> {
 fn pages_kept(rt: &HostRuntime, path: &str) -> usize
     ensures { (2000 ≤ result) × (result ≤ 4000) }
 {
-    let bytes = fs::metadata(rt, path).map_or(0, |found| found.len());
+    let bytes = match fs::metadata(rt, path) {
+        Ok(found) => found.len(),
+        Err(_) => 0,
+    };
     (bytes / PAGE_BYTES).clamp(LEAST_PAGES, MOST_PAGES) as usize
 }

@@ -1,6 +1,6 @@
 //! What a program asks of paths.
 
-ghost use Rattle.std.specs.Prelude.{◌≡◌, ◌⊎◌, [], ℕ, Contains, List, Option, Some, Ok, Result, false, true, map, string_bytes};
+ghost use Rattle.std.specs.Prelude.{◌≡◌, ◌⊎◌, ◌++◌, ◌∷◌, [], ℕ, Contains, List, Option, Some, Ok, Result, false, true, map, string_bytes};
 ghost use Rattle.std.specs.Prelude.{IfErr, IfOk, IfSome};
 ghost use Rattle.sqlite.specs.Held.{Held};
 ghost use Rattle.sqlite_trees.specs.View.{IsQuiet};
@@ -15,7 +15,7 @@ ghost use Rattle.zeb_paths.specs.declared.paths.PathKind.{PathKind};
 
 use crate::causes::{Closed, PathCause, StoreCause};
 use sqlite::{Alter, Connection};
-use std::alloc::Global;
+use std::alloc::{AllocError, Global};
 use zeb_marc::Source;
 
 /// What stands at a path.
@@ -132,4 +132,17 @@ pub trait Paths {
     /// Ends a store that isn't used: nothing more is done to it. Answers what it has met since it was opened, where that is told.
     fn let_go(&self, store: Self::Store) -> Option<StoreCause>
         ensures { lets_go self.now result store };
+}
+
+/// Puts a name behind the others.
+pub(crate) fn push_name(
+    alloc: Global,
+    names: &mut Vec<String>,
+    name: &str,
+) -> Result<(), AllocError>
+    ensures { IfOk result (λ _. map string_bytes names.new.items
+        ≡ map string_bytes names.old.items ++ name.now ∷ []) }
+{
+    names.push(String::from_str(alloc, name)?)?;
+    Ok(())
 }

@@ -9,7 +9,7 @@ ghost use Rattle.zeb_paths.specs.Told.{below, first_at, is_slash, name_below, na
 ghost use Rattle.zeb_paths.specs.declared.causes.PathCause.TheVariants.{Memory as Starved};
 
 use crate::causes::{Closed, PathCause, StoreCause};
-use crate::paths::{Asked, OpenFailed, PathKind, Paths};
+use crate::paths::{Asked, OpenFailed, PathKind, Paths, push_name};
 use sqlite::{Alter, Connection};
 use std::alloc::{AllocError, Global};
 use zeb_marc::{ReadFailed, Slice, Source};
@@ -82,14 +82,24 @@ fn file_at<'a>(files: &'a [Shelved<'a>], path: &str) -> Option<&'a Shelved<'a>>
 fn has_below(files: &[Shelved<'_>], folder: &str) -> bool
     ensures { result ≡ list_any (λ file. is_some (below folder.now file.path.now)) files.now }
 {
-    files.iter().any(|file| file.below(folder).is_some())
+    for file in files {
+        if file.below(folder).is_some() {
+            return true;
+        }
+    }
+    false
 }
 
 /// Whether a name is among these.
 fn is_known(names: &[String], name: &str) -> bool
     ensures { result ≡ list_any (λ known. bytes_eq (string_bytes known) name.now) names.now }
 {
-    names.iter().any(|known| known.as_str() == name)
+    for known in names {
+        if known.as_str() == name {
+            return true;
+        }
+    }
+    false
 }
 
 /// Adds a name, unless it is there.
@@ -98,7 +108,7 @@ fn add_name(alloc: Global, names: &mut Vec<String>, name: &str) -> Result<(), Al
         (map string_bytes names.new.items)) }
 {
     if !is_known(names, name) {
-        names.push(String::from_str(alloc, name)?)?;
+        push_name(alloc, names, name)?;
     }
     Ok(())
 }
@@ -117,10 +127,7 @@ fn add_name_of(
 {
     match file.name_below(folder) {
         Some(name) if name.is_empty() => Err(PathCause::Forbidden),
-        Some(name) => {
-            add_name(alloc, names, name)?;
-            Ok(())
-        }
+        Some(name) => Ok(add_name(alloc, names, name)?),
         None => Ok(()),
     }
 }
@@ -189,13 +196,9 @@ impl<'a, S: Alter + Drop> Paths for Shelf<'a, S> {
     }
 
     fn store(&mut self, _path: &str) -> Result<Connection<S>, OpenFailed> {
-        let Some(connection) = self.store.take() else {
-            return Err(OpenFailed { cause: None });
-        };
-        if connection.is_autocommit() {
-            Ok(connection)
-        } else {
-            Err(OpenFailed { cause: None })
+        match self.store.take() {
+            Some(connection) if connection.is_autocommit() => Ok(connection),
+            _ => Err(OpenFailed { cause: None }),
         }
     }
 

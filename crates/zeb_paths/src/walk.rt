@@ -1,13 +1,13 @@
 //! The files at and below the paths that a user names.
 
-ghost use Rattle.std.specs.Prelude.{◌≡◌, ◌⊎◌, ◌≤◌, ◌<◌, ◌+◌, ◌++◌, [], ℕ, Contains, List, map, string_bytes};
-ghost use Rattle.std.specs.Prelude.{IfErr, IfOk, IfSome};
-ghost use Rattle.zeb_paths.specs.Walks.{AreInOrder, WalksOn, due, due_of, dues_in, dues_left, fault_at, paths_left, slashed, telling_of};
+ghost use Rattle.std.specs.Prelude.{◌≡◌, ◌≤◌, ◌<◌, ◌+◌, ◌++◌, IsPermutation, IsSorted, List, String, map, string_bytes};
+ghost use Rattle.std.specs.Prelude.{IfOk, IfSome};
+ghost use Rattle.std.specs.String.{string_cmp};
+ghost use Rattle.std.specs.declared.alloc.Global.{Global};
+ghost use Rattle.zeb_paths.specs.Walks.{WalksOn, due, due_of, dues_in, dues_left, fault_at, paths_left, slashed, telling_of};
 ghost use Rattle.zeb_paths.specs.Walks.{step_weight, walk_weight};
-ghost use Rattle.zeb_paths.specs.declared.causes.PathCause.{PathCause as Cause};
-ghost use Rattle.zeb_paths.specs.declared.causes.PathCause.TheVariants.{Memory as NoMemory};
 ghost use Rattle.zeb_paths.specs.declared.walk.WalkFault.TheVariants.{Memory as Starved};
-ghost use Rattle.zeb_paths.specs.PrivateWalks.{IsLighter, Sees};
+ghost use Rattle.zeb_paths.specs.PrivateWalks.{Sees};
 
 use crate::causes::PathCause;
 use crate::paths::{PathKind, Paths};
@@ -51,17 +51,6 @@ impl<T: Drop> From<AllocFailed<T>> for WalkFault {
     }
 }
 
-/// What stands at the next path of a walk.
-#[derive(Drop)]
-enum Seen {
-    /// A file, with its path.
-    File(String),
-    /// A folder, whose names are now the next paths.
-    Folder,
-    /// There is no further path.
-    End,
-}
-
 /// A path that is still to be looked at, and the level that it has if it is a folder.
 #[derive(Drop)]
 struct Step {
@@ -88,12 +77,7 @@ impl<'a, P: Paths> Walk<'a, P> {
         ensures levels { IfOk result (λ walk. dues_left walk.steps.items
             ≡ map (λ path. due (string_bytes path) 1) named.now) }
     {
-        let mut steps = Vec::new(alloc);
-        for path in named {
-            let path = path.clone()?;
-            steps.push(Step { path, level: 1 })?;
-        }
-        steps.reverse();
+        let steps = steps_of(alloc, named)?;
         Ok(Walk {
             alloc,
             paths,
@@ -111,65 +95,77 @@ impl<'a, P: Paths> Walk<'a, P> {
         ensures lighter { IfOk result (λ found. IfSome found (λ _.
             walk_weight self.new.steps.items < walk_weight self.old.steps.items)) }
     {
-        loop {
-            match self.look()? {
-                Seen::File(path) => return Ok(Some(path)),
-                Seen::End => return Ok(None),
-                Seen::Folder => {}
+        while let Some(step) = self.steps.pop() {
+            match self.look_at(&step) {
+                Ok(PathKind::File) => return Ok(Some(step.path)),
+                Ok(PathKind::Folder) => {}
+                Err(cause) => return Err(unread(step.path, cause)),
             }
         }
+        Ok(None)
     }
 
-    /// Looks at the next path.
-    fn look(&mut self) -> Result<Seen, WalkFault>
+    /// Looks at a path that was taken off, and puts what stands in a folder in its place.
+    fn look_at(&mut self, step: &Step) -> Result<PathKind, PathCause>
         ensures paths { self.new.paths ≡ self.old.paths }
-        ensures sees { Sees (telling_of P.Paths self.old.paths.now) (dues_left self.old.steps.items)
-            result (dues_left self.new.steps.items) }
-        ensures lighter { IfOk result (IsLighter self.old.steps.items self.new.steps.items) }
-    {
-        let Some(step) = self.steps.pop() else {
-            return Ok(Seen::End);
-        };
-        match self.paths.kind(step.path.as_str()) {
-            Ok(PathKind::File) => Ok(Seen::File(step.path)),
-            Ok(PathKind::Folder) if step.level <= GREATEST_LEVEL => {
-                self.enter(step)?;
-                Ok(Seen::Folder)
-            }
-            Ok(PathKind::Folder) => Err(WalkFault::Unreadable(step.path)),
-            Err(cause) => Err(unread(step.path, cause)),
-        }
-    }
-
-    /// Puts what stands in a folder before what is left.
-    fn enter(&mut self, folder: Step) -> Result<(), WalkFault>
-        requires { folder.level ≤ 32 }
-        ensures paths { self.new.paths ≡ self.old.paths }
-        ensures refused { IfErr result (λ met. (why : Cause) × (met ≡ fault_at folder.path why)
-            × IfSome (P.lists self.old.paths.now (string_bytes folder.path))
-            (λ told. (why ≡ NoMemory) ⊎ Contains told [])) }
-        ensures entered { IfOk result (λ _. (names : List (List ℕ))
-            × AreInOrder (telling_of P.Paths self.old.paths.now) (string_bytes folder.path) names
-            × (dues_left self.new.steps.items ≡ dues_in (due_of folder) names ++ dues_left
-            self.old.steps.items)) }
+        ensures seen { Sees (telling_of P.Paths self.old.paths.now) (due_of step.now) result
+            (dues_left self.old.steps.items) (dues_left self.new.steps.items) }
         ensures lighter { IfOk result
             (λ _. walk_weight self.new.steps.items < walk_weight self.old.steps.items + step_weight
-            folder) }
+            step.now) }
     {
-        let mut names = match self.paths.names(self.alloc, folder.path.as_str()) {
-            Ok(names) => names,
-            Err(cause) => return Err(unread(folder.path, cause)),
-        };
-        names.sort_unstable();
-        // The first name is pushed last, so that it is the next.
-        while let Some(name) = names.pop() {
-            self.steps.push(Step {
-                path: path_in(self.alloc, folder.path.as_str(), name.as_str())?,
-                level: folder.level + 1,
-            })?;
+        match self.paths.kind(step.path.as_str()) {
+            Ok(PathKind::File) => Ok(PathKind::File),
+            Ok(PathKind::Folder) if step.level <= GREATEST_LEVEL => {
+                let names = self.paths.names(self.alloc, step.path.as_str())?;
+                put_names(&mut self.steps, self.alloc, step, names)?;
+                Ok(PathKind::Folder)
+            }
+            Ok(PathKind::Folder) => Err(PathCause::TooDeep),
+            Err(cause) => Err(cause),
         }
-        Ok(())
     }
+}
+
+/// The paths that are named, the last one first.
+fn steps_of(alloc: Global, named: &[String]) -> Result<Vec<Step>, AllocError>
+    ensures left { IfOk result (λ steps. paths_left steps.items ≡ map string_bytes named.now) }
+    ensures levels { IfOk result (λ steps. dues_left steps.items
+        ≡ map (λ path. due (string_bytes path) 1) named.now) }
+{
+    let mut steps = Vec::new(alloc);
+    for path in named {
+        let path = path.clone()?;
+        steps.push(Step { path, level: 1 })?;
+    }
+    steps.reverse();
+    Ok(steps)
+}
+
+/// Puts what stands in a folder, by these names, before what is left.
+fn put_names(
+    steps: &mut Vec<Step>,
+    alloc: Global,
+    folder: &Step,
+    names: Vec<String>,
+) -> Result<(), AllocError>
+    requires { folder.now.level ≤ 32 }
+    ensures put { IfOk result (λ _. (sorted : List (String Global))
+        × IsPermutation names.items sorted × IsSorted string_cmp sorted
+        × (dues_left steps.new.items ≡ dues_in (due_of folder.now) (map string_bytes sorted)
+        ++ dues_left steps.old.items)) }
+    ensures lighter { IfOk result
+        (λ _. walk_weight steps.new.items < walk_weight steps.old.items + step_weight folder.now) }
+{
+    let mut names = names;
+    names.sort_unstable();
+    // The first name is pushed last, so that it is the next.
+    while let Some(name) = names.pop() {
+        let path = path_in(alloc, folder.path.as_str(), name.as_str())?;
+        let level = folder.level + 1;
+        steps.push(Step { path, level })?;
+    }
+    Ok(())
 }
 
 /// The path of a name in a folder.

@@ -11,7 +11,7 @@ returns g c =
     let before = c.rollback.new.self in
     let after = c.checkpoint-copied.new.self in
     let copied = c.checkpoint-copied.result in
-    let met = c.tally.result in
+    let met = c.met_by.result in
     let closed = c.closed_by.result in
     let by = c.closed_by.ensures in
     let first = c.rollback.ensures.quiet in
@@ -23,7 +23,7 @@ returns g c =
             let open_before = subst (λ v. IsTrue v.is_open) (c.checkpoint-copied.ensures.same open_now) open_now in
             on_whole copied met closed _ by whole c.checkpoint-copied.ensures.moved
             (c.rollback.ensures.logged ((c.rollback.ensures.undone.kept (omega (arith, quiet.clean))).was_open open_before)),
-        subst (λ it. IsStarved closed ⊎ IsCauseMet it closed.cause) c.tally.ensures (cause_by copied met closed by),
+        subst (λ it. IsStarved closed ⊎ IsCauseMet it closed.cause) c.met_by.ensures (cause_by copied met closed by),
       ),
       quiet_then first quiet,
       λ part clean was_open.

@@ -6,8 +6,8 @@ use Rattle.zeb_paths.specs.declared.walk.WalkFault.{WalkFault}
 use Rattle.zeb_paths.proofs.walk.Walk.next_file.Given as goal
 
 -- where the walk goes on to from what is left, it goes on to from what was left at first
-abbrev pub invariant-loop-path : goal.invariant-loop-path
-invariant-loop-path g l =
+abbrev pub invariant-loop-step : goal.invariant-loop-step
+invariant-loop-step g l =
     record {
       paths : l.self.paths ≡ l.initial.self.paths;
       walked : (result : Result (Option (String Global)) WalkFault) (later : List Due)
@@ -16,5 +16,5 @@ invariant-loop-path g l =
       lighter : walk_weight l.self.steps.items ≤ walk_weight l.initial.self.steps.items;
     }
 
-abbrev pub decreases-loop-path : goal.decreases-loop-path
-decreases-loop-path g l = walk_weight l.self.steps.items
+abbrev pub decreases-loop-step : goal.decreases-loop-step
+decreases-loop-step g l = walk_weight l.self.steps.items
