@@ -14,7 +14,7 @@ from repository import ROOT
 A_FILE = "a file"
 PROGRAM = "crates/zeb_words/src/program.rt"
 FUNCTION = re.compile(r"^(?:pub\(crate\) )?fn (\w+)<'a>\((.*?)^}", re.M | re.S)
-COMMAND = re.compile(r'\b(plain|founding|naming|changing)\(\s*alloc,\s*"(\w+)",\s*"([^"]*)"')
+COMMAND = re.compile(r'\b(plain|with_plain|founding|naming|changing)\((?:\s*made,)?\s*alloc,\s*"(\w+)",\s*"([^"]*)"')
 # Options of a command, and those of the program with a value and without one.
 NUMBER = re.compile(r'\bnumber\(\s*alloc,\s*"(\w+)"')
 VALUED = re.compile(r'\boption\(\s*alloc,\s*"\w+",\s*\'(\w)\',\s*"(\w+)"')

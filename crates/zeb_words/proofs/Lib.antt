@@ -20,3 +20,4 @@ mod Taking
 mod OneCommand
 mod Examples
 pub mod Cited
+pub mod Made

@@ -1,10 +1,11 @@
 //! The program's options and commands, as `clap` is told of them.
 
 ghost use Rattle.std.specs.Prelude.{◌≡◌, IfOk, Some, false};
+ghost use Rattle.std.specs.Result.{IsOkAnd};
 ghost use Rattle.clap.specs.Simple.{app_of, new_app, new_rule};
 ghost use Rattle.clap.specs.Walk.{rule_of};
 ghost use Rattle.clap.specs.declared.builder.command.Command.TheViews.{out-Command};
-ghost use Rattle.zeb_words.specs.Parses.{changes_app, changing_app, find_app, founding_app, leaves_rule, naming_app, program_app, query_rule, scan_app, shows_rule, top_app, upkeep_app, version_rule};
+ghost use Rattle.zeb_words.specs.Parses.{and_sub, changes_app, changing_app, find_app, founding_app, leaves_rule, naming_app, program_app, query_rule, scan_app, shows_rule, top_app, upkeep_app, version_rule};
 
 use clap::builder::ValueParser;
 use clap::{Arg, ArgAction, Command, value_parser};
@@ -18,56 +19,85 @@ const ABOUT: &str =
     "Indexes MARC 21 records and searches them. Without a word it runs the script on the standard input.
 Its status: 0 answered, 1 refused, 2 not understood, 3 something failed.";
 
+/// A command, where there was memory for it.
+type Made<'a> = Result<Command<'a>, AllocError>;
+
 /// The program, with its options and its fifteen commands.
-pub(crate) fn program<'a>(alloc: Global) -> Result<Command<'a>, AllocError>
+pub(crate) fn program<'a>(alloc: Global) -> Made<'a>
     ensures { IfOk result (λ command. app_of command ≡ program_app) }
 {
-    with_upkeep(alloc)?
-        .subcommand(plain(alloc, "stat", "Count records, terms and occurrences"))?
-        .subcommand(plain(alloc, "dump", "Write the kept records"))?
-        .subcommand(finding(alloc)?)?
-        .subcommand(scanning(alloc)?)?
-        .subcommand(plain(alloc, "batch", "Run the lines of the standard input"))?
-        .subcommand(plain(
-            alloc,
-            "shell",
-            "Run each line of the standard input as it comes",
-        ))
+    let made = with_upkeep(alloc);
+    let made = with_plain(made, alloc, "stat", "Count records, terms and occurrences");
+    let made = with_plain(made, alloc, "dump", "Write the kept records");
+    let made = with_command(made, finding(alloc));
+    let made = with_command(made, scanning(alloc));
+    let made = with_plain(made, alloc, "batch", "Run the lines of the standard input");
+    with_plain(
+        made,
+        alloc,
+        "shell",
+        "Run each line of the standard input as it comes",
+    )
 }
 
 /// The program with its options, the commands that change records, and those that look after the whole register.
-fn with_upkeep<'a>(alloc: Global) -> Result<Command<'a>, AllocError>
+fn with_upkeep<'a>(alloc: Global) -> Made<'a>
     ensures { IfOk result (λ command. app_of command ≡ upkeep_app) }
 {
-    with_changes(alloc)?
-        .subcommand(plain(alloc, "check", "Compare the tables with the records"))?
-        .subcommand(plain(
-            alloc,
-            "reindex",
-            "Make the registers anew under the profile",
-        ))?
-        .subcommand(founding(
-            alloc,
-            "upgrade",
-            "Bring an earlier register into today's format",
-        )?)
+    let made = with_changes(alloc);
+    let made = with_plain(made, alloc, "check", "Compare the tables with the records");
+    let made = with_plain(
+        made,
+        alloc,
+        "reindex",
+        "Make the registers anew under the profile",
+    );
+    let upgrade = founding(
+        alloc,
+        "upgrade",
+        "Bring an earlier register into today's format",
+    );
+    with_command(made, upgrade)
 }
 
 /// The program with its options and the commands that change records.
-fn with_changes<'a>(alloc: Global) -> Result<Command<'a>, AllocError>
+fn with_changes<'a>(alloc: Global) -> Made<'a>
     ensures { IfOk result (λ command. app_of command ≡ changes_app) }
 {
-    with_options(alloc)?
-        .subcommand(founding(alloc, "init", "Begin or empty the whole register")?)?
-        .subcommand(naming(alloc, "create", "Make a database")?)?
-        .subcommand(naming(alloc, "drop", "Take a database away")?)?
-        .subcommand(changing(alloc, "update", "Add or replace records")?)?
-        .subcommand(changing(alloc, "delete", "Take records away")?)?
-        .subcommand(changing(alloc, "adelete", "Take records away that are kept")?)
+    let made = with_options(alloc);
+    let made = with_command(
+        made,
+        founding(alloc, "init", "Begin or empty the whole register"),
+    );
+    let made = with_command(made, naming(alloc, "create", "Make a database"));
+    let made = with_command(made, naming(alloc, "drop", "Take a database away"));
+    let made = with_command(made, changing(alloc, "update", "Add or replace records"));
+    let made = with_command(made, changing(alloc, "delete", "Take records away"));
+    with_command(
+        made,
+        changing(alloc, "adelete", "Take records away that are kept"),
+    )
+}
+
+/// The program with this command too, where there was memory for both.
+fn with_command<'a>(program: Made<'a>, command: Made<'a>) -> Made<'a>
+    requires { IfOk command (λ it. (out-Command it).has_globals ≡ false) }
+    ensures { IfOk result (λ it. IsOkAnd program.entry (λ whole. IsOkAnd command.entry
+        (λ added. app_of it ≡ and_sub (app_of whole) (app_of added)))) }
+{
+    program?.subcommand(command?)
+}
+
+/// The program with this command, which takes no argument, too.
+fn with_plain<'a>(program: Made<'a>, alloc: Global, name: &'a str, about: &'a str) -> Made<'a>
+    ensures { IfOk result (λ it. IsOkAnd program.entry
+        (λ whole. app_of it ≡ and_sub (app_of whole) (new_app name.entry.now))) }
+{
+    with_command(program, Ok(plain(alloc, name, about)))
 }
 
 /// The program with its options, and no command yet.
-fn with_options<'a>(alloc: Global) -> Result<Command<'a>, AllocError>
+fn with_options<'a>(alloc: Global) -> Made<'a>
     ensures { IfOk result (λ command. app_of command ≡ top_app) }
 {
     Command::new(alloc, "zebraidx")
@@ -133,7 +163,7 @@ fn plain<'a>(alloc: Global, name: &'a str, about: &'a str) -> Command<'a>
 }
 
 /// A command that may ask for a layout.
-fn founding<'a>(alloc: Global, name: &'a str, about: &'a str) -> Result<Command<'a>, AllocError>
+fn founding<'a>(alloc: Global, name: &'a str, about: &'a str) -> Made<'a>
     ensures app { IfOk result (λ command. app_of command ≡ founding_app name.entry.now) }
     ensures local { IfOk result (λ command. (out-Command command).has_globals ≡ false) }
 {
@@ -152,7 +182,7 @@ fn leaves<'a>(alloc: Global) -> Arg<'a>
 }
 
 /// A command that takes the name of a database.
-fn naming<'a>(alloc: Global, name: &'a str, about: &'a str) -> Result<Command<'a>, AllocError>
+fn naming<'a>(alloc: Global, name: &'a str, about: &'a str) -> Made<'a>
     ensures app { IfOk result (λ command. app_of command ≡ naming_app name.entry.now) }
     ensures local { IfOk result (λ command. (out-Command command).has_globals ≡ false) }
 {
@@ -164,7 +194,7 @@ fn naming<'a>(alloc: Global, name: &'a str, about: &'a str) -> Result<Command<'a
 }
 
 /// A command that takes one path or more.
-fn changing<'a>(alloc: Global, name: &'a str, about: &'a str) -> Result<Command<'a>, AllocError>
+fn changing<'a>(alloc: Global, name: &'a str, about: &'a str) -> Made<'a>
     ensures app { IfOk result (λ command. app_of command ≡ changing_app name.entry.now) }
     ensures local { IfOk result (λ command. (out-Command command).has_globals ≡ false) }
 {
@@ -177,7 +207,7 @@ fn changing<'a>(alloc: Global, name: &'a str, about: &'a str) -> Result<Command<
 }
 
 /// The command `find`.
-fn finding<'a>(alloc: Global) -> Result<Command<'a>, AllocError>
+fn finding<'a>(alloc: Global) -> Made<'a>
     ensures app { IfOk result (λ command. app_of command ≡ find_app) }
     ensures local { IfOk result (λ command. (out-Command command).has_globals ≡ false) }
 {
@@ -200,7 +230,7 @@ fn finding<'a>(alloc: Global) -> Result<Command<'a>, AllocError>
 }
 
 /// The command `scan`.
-fn scanning<'a>(alloc: Global) -> Result<Command<'a>, AllocError>
+fn scanning<'a>(alloc: Global) -> Made<'a>
     ensures app { IfOk result (λ command. app_of command ≡ scan_app) }
     ensures local { IfOk result (λ command. (out-Command command).has_globals ≡ false) }
 {

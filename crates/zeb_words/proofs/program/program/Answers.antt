@@ -1,11 +1,13 @@
-use Rattle.zeb_words.proofs.Cited.{◌∙◌, ap₂, IfOk-weaker, and_sub}
+use Rattle.zeb_words.proofs.Cited.{codes, new_app}
+use Rattle.zeb_words.proofs.Made.{with_other, with_this}
 use Rattle.zeb_words.proofs.program.program.Goals as goal
+use Rattle.clap.specs.Simple.{app_of}
 
 pub returns : goal.returns
 returns c =
-    let one = c.in_ok-subcommand.ensures.shape c.plain.ensures.local ∙ ap₂ and_sub c.in_ok-with_upkeep.ensures c.plain.ensures.app in
-    let two = c.in_ok-subcommand-2.ensures.shape c.plain-2.ensures.local ∙ ap₂ and_sub one c.plain-2.ensures.app in
-    let three = c.in_ok-subcommand-3.ensures.shape c.in_ok-finding.ensures.local ∙ ap₂ and_sub two c.in_ok-finding.ensures.app in
-    let four = c.in_ok-subcommand-4.ensures.shape c.in_ok-scanning.ensures.local ∙ ap₂ and_sub three c.in_ok-scanning.ensures.app in
-    let five = c.in_ok-subcommand-5.ensures.shape c.plain-3.ensures.local ∙ ap₂ and_sub four c.plain-3.ensures.app in
-    IfOk-weaker c.subcommand-6.result _ _ (λ command h. h.shape c.plain-4.ensures.local ∙ ap₂ and_sub five c.plain-4.ensures.app) c.subcommand-6.ensures
+    let one = with_other app_of c.with_upkeep-made.result c.with_plain-made.result _ (new_app (codes "stat")) c.with_upkeep-made.ensures c.with_plain-made.ensures in
+    let two = with_other app_of c.with_plain-made.result c.with_plain-made-2.result _ (new_app (codes "dump")) one c.with_plain-made-2.ensures in
+    let three = with_this app_of c.with_plain-made-2.result c.finding.result c.with_command-made.result _ _ two c.finding.ensures.app c.with_command-made.ensures in
+    let four = with_this app_of c.with_command-made.result c.scanning.result c.with_command-made-2.result _ _ three c.scanning.ensures.app c.with_command-made-2.ensures in
+    let five = with_other app_of c.with_command-made-2.result c.with_plain-made-3.result _ (new_app (codes "batch")) four c.with_plain-made-3.ensures in
+    with_other app_of c.with_plain-made-3.result c.with_plain.result _ (new_app (codes "shell")) five c.with_plain.ensures

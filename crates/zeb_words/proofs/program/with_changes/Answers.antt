@@ -1,11 +1,12 @@
-use Rattle.zeb_words.proofs.Cited.{◌∙◌, ap₂, IfOk-weaker, and_sub}
+use Rattle.zeb_words.proofs.Made.{with_this}
 use Rattle.zeb_words.proofs.program.with_changes.Goals as goal
+use Rattle.clap.specs.Simple.{app_of}
 
 pub returns : goal.returns
 returns c =
-    let one = c.in_ok-subcommand.ensures.shape c.in_ok-founding.ensures.local ∙ ap₂ and_sub c.in_ok-with_options.ensures c.in_ok-founding.ensures.app in
-    let two = c.in_ok-subcommand-2.ensures.shape c.in_ok-naming.ensures.local ∙ ap₂ and_sub one c.in_ok-naming.ensures.app in
-    let three = c.in_ok-subcommand-3.ensures.shape c.in_ok-naming-2.ensures.local ∙ ap₂ and_sub two c.in_ok-naming-2.ensures.app in
-    let four = c.in_ok-subcommand-4.ensures.shape c.in_ok-changing.ensures.local ∙ ap₂ and_sub three c.in_ok-changing.ensures.app in
-    let five = c.in_ok-subcommand-5.ensures.shape c.in_ok-changing-2.ensures.local ∙ ap₂ and_sub four c.in_ok-changing-2.ensures.app in
-    IfOk-weaker c.subcommand-6.result _ _ (λ command h. h.shape c.in_ok-changing-3.ensures.local ∙ ap₂ and_sub five c.in_ok-changing-3.ensures.app) c.subcommand-6.ensures
+    let one = with_this app_of c.with_options-made.result c.founding.result c.with_command-made.result _ _ c.with_options-made.ensures c.founding.ensures.app c.with_command-made.ensures in
+    let two = with_this app_of c.with_command-made.result c.naming.result c.with_command-made-2.result _ _ one c.naming.ensures.app c.with_command-made-2.ensures in
+    let three = with_this app_of c.with_command-made-2.result c.naming-2.result c.with_command-made-3.result _ _ two c.naming-2.ensures.app c.with_command-made-3.ensures in
+    let four = with_this app_of c.with_command-made-3.result c.changing.result c.with_command-made-4.result _ _ three c.changing.ensures.app c.with_command-made-4.ensures in
+    let five = with_this app_of c.with_command-made-4.result c.changing-2.result c.with_command-made-5.result _ _ four c.changing-2.ensures.app c.with_command-made-5.ensures in
+    with_this app_of c.with_command-made-5.result c.changing-3.result c.with_command.result _ _ five c.changing-3.ensures.app c.with_command.ensures

@@ -1,8 +1,10 @@
-use Rattle.zeb_words.proofs.Cited.{◌∙◌, ap₂, IfOk-weaker, and_sub}
+use Rattle.zeb_words.proofs.Cited.{codes, new_app}
+use Rattle.zeb_words.proofs.Made.{with_other, with_this}
 use Rattle.zeb_words.proofs.program.with_upkeep.Goals as goal
+use Rattle.clap.specs.Simple.{app_of}
 
 pub returns : goal.returns
 returns c =
-    let one = c.in_ok-subcommand.ensures.shape c.plain.ensures.local ∙ ap₂ and_sub c.in_ok-with_changes.ensures c.plain.ensures.app in
-    let two = c.in_ok-subcommand-2.ensures.shape c.plain-2.ensures.local ∙ ap₂ and_sub one c.plain-2.ensures.app in
-    IfOk-weaker c.subcommand-3.result _ _ (λ command h. h.shape c.in_ok-founding.ensures.local ∙ ap₂ and_sub two c.in_ok-founding.ensures.app) c.subcommand-3.ensures
+    let one = with_other app_of c.with_changes-made.result c.with_plain-made.result _ (new_app (codes "check")) c.with_changes-made.ensures c.with_plain-made.ensures in
+    let two = with_other app_of c.with_plain-made.result c.with_plain-made-2.result _ (new_app (codes "reindex")) one c.with_plain-made-2.ensures in
+    with_this app_of c.with_plain-made-2.result c.founding-upgrade.result c.with_command.result _ _ two c.founding-upgrade.ensures.app c.with_command.ensures
