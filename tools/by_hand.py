@@ -65,7 +65,7 @@ MADE_BY_HAND = {
     "crates/zeb_program/src/opening.rt": (["unopened 635eec66", "kept_layout 2342966f"], "an open that failed, as a clause says; and what a look is refused for by no call"),
     "crates/zeb_program/src/program.rt": (["tell_starved 63d4a1ef", "finish c2331064", "run_script d71d4852"], "the status of want of memory, of a failed write, of an input that is no text"),
     "crates/zeb_program/src/shell.rt": (
-        ["serve_lines 92da5107", "run_shell_lines 9bf77771", "run_shell_lines 9bf77771"],
+        ["tell_input 29146d99", "run_shell_lines 9bf77771", "run_shell_lines 9bf77771"],
         "the status of an input that can't be read on and of a failed write, as clauses say; and more lines than there are numbers",
     ),
     "crates/zeb_program/src/statuses.rt": (["code 347a2f2f", "of_refusal 38553881", "of_profile 90a15a5f"], "the numbers of the statuses, and the statuses of a refusal and of a profile's fault"),

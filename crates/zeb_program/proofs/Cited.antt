@@ -23,7 +23,7 @@ pub use Rattle.std.specs.Io.KnownBytes.{Appends, Consumes, IsAtEnd, Keeps}
 pub use Rattle.std.specs.List.{position_or_len, list_all, AllByRecursion, prefix_len, suffix_len}
 pub use Rattle.std.specs.Option.{option_map, option_or, option_map_or}
 pub use Rattle.std.specs.Prelude.{Option, None, String, IfOk, IsOk, MatchOption, codes, IfSome, string_len, IfErr, unwrap_or, IsTrue, nat_lt, nat_le, OnErr, OnOk, IsErrAnd, MatchResult, IsSome, IfNone, ⊤, is_some, reverse, if◌then◌else◌, ◌==◌, IsErr}
-pub use Rattle.std.specs.Result.{result_unwrap_or, result_ok, IsOkAnd}
+pub use Rattle.std.specs.Result.{result_ok, IsOkAnd}
 pub use Rattle.std.specs.Str.{all_ascii_digits, IsUtf8, IsCharBoundary, NonePass, NoCharPasses, bytes_eq}
 pub use Rattle.std.specs.Str.Lines.{strip_carriage_return}
 pub use Rattle.std.specs.declared.alloc.AllocError.{AllocError}
@@ -36,12 +36,12 @@ pub use Rattle.zeb_change.specs.declared.settings.Kind.{Kind}
 pub use Rattle.zeb_change.specs.declared.settings.Limits.{Limits}
 pub use Rattle.zeb_engine.specs.Analysed.{HasLines, IsAnalysed}
 pub use Rattle.zeb_engine.specs.Answers.{answer_of, Answer, IsFailure}
-pub use Rattle.zeb_engine.specs.Crashes.{CommandLasts, CommitsBy, Endures, AdoptLasts, CommitsAdopted}
+pub use Rattle.zeb_engine.specs.Crashes.{CommitsBy, Endures, AdoptLasts, CommitsAdopted}
 pub use Rattle.zeb_engine.specs.Readiness.{RefusesText, TellsText, TellsVersion, GoesByTexts, IsReadyFor, IsRefusedOver, KeepsText}
 pub use Rattle.zeb_engine.specs.Refusals.{refusal_text}
 pub use Rattle.zeb_engine.specs.Replies.{reply_text}
 pub use Rattle.zeb_engine.specs.Steps.{TakesFiles, TellsOrFails, Run, Step}
-pub use Rattle.zeb_engine.specs.Works.{ServesBy, ServesCommand}
+pub use Rattle.zeb_engine.specs.Works.{ServesBy}
 pub use Rattle.zeb_engine.specs.declared.commands.Command.{Command}
 pub use Rattle.zeb_engine.specs.declared.commands.Command.TheVariants.{Change, Find, Scan, Analyse, Init}
 pub use Rattle.zeb_engine.specs.declared.replies.Reply.{Reply}
@@ -54,9 +54,9 @@ pub use Rattle.zeb_paths.specs.declared.causes.Closed.{Closed}
 pub use Rattle.zeb_paths.specs.declared.causes.StoreCause.{StoreCause}
 pub use Rattle.zeb_profile.specs.Profiles.{profile_of}
 pub use Rattle.zeb_profile.specs.declared.directives.Directive.{Directive}
-pub use Rattle.zeb_program.specs.Answers.{EachLine, none, more, Writes, ChangesBy, AnswersAsTold, IsFileAnswer, IsLineUntold, AnswersLine, AnswersLines, IsAnswerTo, answer_status, answer_text, none as no_lines, AnswersBatch, AnswersPart, bad_line, mark_line, IsAnswer}
+pub use Rattle.zeb_program.specs.Answers.{EachLine, none, more, Writes, ChangesBy, AnswersAsTold, IsLineUntold, AnswersLine, AnswersLines, IsAnswerTo, answer_status, answer_text, none as no_lines, AnswersBatch, AnswersPart, bad_line, mark_line}
 pub use Rattle.zeb_program.specs.Closings.{TellsClosed, TellsLeft}
-pub use Rattle.zeb_program.specs.Doing.{DoesOnNothing, DoesTask, RunsText, ServesText, DoesBatch, KeepsUnread, StopsText, all_served, first_served, StopsPart, DoesLine, DoesLines, DoesPart, DoesShell, StopsLine}
+pub use Rattle.zeb_program.specs.Doing.{DoesOnNothing, DoesTask, RunsText, ServesText, DoesBatch, KeepsUnread, StopsText, all_served, first_served, StopsPart, DoesPart, DoesShell, StopsLine}
 pub use Rattle.zeb_program.specs.Explanations.{Explains, ExplainsUnread, NamesRegister, refusal_cause, ExplainsRefusal, TellsFile}
 pub use Rattle.zeb_program.specs.FaultAnswers.{IsOpeningFailure, unopened_refusal, GivesAnswer, NamesMet, NamesUntold}
 pub use Rattle.zeb_program.specs.FaultLines.{cause_line, unread_lines, TellsFault, profile_line, unreadable_path, file_in, file_line, file_lines, IsCauseOf, TellsCaused, TellsPlaced, register_lines, cause_lines, unclosed_line, unclosed_lines}
@@ -65,20 +65,21 @@ pub use Rattle.zeb_program.specs.InputCauses.{EndsInLine, is_failed_read}
 pub use Rattle.zeb_program.specs.Inputs.{AreShort, IsShort, IsTextWithin, TakesAtMost, IsInput}
 pub use Rattle.zeb_program.specs.LeftStores.{LeavesByTask, left_alone, left_by_batch, left_by_shell, left_by_task, unused as none_used, TellsOrStarves, EndsLeaving, LeavesAt, unused, failed, used, LeavesByBatch, LeavesByShell, LeavesStore, LeavesUnder, OpensNone, TellsRefused}
 pub use Rattle.zeb_program.specs.Lines.{first_line, after_first_line, is_lf}
-pub use Rattle.zeb_program.specs.OverTables.{AnalysesOver, CommandOver, LeavesAlone, LineOver, PathOver, PathsLast, PathsLeave, PathsOver, SaysOver, ServesOver, TaskOver, LinesOver, AreFilesOf, ChangesOver, LinesWritten, SaysWritten, IsAnalysisOver, IsRefusedUnbegun, IsUntoldNth, OverNothing}
+pub use Rattle.zeb_program.specs.OverTables.{AnalysesOver, LeavesAlone, LineOver, PathOver, PathsLast, PathsLeave, PathsOver, SaysOver, ServesOver, TaskOver, LinesOver, AreFilesOf, ChangesOver, LinesWritten, SaysWritten, IsAnalysisOver, IsRefusedUnbegun, IsUntoldNth, OverNothing}
 pub use Rattle.zeb_program.specs.PathChanges.{AreFilesTold, IsLineTold, HasPath, NamesPath}
 pub use Rattle.zeb_program.specs.PrivateFaults.{IsOpeningFault, IsUnread, IsUnreadAt, fault_of, IsUnfound}
 pub use Rattle.zeb_program.specs.PrivateFiles.{sure_bytes, IsGiven, ReadsContent, ReadsBelow}
 pub use Rattle.zeb_program.specs.PrivateLines.{whole_first_line}
-pub use Rattle.zeb_program.specs.PrivateServing.{CarriesOut, StandsFor, Leads, DoesPath}
+pub use Rattle.zeb_program.specs.PrivateServing.{CarriesOut, StandsFor}
+pub use Rattle.zeb_program.specs.PrivateShows.{BreaksOff, EndsShell, IsDone, Shows, ShowsBatch, ShowsCommand, ShowsLine, ShowsPath, ShowsShell, WritesUnless}
 pub use Rattle.zeb_program.specs.PrivateWarnings.{IsServedFor, warned_in}
-pub use Rattle.zeb_program.specs.PrivateWordRuns.{ClosesAloud, EndsSession, TellsLayout, EndsStarved, LeavesHeld, ServesIn, StopsServing, ExplainsRun, GivesClosed, GivesFor, OpensUnder, RunsIn, RunsOnNothing, ServesHeld, ServesOnNothing, TakesIn, TakesOpen, OnlyLooked, format_of, ExplainsFailure, TakesStore, StopsIn, Grows}
+pub use Rattle.zeb_program.specs.PrivateWordRuns.{ClosesAloud, EndsSession, TellsLayout, ServesIn, ExplainsRun, GivesClosed, GivesFor, OpensUnder, RunsIn, RunsOnNothing, ServesHeld, ServesOnNothing, TakesIn, TakesOpen, OnlyLooked, format_of, ExplainsFailure, TakesStore, Grows}
 pub use Rattle.zeb_program.specs.ProfileFiles.{ReadsProfile, IsProfileText}
 pub use Rattle.zeb_program.specs.Registers.{UsedAs, places_of, FailsLook, IsTakenOver, FailsOpening, shut, given_back, untold, Places, IsLetGo, IsForeignOr, whole_but, IsGivenBack, HasStore, LacksStore, nothing_met}
 pub use Rattle.zeb_program.specs.Says.{SaysText, Says}
 pub use Rattle.zeb_program.specs.ScriptAnswers.{AnswersStopped, AreConditionsIn, AreScriptConditions, HoldsNothing, RunsFromNothing, EndsScript}
 pub use Rattle.zeb_program.specs.Scripts.{BeginsRegister, after_lines, DividesAt, HasNoDivider, line_at, IsDivider}
-pub use Rattle.zeb_program.specs.Serving.{AnswersFrom, LeadsOn, Stops, ServesTask}
+pub use Rattle.zeb_program.specs.Serving.{AnswersFrom, ServesTask}
 pub use Rattle.zeb_program.specs.Statuses.{greater, refusal_status, EndsWith, fault_status, status_code, closing_status, IsFaultStatus}
 pub use Rattle.zeb_program.specs.TaskAnswers.{AreTold, ReadsWhole, AnswersOn, AnswersTask, paths_of, AnalysesFiles, AnswersCommand}
 pub use Rattle.zeb_program.specs.Unanswered.{TellsUnanswered, IsToldSince, TellsLineOf}

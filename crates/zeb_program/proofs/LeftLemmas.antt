@@ -1,5 +1,5 @@
 -- What becomes of the register's store, by what a task, a batch and a shell say of it.
-use Rattle.zeb_program.proofs.Cited.{Held, ◌≡◌, ◌∙◌, ◌⊎◌, ℕ, Bool, false, List, [], ap, inl, inr, refl, subst, sym, AllocError, Global, Conditions, Init, Reply, Closed, StoreCause, Directive, DoesBatch, DoesShell, DoesTask, starved_line, EndsLeaving, LeavesAt, unused, failed, used, LeavesByBatch, LeavesByShell, LeavesByTask, LeavesStore, LeavesUnder, OpensNone, TellsOrStarves, TellsRefused, IsOpeningFault, GivesClosed, GivesFor, Grows, LeavesHeld, OpensUnder, TakesIn, AreConditionsIn, BeginsRegister, status_code, IsToldSince, TellsLineOf, IsOwnOr, Performs, ReadsAt, unread, performed, ServesUnder, answered, unopened, none_made, StopsOpening, StopsReading, not_read, not_opened, Cause, Failure, Fault, Told, Status, Failed, Task, Ask, Format, LayoutChoice, Unsaid}
+use Rattle.zeb_program.proofs.Cited.{Held, ◌≡◌, ◌∙◌, ◌⊎◌, ℕ, Bool, false, List, [], ap, inl, inr, refl, subst, sym, AllocError, Global, Conditions, Init, Reply, Closed, StoreCause, Directive, DoesBatch, DoesShell, DoesTask, starved_line, EndsLeaving, LeavesAt, unused, failed, used, LeavesByBatch, LeavesByShell, LeavesByTask, LeavesStore, LeavesUnder, OpensNone, TellsOrStarves, TellsRefused, IsOpeningFault, GivesClosed, GivesFor, Grows, BeginsRegister, status_code, IsToldSince, TellsLineOf, IsOwnOr, Performs, ReadsAt, unread, performed, ServesUnder, answered, unopened, none_made, StopsOpening, StopsReading, not_read, not_opened, Cause, Failure, Fault, Told, Status, Failed, Task, Ask, Format, LayoutChoice, Unsaid}
 use Rattle.std.specs.Prelude.{IfErr, IfOk, IsErr, OnErr, Option, Result, Ok, Err, String, ⊤}
 use Rattle.std.specs.Io.KnownBytes.{Appends, Keeps}
 use Rattle.std.proofs.KnownBytes.{Appends-kept, Appends-nil}
@@ -9,7 +9,7 @@ use Rattle.zeb_program.specs.Registers.{HasStore, Places, kept, none}
 use Rattle.zeb_program.specs.declared.faults.Fault.TheVariants as fault
 use Rattle.zeb_program.specs.declared.performing.Performed.{Performed}
 use Rattle.zeb_program.proofs.ToldLemmas.{told_further, told_last}
-use Rattle.zeb_program.proofs.WordRunLemmas.{from_kept, from_taken}
+use Rattle.zeb_program.proofs.WordRunLemmas.{from_kept}
 
 -- what is passed on by `?` is no status
 pub starved : {T : Type 0} (r : Result T AllocError) (e : AllocError) → r ≡ Err e → IsErr r
@@ -18,11 +18,6 @@ starved r e is = subst (λ it. IsErr it) (sym is) refl
 -- ---- a store that is opened, or not
 
 module _ {S : Type 0} (at : Places S) (choice : LayoutChoice) (profile : List Directive) (ended : Result Status AllocError) (Said : List ℕ → Type 0) (Makes : Type 0) (Does : Format → Conditions → Held S → Held S → Type 0) where
-  pub left_held : (format : Format) (c : Conditions) (held : Held S) → HasStore at profile ⊎ Makes → AreConditionsIn format profile c → TakesIn at choice format profile held
-      → LeavesHeld at.store at.leaves held (Does format c) → LeavesAt at choice profile ended Said Makes Does
-  left_held format c held may under takes h =
-      used format c h.closed may under (from_taken at choice format profile h.closed held h.last (Does format c) takes h.clean h.does h.ends)
-
   pub left_unopened : (why : Fault) (cause : Option Cause) (closed : Closed) → HasStore at profile ⊎ Makes → IsOpeningFault at profile why cause closed → TellsOrStarves ended Said why
       → LeavesAt at choice profile ended Said Makes Does
   left_unopened (fault.Refused why) cause closed may is told = failed may is.0 told
@@ -87,27 +82,13 @@ module _ {S : Type 0} (at : Places S) (choice : LayoutChoice) (task : Task) (end
 
 -- ---- the lines of the input
 
--- those of a batch, which no others stand before
-pub left_lines : {S : Type 0} (at : Places S) (profile : List Directive) (format : Format) (c : Conditions) (held : Held S) (n : ℕ) (text : List ℕ) (ended : Result Status AllocError) (Said : List ℕ → Type 0) → n ≡ 0
-    → HasStore at profile ⊎ BeginsRegister text → AreConditionsIn format profile c → TakesIn at Unsaid format profile held → LeavesHeld at.store at.leaves held (DoesBatch at.store at.sees format c n text ended)
-    → LeavesAt at Unsaid profile ended Said (BeginsRegister text) (λ format c. DoesBatch at.store at.sees format c 0 text ended)
-left_lines at profile format c held n text ended Said first may under takes h =
-    left_held at Unsaid profile ended Said (BeginsRegister text) (λ format c. DoesBatch at.store at.sees format c 0 text ended) format c held may under takes
-    (subst (λ k. LeavesHeld at.store at.leaves held (DoesBatch at.store at.sees format c k text ended)) first h)
-
--- of which none is run
+-- of a batch, of which none is run
 pub left_unread : {S : Type 0} (at : Places S) (config : String Global) (given : Option (List ℕ)) (broke : Bool) (why : Fault) (cause : Option Cause) (ended : Result Status AllocError) (Said : List ℕ → Type 0)
     → at.untouched → StopsReading at config given broke why cause → TellsOrStarves ended Said why → LeavesByBatch at config given ended Said
 left_unread at config given broke why cause ended Said still stops told =
     inl (left_none at ended Said (λ it. (lost : Bool) × (known : Option Cause) × StopsReading at config given lost it known) why still (broke, cause, stops) told)
 
--- those of a shell
-pub left_served : {S : Type 0} (at : Places S) (config : String Global) (format : Format) (c : Conditions) (held : Held S) (given : Option (List ℕ)) (ended : Result Status AllocError) (Said : List ℕ → Type 0)
-    → OpensUnder at config format c held → LeavesHeld at.store at.leaves held (DoesShell at.store at.sees format c given) → LeavesByShell at config given ended Said
-left_served at config format c held given ended Said (profile, read, under, takes) h =
-    inr (profile, read, left_held at Unsaid profile ended Said ⊤ (λ format c. DoesShell at.store at.sees format c given) format c held (inr tt) under takes h)
-
--- for which none is opened
+-- of a shell, for which no register is opened
 pub left_unserved : {S : Type 0} (at : Places S) (config : String Global) (given : Option (List ℕ)) (why : Fault) (cause : Option Cause) (closed : Closed) (ended : Result Status AllocError) (Said : List ℕ → Type 0)
     → StopsOpening at config why cause closed → TellsOrStarves ended Said why → LeavesByShell at config given ended Said
 left_unserved at config given why cause _ ended Said (not_read still read explains) told = inl (left_none at ended Said (λ it. ReadsAt at config (Err it)) why still read told)

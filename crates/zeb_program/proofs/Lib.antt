@@ -2,11 +2,11 @@ pub mod Cited
 pub mod AnalysisLemmas
 pub mod AnswerLemmas
 pub mod BatchLemmas
-pub mod DoneLemmas
 pub mod ExplanationLemmas
 pub mod FailureLemmas
 pub mod FileLemmas
 pub mod FormLemmas
+pub mod HeldLineLemmas
 pub mod LeftLemmas
 pub mod LineInputLemmas
 pub mod LineLemmas
@@ -22,11 +22,10 @@ pub mod ReaderLemmas
 pub mod RunLemmas
 pub mod ScriptAnswerLemmas
 pub mod ScriptLemmas
-pub mod ServingLemmas
 pub mod SessionLemmas
 pub mod ShellLemmas
-pub mod ShellOverLemmas
 pub mod ShellTextLemmas
+pub mod ShownLemmas
 pub mod StatusLemmas
 pub mod StopLemmas
 pub mod TaskLemmas

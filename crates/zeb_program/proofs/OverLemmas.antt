@@ -1,11 +1,10 @@
 -- What is written for a command, a change by a path and a line is their answer on any tables.
-use Rattle.zeb_program.proofs.Cited.{◌≡◌, arith, inl, inr, ℕ, Bool, false, List, [], ◌∷◌, ◌++◌, Vec, ap, map, refl, subst, sym, ◌≢◌, Option, Some, Result, Ok, Err, IfErr, IfOk, OnErr, OnOk, String, string_bytes, AllocError, Global, Appends, Held, state, State, Survives, Ghosts, Trees, Directive, ChangesNothing, Format, version_of, Conditions, Refusal, Damaged, Store, Kind, Limits, Holdings, name_bytes, HasLines, IsAnalysed, answer_of, CommandLasts, CommitsBy, Endures, refusal_text, reply_text, TakesFiles, ServesBy, ServesCommand, Command, Reply, Fault, Line, PathChange, ChangesBy, Writes, AnalysesOver, CommandOver, LeavesAlone, LineOver, PathOver, PathsLast, PathsLeave, PathsOver, SaysOver, ServesOver, TaskOver, AreTold, Says, Status, Answered, refusal_status, ◌⊎◌, MatchResult, OutOfMemory, ReadFault, GoesByTexts, Tells, TellsFault, AreFilesOf, ChangesOver, IsAnalysisOver, IsUntoldNth, IsUnread, IsUnreadAt, FindsAll, FindsFiles, Task}
+use Rattle.zeb_program.proofs.Cited.{◌≡◌, arith, inl, inr, ℕ, Bool, List, Vec, ap, map, refl, subst, sym, ◌≢◌, Option, Some, Result, Ok, Err, IfErr, OnErr, OnOk, String, string_bytes, Global, State, Survives, Trees, Directive, ChangesNothing, Format, version_of, Conditions, Refusal, Damaged, Store, Kind, Limits, Holdings, name_bytes, HasLines, IsAnalysed, answer_of, CommitsBy, Endures, TakesFiles, ServesBy, Command, Reply, Fault, Line, ChangesBy, AnalysesOver, LeavesAlone, PathsLast, PathsLeave, PathsOver, ServesOver, TaskOver, AreTold, ◌⊎◌, MatchResult, OutOfMemory, ReadFault, GoesByTexts, Tells, AreFilesOf, ChangesOver, IsAnalysisOver, IsUntoldNth, IsUnread, IsUnreadAt, FindsAll, FindsFiles, Task}
 use Rattle.sqlite.proofs.StateLemmas.{survives_weaker}
 use Rattle.zeb_change.specs.Reading.{NoneFailed}
 use Rattle.zeb_image.specs.Image.{Keeps}
 use Rattle.zeb_image.specs.declared.names.DbName.{DbName}
 use Rattle.zeb_engine.specs.Changing.{ChangesReady, LeavesWhole, LosesNamed}
-use Rattle.zeb_engine.specs.Does.{CommandOverTables}
 use Rattle.zeb_engine.specs.Transactions.{EnduresRefusal, IsDurable, LeavesNoMore}
 use Rattle.zeb_program.specs.declared.faults.Fault.TheVariants as fault
 use Rattle.zeb_program.specs.declared.tasks.Task.TheVariants.{Ask, Change, Analyse}
@@ -22,23 +21,6 @@ alone s = (still s, λ db left. left)
 
 survives_still : (s : State) (Commits : Trees → Type 0) → Survives s s Commits
 survives_still s Commits = record { clean = omega (arith); shield = λ h. h; counts = omega (arith); limit = refl; closes = λ _ is_open. inl is_open; crash = λ _ db left. inl left }
-
--- ---- a command
-
-module _ (format : Format) (c : Conditions) (command : Command) (old new : State) (wrote writes : Option (List ℕ)) (failed : Bool) (Clean : Type 0) where
-  pub refused_over : (refusal : Refusal) (r : Result Status AllocError) → (Clean → ServesCommand c command old new (Err refusal))
-      → (Clean → CommandOverTables format c command old new (Err refusal)) → CommandLasts format c command old new (Err refusal) → (Clean → IsDurable new)
-      → IfOk r (λ status. failed ≡ false → Writes wrote writes (λ bytes. (bytes ≡ refusal_text refusal ++ 10 ∷ []) × (status ≡ refusal_status refusal)))
-      → IfOk r (λ status. failed ≡ false → Clean → Writes wrote writes (λ bytes. CommandOver format c command old bytes status new))
-  refused_over refusal (Err e) serves over lasts durable h = h
-  refused_over refusal (Ok status) serves over lasts durable h = λ sound clean.
-      let w = h sound in
-      (w.0, (Err refusal, w.1.0, w.1.1, (serves clean, over clean, lasts, durable clean)), w.2)
-
-  pub replied_over : (reply : Reply) (bytes : List ℕ) → (Clean → ServesCommand c command old new (Ok reply)) → (Clean → CommandOverTables format c command old new (Ok reply))
-      → CommandLasts format c command old new (Ok reply) → (Clean → IsDurable new) → bytes ≡ reply_text reply → (failed ≡ false → Appends wrote writes bytes)
-      → failed ≡ false → Clean → Writes wrote writes (λ given. CommandOver format c command old given Answered new)
-  replied_over reply bytes serves over lasts durable is grew sound clean = (bytes, (Ok reply, is, refl, (serves clean, over clean, lasts, durable clean)), grew sound)
 
 -- ---- a change by paths
 
@@ -265,44 +247,3 @@ module _ (at : Tells) (format : Format) (c : Conditions) (task : Task) (old new 
       refused : (answer : Result Reply Fault) → OnErr answer (ChangesNothing old new)
       refused (Ok reply) = tt
       refused (Err why) = nothing
-
--- ---- a change by one path
-
-module _ (at : Tells) (format : Format) (c : Conditions) (change : PathChange) (old new : State) (wrote writes : Option (List ℕ)) (failed : Bool) (Clean : Type 0) (named : List (String Global)) where
-  -- what is said of the path as a slice
-  named_over : (result : Result Reply Fault) → named ≡ change.path ∷ [] → ChangesOver at format c change.kind (name_bytes change.database) (map string_bytes named) old new result
-      → ChangesOver at format c change.kind (name_bytes change.database) (string_bytes change.path ∷ []) old new result
-  named_over result is over = subst (λ paths. ChangesOver at format c change.kind (name_bytes change.database) paths old new result) (ap (map string_bytes) is) over
-
-  named_reaches : (result : Result Reply Fault) → named ≡ change.path ∷ [] → Reaches at ⊥ (map string_bytes named) result → Reaches at ⊥ (string_bytes change.path ∷ []) result
-  named_reaches result is reaches = subst (λ paths. Reaches at ⊥ paths result) (ap (map string_bytes) is) reaches
-
-  pub replied_path : (reply : Reply) (bytes : List ℕ) → named ≡ change.path ∷ [] → Reaches at ⊥ (map string_bytes named) (Ok reply)
-      → (Clean → ChangesOver at format c change.kind (name_bytes change.database) (map string_bytes named) old new (Ok reply))
-      → bytes ≡ reply_text reply → (failed ≡ false → Appends wrote writes bytes)
-      → failed ≡ false → Clean → Writes wrote writes (λ given. PathOver at format c change old given Answered new)
-  replied_path reply bytes one reaches over is grew sound clean =
-      let result : Result Reply Fault = Ok reply in
-      (bytes, (result, (is, refl), named_reaches result one reaches, named_over result one (over clean)), grew sound)
-
-  pub refused_path : (why : Fault) (r : Result Status AllocError) → named ≡ change.path ∷ [] → Reaches {T = Reply} at ⊥ (map string_bytes named) (Err why)
-      → (Clean → ChangesOver at format c change.kind (name_bytes change.database) (map string_bytes named) old new (Err why))
-      → IfOk r (λ status. failed ≡ false → Writes wrote writes (λ line. TellsFault why line status))
-      → IfOk r (λ status. failed ≡ false → Clean → Writes wrote writes (λ bytes. PathOver at format c change old bytes status new))
-  refused_path why (Err e) one reaches over tells = tt
-  refused_path why (Ok status) one reaches over tells = λ sound clean.
-      let w = tells sound in
-      let result : Result Reply Fault = Err why in
-      (w.0, (result, w.1, named_reaches result one reaches, named_over result one (over clean)), w.2)
-
--- ---- a line
-
--- what is said of a line that says this
-pub said_over : {S : Type 0} (g : Ghosts S) (at : Tells) (format : Format) (c : Conditions) (number : ℕ) (text : List ℕ) (line : Line) (old new : Held S) (wrote writes : Option (List ℕ)) (failed : Bool) (Clean : Type 0) (r : Result Status AllocError)
-    → Says text line
-    → IfOk r (λ status. failed ≡ false → Clean → Writes wrote writes (λ bytes. SaysOver at format c number line (state g old) bytes status (state g new)))
-    → IfOk r (λ status. failed ≡ false → Clean → Writes wrote writes (λ bytes. LineOver g at format c number text old bytes status new))
-said_over g at format c number text line old new wrote writes failed Clean (Err e) says h = h
-said_over g at format c number text line old new wrote writes failed Clean (Ok status) says h = λ sound clean.
-    let w = h sound clean in
-    (w.0, (line, says, w.1), w.2)

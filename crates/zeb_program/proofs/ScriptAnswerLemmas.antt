@@ -1,5 +1,5 @@
 -- The answers of a script, at each of its ends.
-use Rattle.zeb_program.proofs.Cited.{◌≡◌, ◌≤◌, ◌<◌, length, ℕ, Bool, false, true, List, [], ◌∷◌, ◌++◌, inl, inr, refl, sym, ap, subst, ◌∙◌, arith, Option, Some, None, Result, Ok, Err, IfOk, IfNone, IfSome, IsOk, OnErr, string_bytes, string_len, IsUtf8-string_bytes, AllocError, Appends, Keeps, Held, file_state, over_files, Ghosts, Conditions, Holdings, nothing_yet, Refusal, refusal_text, Directive, IsInput, DividesAt, HasNoDivider, Writes, AnswersBatch, AnswersPart, EachLine, Format, LineOver, LinesOver, LeadsOn, Status, EndsWith, fault_status, refusal_status, status_code, Answered, Failed, IsUtf8-nil, ◌⊎◌, ◌==◌, Tells, profile_of, RunsText, StopsPart, IsOpeningFailure, expected_line, starved_line, unreadable_line, refusal_line, packed_blocks}
+use Rattle.zeb_program.proofs.Cited.{◌≡◌, ◌≤◌, ◌<◌, length, ℕ, Bool, false, true, List, [], ◌∷◌, ◌++◌, inl, inr, refl, sym, ap, subst, ◌∙◌, arith, Option, Some, None, Result, Ok, Err, IfOk, IfNone, IfSome, IsOk, OnErr, string_bytes, string_len, IsUtf8-string_bytes, AllocError, Appends, Keeps, Held, file_state, over_files, Ghosts, Conditions, Holdings, nothing_yet, Refusal, refusal_text, Directive, IsInput, DividesAt, HasNoDivider, Writes, AnswersBatch, AnswersPart, EachLine, Format, LineOver, LinesOver, ShowsBatch, WritesUnless, Status, EndsWith, fault_status, refusal_status, status_code, Answered, Failed, IsUtf8-nil, ◌⊎◌, ◌==◌, Tells, profile_of, RunsText, IsOpeningFailure, expected_line, starved_line, unreadable_line, refusal_line, packed_blocks}
 use Rattle.std.specs.declared.string.String.{String}
 use Rattle.zeb_program.specs.declared.input.TheConstants.{GREATEST_INPUT}
 use Rattle.zeb_profile.specs.declared.faults.ProfileFault.{ProfileFault}
@@ -9,33 +9,33 @@ use Rattle.zeb_program.specs.declared.program.ScriptEnd.{ScriptEnd}
 use Rattle.zeb_program.specs.PrivateEnding.{AnswersAs}
 use Rattle.zeb_program.specs.ScriptAnswers.{AnswersScript, EndsEarly, EndsScript, unreadable, faulty, alone, ran, stopped, silent, AreScriptConditions, AnswersOpened, AnswersStopped, HoldsNothing, MemoryConnection, PartFromNothing, RunsFromNothing, IsUnopened, IsProfileOf, TellsAtMost, fault_line, hint_of}
 use Rattle.zeb_program.proofs.AnswerLemmas.{Appends-nil}
+use Rattle.zeb_program.proofs.ShownLemmas.{runs_text, stops_part}
 
 unopened : (refusal : Refusal) (bytes : List ℕ) (status : Status) → IsOpeningFailure refusal → (bytes ≡ refusal_line refusal) × (status ≡ refusal_status refusal) → IsUnopened bytes status
 unopened refusal bytes status (inl is) said = (inl (said.0 ∙ ap refusal_line is), said.1 ∙ ap refusal_status is)
 unopened refusal bytes status (inr is) said = (inr (said.0 ∙ ap refusal_line is), said.1 ∙ ap refusal_status is)
 
 pub refused_opening : (at : Tells) (failed : Bool) (old new : Option (List ℕ)) (directives : List Directive) (n : ℕ) (batch : List ℕ) (refusal : Refusal) (r : Result Status AllocError) → IsOpeningFailure refusal
-    → IfOk r (λ status. failed ≡ false → Writes old new (λ bytes. (bytes ≡ refusal_text refusal ++ 10 ∷ []) × (status ≡ refusal_status refusal)))
+    → IfOk r (λ status. WritesUnless failed old new (λ bytes. (bytes ≡ refusal_text refusal ++ 10 ∷ []) × (status ≡ refusal_status refusal)))
     → IfOk r (λ status. failed ≡ false → AnswersOpened at directives n batch old new status)
-refused_opening at failed old new directives n batch refusal (Err e) is h = h
-refused_opening at failed old new directives n batch refusal (Ok status) is h = λ sound. let w = h sound in inr (w.0, unopened refusal w.0 status is w.1, w.2)
+refused_opening at failed old new directives n batch refusal (Err e) is w = w
+refused_opening at failed old new directives n batch refusal (Ok status) is w = λ sound. inr (w.0, unopened refusal w.0 status is w.1, w.2 sound)
 
 -- a register that holds nothing yet answers the lines
-pub run_from_nothing : (at : Tells) (c : Conditions) (directives : List Directive) (first last : MemoryConnection) (wrote writes : Option (List ℕ)) (n : ℕ) (batch : List ℕ) (failed : Bool) (Clean : Type 0) (r : Result Status AllocError)
-    → AreScriptConditions directives c → HoldsNothing (file_state first) → Clean
-    → IfOk r (λ status. failed ≡ false → Clean → LeadsOn (file_state first) (file_state last) wrote writes (λ before bytes held. AnswersBatch at.bytes c n batch before bytes status held))
-    → IfOk r (λ status. failed ≡ false → Clean → Writes wrote writes (λ bytes. LinesOver over_files at packed_blocks c n batch first bytes status last))
+pub run_from_nothing : (at : Tells) (c : Conditions) (directives : List Directive) (first last : MemoryConnection) (wrote writes : Option (List ℕ)) (n : ℕ) (batch : List ℕ) (failed : Bool) (r : Result Status AllocError)
+    → AreScriptConditions directives c → HoldsNothing (file_state first) → ShowsBatch over_files at packed_blocks c n batch failed wrote writes first last r
     → IfOk r (λ status. failed ≡ false → RunsFromNothing at directives n batch wrote writes status)
-run_from_nothing at c directives first last wrote writes n batch failed Clean (Err e) under empty clean h over = h
-run_from_nothing at c directives first last wrote writes n batch failed Clean (Ok status) under empty clean h over = λ sound.
-    let w = h sound clean (Some nothing_yet) empty.1 in
+run_from_nothing at c directives first last wrote writes n batch failed (Err e) under empty lines = tt
+run_from_nothing at c directives first last wrote writes n batch failed (Ok status) under empty lines = λ sound.
+    let runs = runs_text over_files at packed_blocks c failed wrote writes first n batch last status sound lines in
+    let w = runs.answers (Some nothing_yet) empty.1 in
     record {
       c = c;
       under = under;
       first = first;
       last = last;
       empty = empty;
-      each = over sound clean;
+      each = runs.over;
       answers = (w.2.0, (w.0, w.2.1), w.2.2);
     }
 
@@ -45,13 +45,12 @@ pub opened_batch : (at : Tells) (directives : List Directive) (wrote writes : Op
 opened_batch at directives wrote writes n batch failed (Err e) h = h
 opened_batch at directives wrote writes n batch failed (Ok status) h = λ sound. inl (h sound)
 
-pub stopped_batch : (at : Tells) (c : Conditions) (directives : List Directive) (first last : MemoryConnection) (wrote writes : Option (List ℕ)) (n : ℕ) (batch : List ℕ) (failed : Bool) (Clean : Type 0) (r : Result Status AllocError)
-    → AreScriptConditions directives c → HoldsNothing (file_state first) → Clean
-    → OnErr r (failed ≡ false → Clean → StopsPart over_files at packed_blocks c n batch wrote writes first last)
+pub stopped_batch : (at : Tells) (c : Conditions) (directives : List Directive) (first last : MemoryConnection) (wrote writes : Option (List ℕ)) (n : ℕ) (batch : List ℕ) (failed : Bool) (r : Result Status AllocError)
+    → AreScriptConditions directives c → HoldsNothing (file_state first) → ShowsBatch over_files at packed_blocks c n batch failed wrote writes first last r
     → OnErr r (failed ≡ false → AnswersStopped at directives n batch wrote writes)
-stopped_batch at c directives first last wrote writes n batch failed Clean (Ok status) under empty clean h = tt
-stopped_batch at c directives first last wrote writes n batch failed Clean (Err e) under empty clean h = λ sound.
-    let part = h sound clean in
+stopped_batch at c directives first last wrote writes n batch failed (Ok status) under empty lines = tt
+stopped_batch at c directives first last wrote writes n batch failed (Err e) under empty lines = λ sound.
+    let part = stops_part over_files at packed_blocks c failed wrote writes first n batch last sound lines in
     let w = part.first.answers (Some nothing_yet) empty.1 in
     let o = part.first.over in
     inl (record {

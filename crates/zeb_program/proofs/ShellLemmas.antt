@@ -1,40 +1,30 @@
--- How far the answers of a shell have come, of an input that tells its bytes.
-use Rattle.zeb_program.proofs.Cited.{◌≡◌, ◌<◌, ◌+◌, ◌∙◌, inr, ℕ, Bool, true, false, List, [], ◌∷◌, length, ap, arith, eqb, ne_eqb, refl, subst, sym, ⊤, Option, Some, None, Result, Ok, Err, IfOk, IfSome, AllocError, Appends, Consumes, IsAtEnd, Keeps, IsUtf8, Appends-kept, State, Conditions, AnswersAsTold, AnswersBatch, bad_line, first_line, after_first_line, whole_first_line, LeadsOn, Status, greater, Answered, Misused}
+-- How far the lines of a shell have come on any tables, of an input that tells its bytes.
+use Rattle.zeb_program.proofs.Cited.{◌≡◌, ◌<◌, ◌+◌, ◌∙◌, inr, ℕ, Bool, true, false, List, [], ◌∷◌, length, ap, arith, eqb, ne_eqb, refl, subst, sym, ⊤, Option, Some, None, Result, Ok, IfSome, Consumes, IsAtEnd, Keeps, IsUtf8, Appends, Appends-kept, Held, state, Ghosts, Conditions, Format, bad_line, LineOver, LineFault, EndsShell, ShowsLine, ShowsShell, WritesUnless, first_line, after_first_line, whole_first_line, Bad, Status, greater, Answered, Misused, Tells}
+use Rattle.zeb_program.proofs.AnswerLemmas.{IsAnswered, answered_line, answered_lines, answered_start}
+use Rattle.zeb_program.proofs.OverLemmas.{alone as untouched}
 use Rattle.zeb_program.proofs.ScriptLemmas.{not_empty}
-use Rattle.zeb_program.proofs.ServingLemmas.{Reaches, bad_line_answer, reaches_start, reaches_line, reaches_end}
 use Rattle.zeb_program.proofs.WholeLineLemmas.{after_whole, first_of_whole, left_after_line, line_is_text, no_line_no_text}
 
 -- ---- one line
 
--- what is said of the first line of what is left of an input
-abbrev pub AnswersNext : (List ℕ → Option (List ℕ)) → Conditions → State → State → Option (List ℕ) → Option (List ℕ) → ℕ → Status → List ℕ → Type 0
-AnswersNext told c old new wrote writes number status left =
-    LeadsOn old new wrote writes (λ before bytes later. AnswersAsTold told c number (first_line left) before bytes status later)
-
 -- bytes that aren't text are no command
-pub no_text_answer : (told : List ℕ → Option (List ℕ)) (c : Conditions) (number : ℕ) (bytes : List ℕ) (old : State) (wrote writes : Option (List ℕ)) (status : Status)
-    → ¬ IsUtf8 bytes → status ≡ Misused → Appends wrote writes (bad_line number) → after_first_line bytes ≡ [] → AnswersNext told c old old wrote writes number status bytes
-no_text_answer told c number bytes old wrote writes status other misused grew alone =
-    bad_line_answer told c number (first_line bytes) old wrote writes status (inr (λ text. other (line_is_text bytes alone text), refl)) misused grew
+pub no_text_over : {S : Type 0} (g : Ghosts S) (at : Tells) (format : Format) (c : Conditions) (number : ℕ) (bytes : List ℕ) (old : Held S) (failed : Bool) (wrote writes : Option (List ℕ)) (status : Status)
+    → ¬ IsUtf8 bytes → status ≡ Misused → (failed ≡ false → Appends wrote writes (bad_line number)) → after_first_line bytes ≡ []
+    → ShowsLine g at format c number (first_line bytes) failed wrote writes old old (Ok status)
+no_text_over g at format c number bytes old failed wrote writes status other misused grew alone =
+    (bad_line number, (Bad, inr (λ text. other (line_is_text bytes alone text), refl), (refl, misused, untouched (state g old))), grew)
 
--- text is answered as its line
-pub text_answer : (told : List ℕ → Option (List ℕ)) (c : Conditions) (number : ℕ) (line bytes : List ℕ) (old new : State) (wrote writes : Option (List ℕ)) (failed : Bool) (Clean : Type 0) (r : Result Status AllocError) → line ≡ first_line bytes
-    → IfOk r (λ status. failed ≡ false → Clean → LeadsOn old new wrote writes (λ before written later. AnswersAsTold told c number line before written status later))
-    → IfOk r (λ status. failed ≡ false → Clean → after_first_line bytes ≡ [] → AnswersNext told c old new wrote writes number status bytes)
-text_answer told c number line bytes old new wrote writes failed Clean (Err e) is h = h
-text_answer told c number line bytes old new wrote writes failed Clean (Ok status) is h = λ sound clean _.
-    subst (λ l. LeadsOn old new wrote writes (λ before written later. AnswersAsTold told c number l before written status later)) is (h sound clean)
+-- a line that was read is the first of what was left
+first_left : (bytes l : List ℕ) → bytes ≡ whole_first_line l → first_line bytes ≡ first_line l
+first_left bytes l is = ap first_line is ∙ first_of_whole l
 
--- a line that was read is the first of what was left, and what is passed on stays what it was
-pub next_answer : (told : List ℕ → Option (List ℕ)) (c : Conditions) (number : ℕ) (status : Status) (bytes : List ℕ) (left : Option (List ℕ)) (old new : State) (wrote mid writes : Option (List ℕ))
-    → IfSome left (λ l. bytes ≡ whole_first_line l) → (after_first_line bytes ≡ [] → AnswersNext told c old new wrote mid number status bytes) → Keeps mid writes
-    → IfSome left (AnswersNext told c old new wrote writes number status)
-next_answer told c number status bytes None old new wrote mid writes is answer kept = tt
-next_answer told c number status bytes (Some l) old new wrote mid writes is answer kept = λ before keeps.
-    let same : first_line bytes ≡ first_line l = ap first_line is ∙ first_of_whole l in
-    let w = answer (ap after_first_line is ∙ after_whole l) before keeps in
-    let here = subst (λ line. AnswersAsTold told c number line before w.2.0 status w.0) same w.2.1 in
-    (w.0, w.1, (w.2.0, here, Appends-kept wrote mid writes w.2.0 w.2.2 kept))
+pub next_first : (P : List ℕ → Type 0) (bytes : List ℕ) (left : Option (List ℕ)) → IfSome left (λ l. bytes ≡ whole_first_line l) → (after_first_line bytes ≡ [] → P (first_line bytes)) → IfSome left (λ l. P (first_line l))
+next_first P bytes None is said = tt
+next_first P bytes (Some l) is said = subst P (first_left bytes l is) (said (ap after_first_line is ∙ after_whole l))
+
+-- and what is passed on stays what it was
+pub passed_on : (was failed : Bool) (wrote mid writes : Option (List ℕ)) (P : List ℕ → Type 0) → (failed ≡ false → was ≡ false) → (failed ≡ false → Keeps mid writes) → WritesUnless was wrote mid P → WritesUnless failed wrote writes P
+passed_on was failed wrote mid writes P sound kept w = (w.0, w.1, λ whole. Appends-kept wrote mid writes w.0 (w.2 (sound whole)) (kept whole))
 
 -- a line has a byte, and there is none at the end
 pub next_some : (bytes : List ℕ) (left : Option (List ℕ)) → IfSome left (λ l. bytes ≡ whole_first_line l) → false ≡ eqb (length bytes) 0 → IfSome left (λ l. 0 < length l)
@@ -56,29 +46,46 @@ next_taken bytes (Some l) later is taken = subst (λ line. Consumes (Some l) lat
 
 -- ---- the lines so far
 
--- Of an input that told its bytes first, and has these left: the lines up to these are answered.
-abbrev pub Serves : (List ℕ → Option (List ℕ)) → Conditions → State → State → Option (List ℕ) → Option (List ℕ) → Option (List ℕ) → Option (List ℕ) → ℕ → Status → Type 0
-Serves told c old now wrote writes None left n greatest = ⊤
-Serves told c old now wrote writes (Some text) None n greatest = ⊥
-Serves told c old now wrote writes (Some text) (Some rest) n greatest =
-    Reaches told c old now wrote writes 0 text n rest greatest
+-- of what is left where it is told, by any of it
+pub each_left : (P : List ℕ → Type 0) (left : Option (List ℕ)) → ((rest : List ℕ) → P rest) → IfSome left P
+each_left P None so = tt
+each_left P (Some rest) so = so rest
 
-pub serves_start : (told : List ℕ → Option (List ℕ)) (c : Conditions) (old : State) (wrote : Option (List ℕ)) (first : Option (List ℕ)) → Serves told c old old wrote wrote first first 0 Answered
-serves_start told c old wrote None = tt
-serves_start told c old wrote (Some text) = reaches_start told c old wrote 0 text
+pub both_left : (P Q : List ℕ → Type 0) (left : Option (List ℕ)) → IfSome left P → IfSome left Q → IfSome left (λ rest. P rest × Q rest)
+both_left P Q None p q = tt
+both_left P Q (Some rest) p q = (p, q)
 
-pub serves_line : (told : List ℕ → Option (List ℕ)) (c : Conditions) (old now next : State) (wrote mid writes : Option (List ℕ)) (first left later : Option (List ℕ)) (n : ℕ) (greatest status top : Status)
-    → top ≡ greater greatest status → IfSome left (λ l. 0 < length l) → IfSome left (λ l. Consumes (Some l) later (whole_first_line l))
-    → IfSome left (AnswersNext told c now next mid writes (n + 1) status) → Serves told c old now wrote mid first left n greatest → Serves told c old next wrote writes first later (n + 1) top
-serves_line told c old now next wrote mid writes None left later n greatest status top is_max some taken step far = tt
-serves_line told c old now next wrote mid writes (Some text) None later n greatest status top is_max some taken step far = absurd far
-serves_line told c old now next wrote mid writes (Some text) (Some l) None n greatest status top is_max some taken step far = absurd taken
-serves_line told c old now next wrote mid writes (Some text) (Some l) (Some rest) n greatest status top is_max some taken step far =
-    reaches_line told c old now next wrote mid writes 0 text n l (first_line l) rest greatest status top some refl (left_after_line l rest taken) is_max far step
+-- at the end nothing is left
+pub none_left : (P : List ℕ → Type 0) (left : Option (List ℕ)) → IsAtEnd left → P [] → IfSome left P
+none_left P None end so = tt
+none_left P (Some rest) end so = subst P (sym end) so
 
-pub serves_end : (told : List ℕ → Option (List ℕ)) (c : Conditions) (old now : State) (wrote writes : Option (List ℕ)) (first left : Option (List ℕ)) (n : ℕ) (greatest : Status)
-    → IsAtEnd left → Serves told c old now wrote writes first left n greatest
-    → IfSome first (λ text. LeadsOn old now wrote writes (λ before bytes last. AnswersBatch told c 0 text before bytes greatest last))
-serves_end told c old now wrote writes None left n greatest end far = tt
-serves_end told c old now wrote writes (Some text) None n greatest end far = absurd far
-serves_end told c old now wrote writes (Some text) (Some rest) n greatest end far = reaches_end told c old now wrote writes 0 text n rest greatest end far
+module _ {S : Type 0} (g : Ghosts S) (at : Tells) (format : Format) (c : Conditions) where
+  -- of an input that told its bytes first, and has these left: the lines up to these are answered
+  abbrev pub Goes : Bool → Option (List ℕ) → Option (List ℕ) → Option (List ℕ) → Option (List ℕ) → ℕ → Status → Held S → Held S → Type 0
+  Goes failed wrote writes None left n greatest old now = ⊤
+  Goes failed wrote writes (Some text) None n greatest old now = ⊥
+  Goes failed wrote writes (Some text) (Some rest) n greatest old now = IsAnswered (LineOver g at format c) failed wrote writes 0 text old n rest greatest now
+
+  pub goes_start : (failed : Bool) (wrote first : Option (List ℕ)) (old : Held S) → Goes failed wrote wrote first first 0 Answered old old
+  goes_start failed wrote None old = tt
+  goes_start failed wrote (Some text) old = answered_start (LineOver g at format c) failed wrote 0 text old
+
+  pub goes_line : (was failed : Bool) (wrote mid writes first left later : Option (List ℕ)) (n : ℕ) (greatest status top : Status) (old now next : Held S)
+      → (failed ≡ false → was ≡ false) → top ≡ greater greatest status → IfSome left (λ l. 0 < length l) → IfSome left (λ l. Consumes (Some l) later (whole_first_line l))
+      → IfSome left (λ l. WritesUnless failed mid writes (λ bytes. LineOver g at format c (n + 1) (first_line l) now bytes status next))
+      → Goes was wrote mid first left n greatest old now → Goes failed wrote writes first later (n + 1) top old next
+  goes_line was failed wrote mid writes None left later n greatest status top old now next sound is_max some taken step far = tt
+  goes_line was failed wrote mid writes (Some text) None later n greatest status top old now next sound is_max some taken step far = absurd far
+  goes_line was failed wrote mid writes (Some text) (Some l) None n greatest status top old now next sound is_max some taken step far = absurd taken
+  goes_line was failed wrote mid writes (Some text) (Some l) (Some rest) n greatest status top old now next sound is_max some taken step far =
+      answered_line (LineOver g at format c) was failed wrote mid writes 0 text old n l (first_line l) rest greatest status top now next sound some refl (left_after_line l rest taken) is_max far step
+
+  -- the shell ends behind them
+  pub goes_end : (failed : Bool) (wrote writes first left later : Option (List ℕ)) (n : ℕ) (greatest : Status) (old now new : Held S) (result : Result Status LineFault)
+      → IfSome left (λ rest. EndsShell g at format c later failed rest greatest now new result) → Goes failed wrote writes first left n greatest old now
+      → IfSome first (λ text. ShowsShell g at format c text later failed wrote writes old new result)
+  goes_end failed wrote writes None left later n greatest old now new result ends far = tt
+  goes_end failed wrote writes (Some text) None later n greatest old now new result ends far = absurd far
+  goes_end failed wrote writes (Some text) (Some rest) later n greatest old now new result ends far =
+      record { rest = rest; last = now; greatest = greatest; first = answered_lines (LineOver g at format c) failed wrote writes 0 text old n rest greatest now far; ends = ends }

@@ -1,53 +1,10 @@
 -- What is said of the lines of a shell at its end.
-use Rattle.zeb_program.proofs.Cited.{◌≡◌, ◌⊎◌, ◌↔◌, inl, inr, ℕ, Bool, true, false, List, refl, subst, sym, ⊤, Option, Some, None, Result, Ok, Err, IfErr, IfSome, Appends, IsAtEnd, Keeps, Keeps-refl, Held, state, Ghosts, Conditions, Holdings, Format, AnswersAsTold, AnswersLines, EachLine, EndsInLine, is_failed_read, LineOver, LongLine, FailedRead, LineFault, Unreadable, Status, Failed, Tells, KeepsUnread, RunsText, ServesText, StopsText, all_served, first_served, unread_lines}
-use Rattle.zeb_program.specs.PrivateShell.{ComesTo}
+use Rattle.zeb_program.proofs.Cited.{AllocError, Memory, ◌≡◌, ◌⊎◌, ◌↔◌, inl, inr, ℕ, Bool, true, false, List, refl, subst, sym, ⊤, Option, Some, None, Result, Ok, Err, IfSome, Appends, IsAtEnd, Keeps, Keeps-refl, Held, Ghosts, Conditions, Holdings, Format, AnswersLines, EachLine, is_failed_read, LineOver, LongLine, FailedRead, LineFault, Unreadable, Status, Failed, Tells, RunsText, ServesText, StopsText, all_served, first_served, unread_lines}
+use Rattle.zeb_program.specs.PrivateShell.{ComesTo, TellsInput}
 use Rattle.zeb_program.specs.declared.line_input.InputCause.{InputCause}
-use Rattle.zeb_program.proofs.AnswerLemmas.{answered_lines}
 use Rattle.zeb_program.proofs.ScriptAnswerLemmas.{RunsText-kept, Writes-kept}
-use Rattle.zeb_program.proofs.ShellLemmas.{Serves, serves_end}
-use Rattle.zeb_program.proofs.ShellOverLemmas.{Goes, goes_end}
 
 module _ {S : Type 0} (g : Ghosts S) (at : Tells) (format : Format) (c : Conditions) where
-  -- all lines are answered
-  pub text_done : (wrote writes first left : Option (List ℕ)) (n : ℕ) (greatest : Status) (old now : Held S) → IsAtEnd left
-      → Goes (LineOver g at format c) wrote writes first left n greatest old now → Serves at.bytes c (state g old) (state g now) wrote writes first left n greatest
-      → IfSome first (λ text. RunsText g at format c 0 text wrote writes greatest old now)
-  text_done wrote writes None left n greatest old now end goes serves = tt
-  text_done wrote writes (Some text) left n greatest old now end goes serves = record {
-    over = goes_end (LineOver g at format c) wrote writes (Some text) left n greatest old now end goes;
-    answers = serves_end at.bytes c (state g old) (state g now) wrote writes (Some text) left n greatest end serves;
-  }
-
-  -- a line can't be read, or isn't answered
-  pub text_stopped : (why : LineFault) (wrote writes first left later : Option (List ℕ)) (n : ℕ) (greatest : Status) (old now new : Held S) → IfSome left (λ rest. KeepsUnread g at format c why rest now new) → IfSome left (λ rest. EndsInLine 16777216 why rest later)
-      → Goes (LineOver g at format c) wrote writes first left n greatest old now → Serves at.bytes c (state g old) (state g now) wrote writes first left n greatest
-      → IfSome first (λ text. StopsText g at format c why text later wrote writes old new)
-  text_stopped why wrote writes None left later n greatest old now new keeps ends goes serves = tt
-  text_stopped why wrote writes (Some text) None later n greatest old now new keeps ends goes serves = absurd goes
-  text_stopped why wrote writes (Some text) (Some rest) later n greatest old now new keeps ends goes serves = record {
-    rest = rest;
-    last = now;
-    first = record {
-      over = let w = answered_lines (LineOver g at format c) wrote writes 0 text old n rest greatest now goes in (w.0, (greatest, w.1), w.2);
-      answers = λ before held.
-          let here = serves before held in
-          let w = answered_lines (AnswersAsTold at.bytes c) wrote writes 0 text before n rest greatest here.0 here.2 in
-          (w.0, (greatest, here.0, w.1), w.2);
-    };
-    ends = ends;
-    keeps = keeps;
-  }
-
-  -- the same, by what the shell is given for it
-  pub text_failure : {T : Type 0} (r : Result T LineFault) (why : LineFault) (wrote writes first left later : Option (List ℕ)) (n : ℕ) (greatest : Status) (old now new : Held S) (failed : Bool) (Clean : Type 0)
-      → IfErr r (λ given. given ≡ why) → (Clean → IfSome left (λ rest. KeepsUnread g at format c why rest now new)) → IfSome left (λ rest. EndsInLine 16777216 why rest later) → (failed ≡ false → Clean → Goes (LineOver g at format c) wrote writes first left n greatest old now)
-      → (failed ≡ false → Clean → Serves at.bytes c (state g old) (state g now) wrote writes first left n greatest)
-      → IfErr r (λ given. failed ≡ false → Clean → IfSome first (λ text. StopsText g at format c given text later wrote writes old new))
-  text_failure (Ok x) why wrote writes first left later n greatest old now new failed Clean is keeps ends goes serves = tt
-  text_failure (Err given) why wrote writes first left later n greatest old now new failed Clean is keeps ends goes serves = λ sound clean.
-      subst (λ it. IfSome first (λ text. StopsText g at format c it text later wrote writes old new)) (sym is)
-      (text_stopped why wrote writes first left later n greatest old now new (keeps clean) ends (goes sound clean) (serves sound clean))
-
   -- ---- what is passed on stays what it was
 
   pub StopsText-kept : (why : LineFault) (text : List ℕ) (left old mid new : Option (List ℕ)) (first last : Held S) → Keeps mid new
@@ -85,6 +42,12 @@ module _ {S : Type 0} (g : Ghosts S) (at : Tells) (format : Format) (c : Conditi
       → IfSome first (λ text. ServesText g at format c text left failed wrote writes fault_old fault_new Failed old new)
   served_part cause None left failed old new wrote writes fault_old fault_new stops is grew = tt
   served_part cause (Some text) left failed old new wrote writes fault_old fault_new stops is grew = first_served cause stops is grew refl
+
+-- what is told of its end stays so where more may be written
+pub input_told : (answered : Result Status LineFault) (was failed : Bool) (old new : Option (List ℕ)) (r : Result Status AllocError) → (failed ≡ false → was ≡ false) → TellsInput answered was old new r → TellsInput answered failed old new r
+input_told (Ok top) was failed old new r sound told = told
+input_told (Err (Unreadable cause)) was failed old new r sound (is, wrote) = (is, λ whole. wrote (sound whole))
+input_told (Err Memory) was failed old new r sound told = told
 
 -- it is so of a fault that is given
 pub stops_line : (Line : Status → Type 0) (End : Type 0) (Stop : LineFault → Type 0) (r : Result (Option Status) LineFault) (why : LineFault) → r ≡ Err why → Stop why → ComesTo Line End Stop r

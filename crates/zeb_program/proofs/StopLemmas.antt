@@ -1,12 +1,12 @@
 -- What is written where memory runs out for the program itself, while a batch or a shell is run.
-use Rattle.zeb_program.proofs.Cited.{Held, ◌≡◌, ◌⊎◌, ℕ, Bool, false, List, refl, subst, sym, Keeps-refl, Keeps-trans, AllocError, Global, Conditions, Holdings, Tells, Closed, Directive, AnswersLines, EachLine, TellsLeft, StopsPart, StopsText, LineOver, IsOpeningFault, OpensUnder, StopsIn, StopsServing, TakesIn, HasStore, LacksStore, Places, AnswersStopped, AreConditionsIn, BeginsRegister, IsText, ReadsAt, StopsBatch, batch_silent, batch_part, StopsOpening, not_read, StopsLines, part_on_store, part_in_memory, no_line, StopsShell, shell_silent, shell_part, Cause, Fault, Starved, Status, Format, Unsaid}
+use Rattle.zeb_program.proofs.Cited.{Held, ◌≡◌, ◌⊎◌, ℕ, Bool, false, List, refl, subst, sym, Keeps-refl, Keeps-trans, AllocError, Global, Conditions, Holdings, Tells, Closed, Directive, AnswersLines, EachLine, TellsLeft, StopsPart, StopsText, LineOver, IsOpeningFault, HasStore, LacksStore, Places, AnswersStopped, BeginsRegister, IsText, ReadsAt, StopsBatch, batch_silent, batch_part, StopsOpening, not_read, StopsLines, part_on_store, part_in_memory, no_line, StopsShell, shell_silent, shell_part, Cause, Fault, Starved, Status, Format, Unsaid}
 use Rattle.std.specs.Prelude.{IfSome, Option, None, Result, Ok, Err, OnErr, String}
 use Rattle.std.specs.Io.KnownBytes.{Keeps}
 use Rattle.sqlite.specs.Store.{Ghosts}
 use Rattle.zeb_program.specs.declared.faults.Fault.TheVariants as fault
 use Rattle.zeb_program.proofs.ScriptAnswerLemmas.{AnswersStopped-kept, Writes-kept}
 use Rattle.zeb_program.proofs.ShellTextLemmas.{StopsText-kept}
-use Rattle.zeb_program.proofs.WordRunLemmas.{TellsClosed-kept, TellsLeft-kept, from_kept, from_taken, some_kept}
+use Rattle.zeb_program.proofs.WordRunLemmas.{TellsClosed-kept, TellsLeft-kept, from_kept, some_kept}
 
 -- what is the same keeps what it holds
 kept_by : {T : Type 0} (shows : T → Option (List ℕ)) (old new : T) → new ≡ old → Keeps (shows old) (shows new)
@@ -14,30 +14,13 @@ kept_by shows old new same = subst (λ t. Keeps (shows old) (shows t)) (sym same
 
 -- ---- a batch
 
--- its lines, on the register in the store
-part_kept : {S : Type 0} (at : Places S) (format : Format) (profile : List Directive) (text : List ℕ) (c : Conditions) (held : Held S) (n : ℕ) (old new fault_old fault_new : Option (List ℕ))
-    → n ≡ 0 → HasStore at profile ⊎ BeginsRegister text → AreConditionsIn format profile c → TakesIn at Unsaid format profile held
-    → StopsIn at.store at.leaves at.sees format c n text held old new fault_old fault_new → StopsLines at profile text old new fault_old fault_new
-part_kept at format profile text c held n old new fault_old fault_new first may under takes stops =
-    let r = subst (λ k. StopsIn at.store at.leaves at.sees format c k text held old new fault_old fault_new) first stops in
-    let whole = r.1 in
-    part_on_store format c r.0 under may (from_taken at Unsaid format profile r.0 held whole.last (StopsPart at.store at.sees format c 0 text old new) takes whole.clean whole.lines whole.ends) whole.closes
-
-pub stop_kept : {S : Type 0} (at : Places S) (format : Format) (profile : List Directive) (text : List ℕ) (c : Conditions) (held : Held S) (n : ℕ) (old new fault_old fault_new : Option (List ℕ)) (failed fault_failed : Bool) (r : Result Status AllocError)
-    → n ≡ 0 → HasStore at profile ⊎ BeginsRegister text → AreConditionsIn format profile c → TakesIn at Unsaid format profile held
-    → OnErr r (failed ≡ false → fault_failed ≡ false → StopsIn at.store at.leaves at.sees format c n text held old new fault_old fault_new)
-    → OnErr r (failed ≡ false → fault_failed ≡ false → StopsLines at profile text old new fault_old fault_new)
-stop_kept at format profile text c held n old new fault_old fault_new failed fault_failed (Ok status) first may under takes stops = tt
-stop_kept at format profile text c held n old new fault_old fault_new failed fault_failed (Err e) first may under takes stops = λ sound quiet.
-    part_kept at format profile text c held n old new fault_old fault_new first may under takes (stops sound quiet)
-
 -- on one in memory
-pub stop_none : {S T : Type 0} (at : Places S) (profile : List Directive) (text : List ℕ) (n : ℕ) (old new : Option (List ℕ)) (shows : T → Option (List ℕ)) (fault_old fault_new : T) (failed fault_failed : Bool) (r : Result Status AllocError)
-    → n ≡ 0 → LacksStore at profile → ¬ BeginsRegister text → at.untouched → OnErr r (fault_new ≡ fault_old) → OnErr r (failed ≡ false → AnswersStopped at.sees profile n text old new)
+pub stop_none : {S T : Type 0} (at : Places S) (profile : List Directive) (text : List ℕ) (old new : Option (List ℕ)) (shows : T → Option (List ℕ)) (fault_old fault_new : T) (failed fault_failed : Bool) (r : Result Status AllocError)
+    → LacksStore at profile → ¬ BeginsRegister text → at.untouched → OnErr r (fault_new ≡ fault_old) → OnErr r (failed ≡ false → AnswersStopped at.sees profile 0 text old new)
     → OnErr r (failed ≡ false → fault_failed ≡ false → StopsLines at profile text old new (shows fault_old) (shows fault_new))
-stop_none at profile text n old new shows fault_old fault_new failed fault_failed (Ok status) first lacks unmade still silent stopped = tt
-stop_none at profile text n old new shows fault_old fault_new failed fault_failed (Err e) first lacks unmade still silent stopped = λ sound _.
-    part_in_memory lacks unmade still (kept_by shows fault_old fault_new silent) (subst (λ k. AnswersStopped at.sees profile k text old new) first (stopped sound))
+stop_none at profile text old new shows fault_old fault_new failed fault_failed (Ok status) lacks unmade still silent stopped = tt
+stop_none at profile text old new shows fault_old fault_new failed fault_failed (Err e) lacks unmade still silent stopped = λ sound _.
+    part_in_memory lacks unmade still (kept_by shows fault_old fault_new silent) (stopped sound)
 
 -- or none is opened
 pub stop_unopened : {S : Type 0} (at : Places S) (profile : List Directive) (text : List ℕ) (old fault_old fault_new : Option (List ℕ)) (why : Fault) (cause : Option Cause) (closed : Closed) (failed fault_failed : Bool) (r : Result Status AllocError)
@@ -61,22 +44,6 @@ stop_unread at config given old shows fault_old fault_new failed fault_failed (O
 stop_unread at config given old shows fault_old fault_new failed fault_failed (Err e) still silent = λ _ _. batch_silent still (Keeps-refl old) (kept_by shows fault_old fault_new silent)
 
 -- ---- a shell
-
-serving_kept : {S : Type 0} (at : Places S) (config : String Global) (format : Format) (c : Conditions) (held : Held S) (given left old new fault_old fault_new : Option (List ℕ))
-    → OpensUnder at config format c held → StopsServing at.store at.leaves at.sees format c given left held old new fault_old fault_new → StopsShell at config given left old new fault_old fault_new
-serving_kept at config format c held given left old new fault_old fault_new under s =
-    let takes = under.3 in
-    let whole = s.1 in
-    shell_part under.0 format c s.0 under.1 under.2
-    (from_taken at Unsaid format under.0 s.0 held whole.last (λ first last. IfSome given (λ text. StopsText at.store at.sees format c Starved text left old new first last)) takes whole.clean whole.lines whole.ends)
-    whole.closes
-
-pub stop_serving : {S : Type 0} (at : Places S) (config : String Global) (format : Format) (c : Conditions) (held : Held S) (given left old new fault_old fault_new : Option (List ℕ)) (failed fault_failed : Bool) (r : Result Status AllocError)
-    → OpensUnder at config format c held → OnErr r (failed ≡ false → fault_failed ≡ false → StopsServing at.store at.leaves at.sees format c given left held old new fault_old fault_new)
-    → OnErr r (failed ≡ false → fault_failed ≡ false → StopsShell at config given left old new fault_old fault_new)
-stop_serving at config format c held given left old new fault_old fault_new failed fault_failed (Ok status) under stops = tt
-stop_serving at config format c held given left old new fault_old fault_new failed fault_failed (Err e) under stops = λ sound quiet.
-    serving_kept at config format c held given left old new fault_old fault_new under (stops sound quiet)
 
 pub stop_unserved : {S : Type 0} (at : Places S) (config : String Global) (given old fault_old fault_new : Option (List ℕ)) (why : Fault) (cause : Option Cause) (closed : Closed) (failed fault_failed : Bool) (r : Result Status AllocError)
     → StopsOpening at config why cause closed → OnErr r (fault_failed ≡ false → TellsLeft fault_old fault_new closed)

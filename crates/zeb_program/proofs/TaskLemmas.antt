@@ -1,26 +1,30 @@
 -- What a task is answered.
-use Rattle.zeb_program.proofs.Cited.{State, ◌≡◌, ◌⊎◌, [], ap, inl, inr, ℕ, List, map, refl, subst, sym, Vec, Global, Conditions, Refusal, Kind, IsAnalysed, IsFailure, answer_of, GoesByTexts, IsReadyFor, IsRefusedOver, KeepsText, ServesCommand, Command, Reply, Holdings, nothing_yet, name_bytes, ChangesBy, AnalysesOver, IsAnalysisOver, IsRefusedUnbegun, IsUntoldNth, OverNothing, TaskOver, IsUnread, HoldsNothing, AnswersFrom, ServesTask, AnalysesFiles, AnswersCommand, AreTold, ReadsWhole, paths_of, FindsAll, FindsFiles, Fault, Served, Task, Format, version_of}
-use Rattle.std.specs.Prelude.{⊤, codes, IfErr, Option, Result, Ok, Err, String, string_bytes}
+use Rattle.zeb_program.proofs.Cited.{State, ChangesNothing, ServesOver, ◌≡◌, ◌⊎◌, [], ap, inl, inr, ℕ, List, map, refl, subst, sym, Vec, Global, Conditions, Refusal, Kind, IsAnalysed, IsFailure, answer_of, GoesByTexts, IsReadyFor, IsRefusedOver, KeepsText, Command, Reply, Holdings, nothing_yet, AnalysesOver, IsAnalysisOver, IsRefusedUnbegun, IsUntoldNth, OverNothing, TaskOver, IsUnread, HoldsNothing, AnswersFrom, ServesTask, AnalysesFiles, AnswersCommand, AreTold, ReadsWhole, paths_of, FindsAll, FindsFiles, Fault, Served, Task, Format, version_of}
+use Rattle.std.specs.Prelude.{⊤, codes, IfErr, Result, Ok, Err, String, string_bytes}
 use Rattle.zeb_change.specs.declared.refusals.Refusal.TheVariants.{Damaged, Memory as OutOfMemory, NotInitialised, OldFormat, ProfileChanged, ReadFault, Store}
 use Rattle.zeb_image.specs.Image.{Keeps}
 use Rattle.zeb_paths.specs.Walks.{Tells, at_end}
 use Rattle.zeb_image.specs.declared.names.DbName.{DbName}
 use Rattle.zeb_engine.proofs.Ready.{none_there}
-use Rattle.zeb_program.proofs.OverLemmas.{given}
+use Rattle.zeb_engine.proofs.ServesLemmas.{keeps_still}
 use Rattle.zeb_program.specs.FaultAnswers.{GivesAnswer, IsUnreadWhole, IsUnreadable, NamesMet, Reaches}
 use Rattle.zeb_program.specs.declared.faults.Fault.TheVariants as fault
 use Rattle.zeb_program.specs.declared.tasks.Task.TheVariants.{Ask, Change, Analyse}
 
 -- ---- one command
 
-pub given_command : (c : Conditions) (order : Command) (old new : State) (r : Result Reply Refusal) → ServesCommand c order old new r → AnswersFrom old new (given r) (AnswersCommand c order)
-given_command c order old new (Ok reply) serves before keeps = let served = serves before keeps in (served.0, (served.0, served.1, refl), served.2)
-given_command c order old new (Err refusal) serves before keeps = let served = serves before keeps in (served.0, (served.0, served.1, refl), served.2)
+-- what is said of its answer on any tables is said of it on those that keep what a register holds
+command_serves : (format : Format) (c : Conditions) (order : Command) (old new : State) (r : Result Reply Fault) → GivesAnswer (ServesOver format c order old new) r → AnswersFrom old new r (AnswersCommand c order)
+command_serves format c order old new (Ok reply) over before keeps = let served = over.0 before keeps in (served.0, (served.0, served.1, refl), served.2)
+command_serves format c order old new (Err (fault.Refused why)) over before keeps = let served = over.0 before keeps in (served.0, (served.0, served.1, refl), served.2)
+command_serves format c order old new (Err fault.Memory) over before keeps = tt
+command_serves format c order old new (Err (fault.Profile named why)) over before keeps = absurd over
+command_serves format c order old new (Err (fault.Unreadable path)) over before keeps = absurd over
 
 -- ---- an analysis
 
--- what is said of the answer to an analysis on any tables is said of it on those that keep what a register holds
-module _ (c : Conditions) (at : Tells) (paths files : List (List ℕ)) (known : AreTold at.bytes paths files) where
+-- so it is of an analysis
+module _ (c : Conditions) (at : Tells) (paths files : List (List ℕ)) (known : AreTold at.bytes paths files) (old new : State) (still : ChangesNothing old new) where
   analysed : (answer : Result Reply Refusal) (before : Holdings) → IsAnalysisOver at c.profile c.limits.records paths answer → AnalysesFiles c files before answer before
   analysed answer before over = by over.analysed
     where
@@ -28,34 +32,21 @@ module _ (c : Conditions) (at : Tells) (paths files : List (List ℕ)) (known : 
       by (inl is) = inl (subst (λ texts. IsAnalysed c.profile c.limits.records texts (answer_of answer)) (over.these files known) is, refl)
       by (inr is) = inr (subst (λ (it : Result Reply Refusal). IsFailure (answer_of it)) (sym is) (inr refl), refl)
 
-  pub analysed_files : (held : State) (r : Result Reply Fault) → AnalysesOver at c.profile c.limits.records paths r → AnswersFrom held held r (AnalysesFiles c files) ⊎ IsUnreadWhole at.bytes r
-  analysed_files held r (inl unread) = inr unread
-  analysed_files held (Ok reply) (inr over) = inl (λ before keeps. (before, analysed (Ok reply) before over, keeps))
-  analysed_files held (Err (fault.Refused refusal)) (inr over) = inl (λ before keeps. (before, analysed (Err refusal) before over, keeps))
-  analysed_files held (Err fault.Memory) (inr over) = inl (λ before keeps. tt)
-  analysed_files held (Err (fault.Profile named why)) (inr over) = absurd over
-  analysed_files held (Err (fault.Unreadable path)) (inr over) = absurd over
+  analysis_serves : (r : Result Reply Fault) → AnalysesOver at c.profile c.limits.records paths r → AnswersFrom old new r (AnalysesFiles c files) ⊎ (⊤ × IsUnreadWhole at.bytes r)
+  analysis_serves r (inl unread) = inr (tt, unread)
+  analysis_serves (Ok reply) (inr over) = inl (λ before keeps. (before, analysed (Ok reply) before over, keeps_still before old new still keeps))
+  analysis_serves (Err (fault.Refused refusal)) (inr over) = inl (λ before keeps. (before, analysed (Err refusal) before over, keeps_still before old new still keeps))
+  analysis_serves (Err fault.Memory) (inr over) = inl (λ before keeps. tt)
+  analysis_serves (Err (fault.Profile named why)) (inr over) = absurd over
+  analysis_serves (Err (fault.Unreadable path)) (inr over) = absurd over
 
 -- ---- a task
 
-module _ (told : List ℕ → Option (List ℕ)) (c : Conditions) (task : Task) (old new : State) (r : Result Reply Fault) where
-  pub asked_task : (order : Command) → task ≡ Ask order → AnswersFrom old new r (AnswersCommand c order) → ServesTask told c task old new r
-  asked_task order is gives = subst (λ t. ServesTask told c t old new r) (sym is) (λ files known. inl gives)
-
-  -- the paths as a slice are those of the task
-  pub changed_task : (kind : Kind) (database : DbName) (paths : Vec (String Global) Global) (named : List (String Global)) → task ≡ Change kind database paths → named ≡ paths.items
-      → ((files : List (List ℕ)) → AreTold told (map string_bytes named) files → AnswersFrom old new r (ChangesBy c kind (name_bytes database) files)) → ServesTask told c task old new r
-  changed_task kind database paths named is same gives = subst (λ t. ServesTask told c t old new r) (sym is)
-      (λ files known. inl (gives files (subst (λ items. AreTold told (map string_bytes items) files) (sym same) known)))
-
-  pub analysed_task : (paths : Vec (String Global) Global) (named : List (String Global)) → task ≡ Analyse paths → named ≡ paths.items
-      → ((files : List (List ℕ)) → AreTold told (map string_bytes named) files → AnswersFrom old new r (AnalysesFiles c files) ⊎ IsUnreadWhole told r) → ServesTask told c task old new r
-  analysed_task paths named is same gives = subst (λ t. ServesTask told c t old new r) (sym is)
-      (λ files known. or_unread files (gives files (subst (λ items. AreTold told (map string_bytes items) files) (sym same) known)))
-    where
-      or_unread : (files : List (List ℕ)) → AnswersFrom old new r (AnalysesFiles c files) ⊎ IsUnreadWhole told r → AnswersFrom old new r (AnalysesFiles c files) ⊎ (Unit {0} × IsUnreadWhole told r)
-      or_unread files (inl h) = inl h
-      or_unread files (inr h) = inr (tt, h)
+-- and of each task, where the bytes of the files at its paths are told
+pub task_serves : (at : Tells) (format : Format) (c : Conditions) (task : Task) (old new : State) (r : Result Reply Fault) → TaskOver at format c task old new r → ServesTask at.bytes c task old new r
+task_serves at format c (Ask command) old new r over files known = inl (command_serves format c command old new r over.answer)
+task_serves at format c (Change kind database paths) old new r over files known = inl (over.answer.leaves.serves files (inl known))
+task_serves at format c (Analyse paths) old new r over files known = analysis_serves c at (map string_bytes paths.items) files known old new (over.reads tt).0 r over.answer
 
 -- ---- the path that can't be read
 

@@ -1,10 +1,9 @@
 -- Which lines are among what is told on the fault output, unless a write to it has failed.
-use Rattle.zeb_program.proofs.Cited.{Held, AllocError, Global, Closed, Writes, TellsClosed, TellsLeft, refusal_line, TellsOrStarves, ClosesAloud, EndsSession, Grows, Places, fault_status, refusal_status, IsToldSince, TellsUnanswered, StopsTask, Cause, Fault, Status, Failed, Task, on_err, LayoutChoice}
+use Rattle.zeb_program.proofs.Cited.{AllocError, Global, Closed, Writes, TellsClosed, TellsLeft, refusal_line, TellsOrStarves, Grows, Places, fault_status, refusal_status, IsToldSince, TellsUnanswered, StopsTask, Cause, Fault, Status, Failed, Task, on_err, LayoutChoice}
 use Rattle.std.proofs.Common.{◌≡◌, ◌∙◌, ℕ, Bool, true, false, List, [], ◌++◌, ap, append-nil, append_assoc, inl, inr, refl, subst, sym}
 use Rattle.std.specs.Prelude.{IfOk, IsErr, OnErr, Option, Result, Ok, Err, String, string_bytes}
 use Rattle.std.specs.Io.KnownBytes.{Appends, Keeps}
 use Rattle.std.proofs.KnownBytes.{Appends-kept, Appends-nil, Appends-trans}
-use Rattle.sqlite.specs.Store.{Ghosts}
 use Rattle.zeb_program.specs.FaultLines.{TellsCaused, TellsFault, cause_lines, left_lines, profile_line, register_lines, unclosed_lines, unreadable_path}
 use Rattle.zeb_program.specs.declared.faults.Fault.TheVariants as fault
 
@@ -45,7 +44,7 @@ grows_lines false lines old new (stays, wrote) = (lines, wrote refl)
 grows_left : (closed : Closed) (old new : Option (List ℕ)) → TellsLeft old new closed → Grows old new
 grows_left closed old new left = grows_lines closed.is_whole (left_lines closed.cause) old new left
 
-grows_closed : (closed : Closed) (old new : Option (List ℕ)) → TellsClosed old new closed → Grows old new
+pub grows_closed : (closed : Closed) (old new : Option (List ℕ)) → TellsClosed old new closed → Grows old new
 grows_closed closed old new told = grows_lines closed.is_whole (unclosed_lines closed.cause) old new told
 
 -- where nothing is begun
@@ -71,13 +70,6 @@ pub stopped_grows : {S : Type 0} (at : Places S) (choice : LayoutChoice) (config
     → OnErr r (Same × (failed ≡ false → StopsTask at choice config task old new)) → OnErr r (failed ≡ false → Grows old new)
 stopped_grows at choice config task old new (Ok status) failed Same stops = tt
 stopped_grows at choice config task old new (Err e) failed Same stops = λ quiet. task_grows at choice config task old new (stops.1 quiet)
-
--- and of lines in a session
-pub session_grows : {S T : Type 0} (g : Ghosts S) (leaves : Closed → S → Type 0) (last : Held S) (shows : T → Option (List ℕ)) (old mid : T) (new : Option (List ℕ)) (failed : Bool) (answered r : Result Status AllocError)
-    → OnErr answered (mid ≡ old) → EndsSession answered r (ClosesAloud g leaves last failed (shows mid) new) → OnErr r (failed ≡ false → Grows (shows old) new)
-session_grows g leaves last shows old mid new failed (Ok status) r silent (closed, is, closes) = subst (λ it. OnErr it (failed ≡ false → Grows (shows old) new)) (sym is) tt
-session_grows g leaves last shows old mid new failed (Err e) r silent (closed, is, closes) =
-    on_err r _ (λ quiet. subst (λ it. Grows (shows it) new) silent (grows_closed closed (shows mid) new (closes.1 quiet)))
 
 -- ---- the line of a fault
 

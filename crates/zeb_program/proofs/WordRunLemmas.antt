@@ -1,5 +1,5 @@
 -- What comes of words, from the profile that they name and the register in the store at its path.
-use Rattle.zeb_program.proofs.Cited.{Held, state, HasCleanDisk, State, ◌≡◌, ◌≢◌, ◌⊎◌, ℕ, Bool, true, false, List, inl, inr, refl, subst, sym, Appends-kept, Keeps-refl, Keeps-trans, option_map, AllocError, Global, Conditions, Refusal, reply_text, Init, Reply, Holdings, nothing_yet, Holding, Tells, Closed, StoreCause, Directive, Writes, TellsClosed, TellsLeft, DoesOnNothing, DoesTask, RunsText, ServesText, Explains, ExplainsUnread, NamesRegister, refusal_cause, IsOpeningFault, CarriesOut, StandsFor, ExplainsRun, GivesClosed, GivesFor, OpensUnder, RunsIn, RunsOnNothing, ServesHeld, ServesIn, ServesOnNothing, TakesIn, ReadsProfile, AnswersStopped, AreConditionsIn, AreScriptConditions, HoldsNothing, RunsFromNothing, BeginsRegister, AnswersFrom, ServesTask, closing_status, AnswersOn, AnswersTask, ReadsWhole, paths_of, TellsUnanswered, WarnsOf, TellsApart, WarnsClosed, IsText, Performs, ReadsAt, RunsBatch, batch_stopped, batch_ran, RunsLines, on_store, in_memory, no_memory, no_register, RunsShell, shell_stopped, shell_ran, Cause, Failure, Fault, Told, Status, Served, Task, Ask, Format, packed_blocks, LayoutChoice, Unsaid}
+use Rattle.zeb_program.proofs.Cited.{Held, state, HasCleanDisk, State, ◌≡◌, ◌≢◌, ◌⊎◌, ℕ, Bool, true, false, List, inl, inr, refl, subst, sym, Appends-kept, Keeps-refl, Keeps-trans, option_map, AllocError, Global, Conditions, Refusal, reply_text, Init, Reply, Holdings, nothing_yet, Holding, Tells, Closed, StoreCause, Directive, Writes, TellsClosed, TellsLeft, DoesOnNothing, DoesTask, RunsText, ServesText, Explains, ExplainsUnread, NamesRegister, refusal_cause, IsOpeningFault, CarriesOut, StandsFor, ExplainsRun, GivesClosed, GivesFor, OpensUnder, RunsOnNothing, ServesHeld, ServesOnNothing, TakesIn, ReadsProfile, AnswersStopped, AreConditionsIn, AreScriptConditions, HoldsNothing, RunsFromNothing, BeginsRegister, AnswersFrom, ServesTask, closing_status, AnswersOn, AnswersTask, ReadsWhole, paths_of, TellsUnanswered, WarnsOf, TellsApart, WarnsClosed, IsText, Performs, ReadsAt, RunsBatch, batch_stopped, batch_ran, RunsLines, on_store, in_memory, no_memory, no_register, RunsShell, shell_stopped, shell_ran, Cause, Failure, Fault, Told, Status, Served, Task, Ask, Format, packed_blocks, LayoutChoice, Unsaid}
 use Rattle.std.specs.Prelude.{Option, Some, None, Result, Ok, Err, IfOk, IfErr, IfSome, OnErr, String, string_bytes}
 use Rattle.std.specs.Io.KnownBytes.{Appends, Keeps}
 use Rattle.sqlite.specs.Store.{Ghosts}
@@ -15,7 +15,7 @@ use Rattle.zeb_paths.specs.declared.paths.Asked.TheVariants.{Text}
 use Rattle.zeb_program.proofs.ScriptAnswerLemmas.{RunsFromNothing-kept, RunsText-kept, Writes-kept, silent_batch}
 use Rattle.zeb_program.proofs.ShellTextLemmas.{ServesText-kept}
 use Rattle.zeb_program.proofs.ExplanationLemmas.{fails_so, opening_explained}
-use Rattle.zeb_program.proofs.TaskLemmas.{over_nothing}
+use Rattle.zeb_program.proofs.TaskLemmas.{over_nothing, task_serves}
 
 -- ---- what is passed on stays what it was
 
@@ -129,15 +129,15 @@ answered_kept at choice format profile task tells c held closed answer same may 
     answered s.own s.is format c under (kept may (from_taken at choice format profile closed held s.last (DoesTask at.store at.tells at.sees format c task s.own) takes s.clean s.does s.ends))
 
 -- carried out in a session, which is then closed
-pub served_held : {S : Type 0} (g : Ghosts S) (leaves : Closed → S → Type 0) (tells : List ℕ → Option (List ℕ)) (at : Tells) (format : Format) (c : Conditions) (task : Task) (held last : Held S) (closed : Closed) (own answer : Result Reply Fault)
-    → (HasCleanDisk (state g last) → HasCleanDisk (state g held)) → CarriesOut tells at format c task (state g held) (state g last) own
-    → ClosesStore g leaves last closed → IsOwnOr answer own → ServesHeld g leaves tells at format c task held closed answer
-served_held g leaves tells at format c task held last closed own answer clean done ends is = record {
+pub served_held : {S : Type 0} (g : Ghosts S) (leaves : Closed → S → Type 0) (at : Tells) (format : Format) (c : Conditions) (task : Task) (held last : Held S) (closed : Closed) (own answer : Result Reply Fault)
+    → (HasCleanDisk (state g last) → HasCleanDisk (state g held)) → CarriesOut at format c task (state g held) (state g last) own
+    → ClosesStore g leaves last closed → IsOwnOr answer own → ServesHeld g leaves at.bytes at format c task held closed answer
+served_held g leaves at format c task held last closed own answer clean done ends is = record {
   own = own;
   is = is;
   last = last;
   clean = clean;
-  does = λ whole. record { over = done.over whole; reaches = done.reaches; serves = done.serves whole };
+  does = λ whole. record { over = done.over whole; reaches = done.reaches; serves = task_serves at format c task (state g held) (state g last) own (done.over whole) };
   ends = ends;
 }
 
@@ -200,9 +200,9 @@ served_on told c task held last r before serves keeps files known = go (serves f
     go (inr unread) = inr unread
 
 -- a task on a register in memory
-pub served_nothing : (tells : List ℕ → Option (List ℕ)) (at : Tells) (profile : List Directive) (task : Task) (c : Conditions) (held last : State) (own answer : Result Reply Fault) → AreScriptConditions profile c → HoldsNothing held
-    → HasCleanDisk last → CarriesOut tells at packed_blocks c task held last own → IsOwnOr answer own → ServesOnNothing tells at profile task answer
-served_nothing tells at profile task c held last own answer under empty clean done is =
+pub served_nothing : (at : Tells) (profile : List Directive) (task : Task) (c : Conditions) (held last : State) (own answer : Result Reply Fault) → AreScriptConditions profile c → HoldsNothing held
+    → HasCleanDisk last → CarriesOut at packed_blocks c task held last own → IsOwnOr answer own → ServesOnNothing at.bytes at profile task answer
+served_nothing at profile task c held last own answer under empty clean done is =
     inl (
       own,
       is,
@@ -211,7 +211,7 @@ served_nothing tells at profile task c held last own answer under empty clean do
       record {
         over = over_nothing at packed_blocks c task held last own empty (done.over clean);
         reaches = done.reaches;
-        answers = served_on tells c task held last own nothing_yet (done.serves clean) empty.1;
+        answers = served_on at.bytes c task held last own nothing_yet (task_serves at packed_blocks c task held last own (done.over clean)) empty.1;
       },
     )
 
@@ -269,24 +269,6 @@ stopped_told at choice config task fault_old fault_new r failure fault_failed Sa
 
 -- ---- the lines of the input
 
--- the lines of a batch on the register in the store
-pub lines_kept : {S : Type 0} (at : Places S) (config : String Global) (format : Format) (profile : List Directive) (text : List ℕ) (c : Conditions) (held : Held S) (n : ℕ) (old new fault_old fault_new : Option (List ℕ)) (status : Status)
-    → n ≡ 0 → HasStore at profile ⊎ BeginsRegister text → AreConditionsIn format profile c → TakesIn at Unsaid format profile held
-    → RunsIn at.store at.leaves at.sees format c n text held old new fault_old fault_new status → RunsLines at config profile text old new fault_old fault_new status
-lines_kept at config format profile text c held n old new fault_old fault_new status first may under takes runs =
-    let r = subst (λ k. RunsIn at.store at.leaves at.sees format c k text held old new fault_old fault_new status) first runs in
-    let whole = r.3 in
-    subst (RunsLines at config profile text old new fault_old fault_new) (sym r.2)
-    (on_store format c r.0 r.1 under may (from_taken at Unsaid format profile r.1 held whole.last (RunsText at.store at.sees format c 0 text old new r.0) takes whole.clean whole.lines whole.ends) whole.closes)
-
-pub run_kept : {S : Type 0} (at : Places S) (config : String Global) (format : Format) (profile : List Directive) (text : List ℕ) (c : Conditions) (held : Held S) (n : ℕ) (old new fault_old fault_new : Option (List ℕ)) (failed fault_failed : Bool) (r : Result Status AllocError)
-    → n ≡ 0 → HasStore at profile ⊎ BeginsRegister text → AreConditionsIn format profile c → TakesIn at Unsaid format profile held
-    → IfOk r (λ status. failed ≡ false → fault_failed ≡ false → RunsIn at.store at.leaves at.sees format c n text held old new fault_old fault_new status)
-    → IfOk r (λ status. failed ≡ false → fault_failed ≡ false → RunsLines at config profile text old new fault_old fault_new status)
-run_kept at config format profile text c held n old new fault_old fault_new failed fault_failed (Err e) first may under takes runs = tt
-run_kept at config format profile text c held n old new fault_old fault_new failed fault_failed (Ok status) first may under takes runs = λ sound quiet.
-    lines_kept at config format profile text c held n old new fault_old fault_new status first may under takes (runs sound quiet)
-
 -- on one in memory
 pub ran_on_nothing : (at : Tells) (profile : List Directive) (n : ℕ) (text : List ℕ) (old new fault_old : Option (List ℕ)) (failed fault_failed : Bool) (r : Result Status AllocError)
     → IfOk r (λ status. failed ≡ false → RunsFromNothing at profile n text old new status)
@@ -314,12 +296,12 @@ nothing_run : {S : Type 0} (at : Places S) (config : String Global) (profile : L
 nothing_run at config profile text old new fault_old fault_new status lacks unmade still (inl ran) = in_memory lacks unmade still ran.1 ran.0
 nothing_run at config profile text old new fault_old fault_new status lacks unmade still (inr (why, is, same, told)) = no_memory lacks unmade still is same told
 
-pub run_none : {S : Type 0} (at : Places S) (config : String Global) (profile : List Directive) (text : List ℕ) (n : ℕ) (old new fault_old fault_new : Option (List ℕ)) (failed fault_failed : Bool) (r : Result Status AllocError)
-    → n ≡ 0 → LacksStore at profile → ¬ BeginsRegister text → at.untouched → IfOk r (λ status. failed ≡ false → fault_failed ≡ false → RunsOnNothing at.sees profile n text old new fault_old fault_new status)
+pub run_none : {S : Type 0} (at : Places S) (config : String Global) (profile : List Directive) (text : List ℕ) (old new fault_old fault_new : Option (List ℕ)) (failed fault_failed : Bool) (r : Result Status AllocError)
+    → LacksStore at profile → ¬ BeginsRegister text → at.untouched → IfOk r (λ status. failed ≡ false → fault_failed ≡ false → RunsOnNothing at.sees profile 0 text old new fault_old fault_new status)
     → IfOk r (λ status. failed ≡ false → fault_failed ≡ false → RunsLines at config profile text old new fault_old fault_new status)
-run_none at config profile text n old new fault_old fault_new failed fault_failed (Err e) first lacks unmade still runs = tt
-run_none at config profile text n old new fault_old fault_new failed fault_failed (Ok status) first lacks unmade still runs = λ sound quiet.
-    nothing_run at config profile text old new fault_old fault_new status lacks unmade still (subst (λ k. RunsOnNothing at.sees profile k text old new fault_old fault_new status) first (runs sound quiet))
+run_none at config profile text old new fault_old fault_new failed fault_failed (Err e) lacks unmade still runs = tt
+run_none at config profile text old new fault_old fault_new failed fault_failed (Ok status) lacks unmade still runs = λ sound quiet.
+    nothing_run at config profile text old new fault_old fault_new status lacks unmade still (runs sound quiet)
 
 -- or none is opened
 pub run_unopened : {S : Type 0} (at : Places S) (config : String Global) (profile : List Directive) (text : List ℕ) (old fault_old fault_new : Option (List ℕ)) (why : Fault) (cause : Option Cause) (closed : Closed) (failed fault_failed : Bool) (r : Result Status AllocError)
@@ -373,24 +355,6 @@ pub shell_unopened : {S : Type 0} (at : Places S) (config named : String Global)
 shell_unopened at config named given read_failed old fault_old fault_new why cause closed failed fault_failed (Err e) same is tells = tt
 shell_unopened at config named given read_failed old fault_old fault_new why cause closed failed fault_failed (Ok status) same is tells = λ _ sound.
     shell_stopped why cause closed is refl (Keeps-refl old) (unanswered_so at.sees.bytes config named why cause closed fault_old fault_new status same (tells sound))
-
--- its lines, on the register in the store
-shell_kept : {S : Type 0} (at : Places S) (config : String Global) (format : Format) (c : Conditions) (held : Held S) (given left : Option (List ℕ)) (read_failed : Bool) (old new fault_old fault_new : Option (List ℕ)) (status : Status)
-    → OpensUnder at config format c held → ServesIn at.store at.leaves at.sees format c given left read_failed held old new fault_old fault_new status → RunsShell at config given left read_failed old new fault_old fault_new status
-shell_kept at config format c held given left read_failed old new fault_old fault_new status under s =
-    let takes = under.3 in
-    let whole = s.4 in
-    subst (RunsShell at config given left read_failed old new fault_old fault_new) (sym s.3)
-    (shell_ran under.0 format c s.0 s.1 s.2 under.1 under.2
-    (from_taken at Unsaid format under.0 s.2 held whole.last (λ first last. IfSome given (λ text. ServesText at.store at.sees format c text left read_failed old new fault_old s.0 s.1 first last)) takes whole.clean whole.lines whole.ends)
-    whole.closes)
-
-pub shell_served : {S : Type 0} (at : Places S) (config : String Global) (format : Format) (c : Conditions) (held : Held S) (given left : Option (List ℕ)) (read_failed : Bool) (old new fault_old fault_new : Option (List ℕ)) (failed fault_failed : Bool) (r : Result Status AllocError)
-    → OpensUnder at config format c held → IfOk r (λ status. failed ≡ false → fault_failed ≡ false → ServesIn at.store at.leaves at.sees format c given left read_failed held old new fault_old fault_new status)
-    → IfOk r (λ status. failed ≡ false → fault_failed ≡ false → RunsShell at config given left read_failed old new fault_old fault_new status)
-shell_served at config format c held given left read_failed old new fault_old fault_new failed fault_failed (Err e) under serves = tt
-shell_served at config format c held given left read_failed old new fault_old fault_new failed fault_failed (Ok status) under serves = λ sound quiet.
-    shell_kept at config format c held given left read_failed old new fault_old fault_new status under (serves sound quiet)
 
 -- ---- what functions give on
 

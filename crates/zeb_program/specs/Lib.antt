@@ -34,6 +34,7 @@ pub mod Scripts
 pub mod Statuses
 pub mod PrivateServing
 pub mod PrivateShell
+pub mod PrivateShows
 pub mod TaskAnswers
 pub mod Warnings
 pub mod PrivateWarnings

@@ -7,31 +7,16 @@ use Rattle.zeb_change.specs.Conditions.{Conditions}
 use Rattle.zeb_engine.specs.Replies.{reply_text}
 use Rattle.zeb_engine.specs.declared.replies.Reply.{Reply}
 use Rattle.zeb_engine.specs.declared.replies.Reply.TheVariants.{Analysed}
-use Rattle.zeb_image.specs.Holdings.{Holdings}
-use Rattle.zeb_image.specs.Image.{Keeps}
-use Rattle.zeb_program.specs.Answers.{Writes}
 use Rattle.zeb_program.specs.declared.faults.Fault.{Fault}
 use Rattle.zeb_program.specs.declared.tasks.Served.{Served}
 use Rattle.zeb_program.specs.declared.tasks.Served.TheVariants.{Replied, Shown}
 use Rattle.zeb_program.specs.declared.tasks.Task.{Task}
 use Rattle.zeb_program.specs.FaultAnswers.{Reaches}
-use Rattle.zeb_program.specs.OverTables.{PathOver, TaskOver}
+use Rattle.zeb_program.specs.OverTables.{TaskOver}
 use Rattle.zeb_program.specs.PrivateFaults.{IsUnread}
-use Rattle.zeb_program.specs.declared.path_changes.PathChange.{PathChange}
-use Rattle.zeb_program.specs.declared.statuses.Status.{Status}
-use Rattle.zeb_program.specs.Serving.{ServesTask}
 use Rattle.zeb_program.specs.TaskAnswers.{ReadsWhole, paths_of}
 use Rattle.zeb_paths.specs.Walks.{Tells}
 use Rattle.zeb_register.specs.Formats.{Format}
-
--- From tables that keep what a register holds, they lead to tables that keep what it holds then; P says what is written.
-abbrev pub Leads : State → State → Option (List ℕ) → Option (List ℕ) → (Holdings → List ℕ → Holdings → Type 0) → Type 0
-Leads old new wrote writes P =
-    (before : Holdings) → Keeps old before → (later : Holdings) × Keeps new later × Writes wrote writes (λ bytes. P before bytes later)
-
--- A change by a path is done as is said of it on any tables, whatever is written of its answer.
-abbrev pub DoesPath : Tells → Format → Conditions → PathChange → State → State → Type 0
-DoesPath at format c change old new = (bytes : List ℕ) × (status : Status) × PathOver at format c change old bytes status new
 
 -- how many records a reply has analysed
 abbrev pub analyses_in : Reply → ℕ
@@ -46,8 +31,7 @@ StandsFor (Ok (Shown lines unmarked)) answer =
 StandsFor (Err fault) answer = answer ≡ Err fault
 
 -- what is answered so is what is said of a task, from these tables to those
-pub record CarriesOut (told : List ℕ → Option (List ℕ)) (at : Tells) (format : Format) (c : Conditions) (task : Task) (old new : State) (answer : Result Reply Fault) : Type 0 where
-  pub serves : HasCleanDisk new → ServesTask told c task old new answer
+pub record CarriesOut (at : Tells) (format : Format) (c : Conditions) (task : Task) (old new : State) (answer : Result Reply Fault) : Type 0 where
   -- as the engine says of it on any tables, and refused it changes nothing
   pub over : HasCleanDisk new → TaskOver at format c task old new answer
   -- it is accepted only where all files at and below its paths are found, and a path that can't be read is one that a walk over these comes to

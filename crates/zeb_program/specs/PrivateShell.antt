@@ -1,23 +1,24 @@
 -- What only the contracts of private functions speak of; no public clause reaches it.
 -- What the next line of a shell comes to (this program's own).
-use Rattle.std.specs.Prelude.{◌≡◌, ◌<◌, ◌⊎◌, ◌↔◌, ℕ, Bool, false, true, List, [], length, Option, Some, None, IfOk, IfSome, Result, Ok, Err}
-use Rattle.std.specs.Io.KnownBytes.{Consumes, IsAtEnd}
+use Rattle.std.specs.Prelude.{◌≡◌, ◌<◌, ◌⊎◌, ◌↔◌, ℕ, Bool, false, true, List, [], length, Option, Some, None, IfOk, IfSome, IsErr, Result, Ok, Err}
+use Rattle.std.specs.declared.alloc.AllocError.{AllocError}
+use Rattle.std.specs.Io.KnownBytes.{Appends, Consumes, IsAtEnd}
 use Rattle.sqlite.specs.Held.{Held, state}
 use Rattle.sqlite.specs.State.{HasCleanDisk}
 use Rattle.sqlite.specs.Store.{Ghosts}
 use Rattle.zeb_change.specs.Conditions.{Conditions}
 use Rattle.zeb_register.specs.Formats.{Format}
 use Rattle.zeb_paths.specs.Walks.{Tells}
-use Rattle.zeb_program.specs.Answers.{AnswersAsTold, Writes}
-use Rattle.zeb_program.specs.Doing.{DoesLine, KeepsUnread}
+use Rattle.zeb_program.specs.Doing.{KeepsUnread}
+use Rattle.zeb_program.specs.FaultLines.{unread_lines}
 use Rattle.zeb_program.specs.InputCauses.{EndsInLine}
 use Rattle.zeb_program.specs.Lines.{first_line}
 use Rattle.zeb_program.specs.OverTables.{LineOver}
 use Rattle.zeb_program.specs.PrivateLines.{whole_first_line}
-use Rattle.zeb_program.specs.Serving.{LeadsOn}
+use Rattle.zeb_program.specs.PrivateShows.{WritesUnless}
 use Rattle.zeb_program.specs.declared.line_input.InputCause.TheVariants.{FailedRead}
 use Rattle.zeb_program.specs.declared.line_input.LineFault.{LineFault}
-use Rattle.zeb_program.specs.declared.line_input.LineFault.TheVariants.{Unreadable}
+use Rattle.zeb_program.specs.declared.line_input.LineFault.TheVariants.{Unreadable, Memory}
 use Rattle.zeb_program.specs.declared.statuses.Status.{Status}
 use Rattle.zeb_program.specs.declared.statuses.Status.TheVariants.{Failed}
 
@@ -27,18 +28,13 @@ ComesTo Line End Stop (Ok (Some status)) = Line status
 ComesTo Line End Stop (Ok None) = End
 ComesTo Line End Stop (Err fault) = Stop fault
 
--- Just the next line is taken from what is left of an input, whatever that tells. It is answered so, unless a write has failed, and nothing of the
--- answer is held back.
+-- Just the next line is taken from what is left of an input, whatever that tells. It is answered so, also where a write fails; and unless a write has failed,
+-- nothing of the answer is held back.
 pub record AnswersNextLine {S : Type 0} (g : Ghosts S) (at : Tells) (format : Format) (c : Conditions) (number : ℕ) (left later : Option (List ℕ)) (failed : Bool) (held_back : List ℕ) (wrote writes : Option (List ℕ)) (old new : Held S) (status : Status) : Type 0 where
   pub some : IfSome left (λ l. 0 < length l)
   pub taken : IfSome left (λ l. Consumes (Some l) later (whole_first_line l))
   pub passed : failed ≡ false → held_back ≡ []
-  -- from what a register holds, as far as it is known
-  pub answer : failed ≡ false → HasCleanDisk (state g new) → IfSome left (λ l. LeadsOn (state g old) (state g new) wrote writes (λ before bytes last. AnswersAsTold at.bytes c number (first_line l) before bytes status last))
-  -- on any tables
-  pub over : failed ≡ false → HasCleanDisk (state g new) → IfSome left (λ l. Writes wrote writes (λ bytes. LineOver g at format c number (first_line l) old bytes status new))
-  -- and that is done, whatever is written
-  pub does : HasCleanDisk (state g new) → IfSome left (λ l. DoesLine g at format c number (first_line l) old new)
+  pub line : HasCleanDisk (state g new) → IfSome left (λ l. WritesUnless failed wrote writes (λ bytes. LineOver g at format c number (first_line l) old bytes status new))
 
 -- the next line can't be read, or isn't answered, for this reason, and this is left of the input
 abbrev pub StopsAtLine : {S : Type 0} → Ghosts S → Tells → Format → Conditions → Option (List ℕ) → Option (List ℕ) → Held S → Held S → LineFault → Type 0
@@ -50,3 +46,10 @@ StopsAtLine g at format c left later old new fault =
 abbrev pub EndsInput : (read_failed failed : Bool) → (left : Option (List ℕ)) → Result Status LineFault → Type 0
 EndsInput read_failed failed left result =
     ((result ≡ Err (Unreadable FailedRead)) ↔ (read_failed ≡ true)) × IfOk result (λ status. ((status ≡ Failed) × (failed ≡ true)) ⊎ IsAtEnd left)
+
+-- What is told on the fault output of how the lines of a shell ended: nothing of a status. Of an input that can't be read on the fault, with its cause, and
+-- the status is then `Failed`. Nothing where memory ran out.
+abbrev pub TellsInput : Result Status LineFault → (failed : Bool) → (fault_old fault_new : Option (List ℕ)) → Result Status AllocError → Type 0
+TellsInput (Ok status) failed fault_old fault_new result = (result ≡ Ok status) × (fault_new ≡ fault_old)
+TellsInput (Err (Unreadable cause)) failed fault_old fault_new result = (result ≡ Ok Failed) × (failed ≡ false → Appends fault_old fault_new (unread_lines cause))
+TellsInput (Err Memory) failed fault_old fault_new result = IsErr result × (fault_new ≡ fault_old)

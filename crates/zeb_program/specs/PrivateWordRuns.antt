@@ -1,6 +1,6 @@
 -- What only the contracts of private functions speak of; no public clause reaches it.
 -- The parts of what comes of words (this program's own).
-use Rattle.std.specs.Prelude.{◌≡◌, ◌≢◌, ◌⊎◌, ⊤, ℕ, Bool, false, true, Option, None, IfErr, IfOk, IfSome, IsTrue, OnErr, Result, Ok, Err, List, String}
+use Rattle.std.specs.Prelude.{◌≡◌, ◌⊎◌, ⊤, ℕ, Bool, false, Option, None, IfErr, IfSome, IsTrue, OnErr, Result, Ok, Err, List, String}
 use Rattle.std.specs.declared.alloc.AllocError.{AllocError}
 use Rattle.std.specs.declared.alloc.Global.{Global}
 use Rattle.sqlite.specs.Held.{Held, state}
@@ -25,22 +25,23 @@ use Rattle.zeb_program.specs.declared.opening.UsedLayout.TheVariants.{Blocks, Le
 use Rattle.zeb_program.specs.declared.failures.Failure.{Failure}
 use Rattle.zeb_program.specs.declared.faults.Fault.{Fault}
 use Rattle.zeb_program.specs.declared.faults.Fault.TheVariants.{Refused}
-use Rattle.zeb_program.specs.declared.line_input.LineFault.TheVariants.{Memory as Starved}
+use Rattle.zeb_program.specs.declared.line_input.LineFault.{LineFault}
 use Rattle.zeb_program.specs.declared.performing.Performed.{Performed}
 use Rattle.zeb_program.specs.declared.performing.Told.{Told}
 use Rattle.zeb_program.specs.declared.tasks.Task.{Task}
 use Rattle.zeb_program.specs.Answers.{Writes}
-use Rattle.zeb_program.specs.Doing.{DoesOnNothing, DoesTask, RunsText, ServesText, StopsPart, StopsText}
+use Rattle.zeb_program.specs.Doing.{DoesOnNothing, DoesTask}
 use Rattle.zeb_program.specs.FaultAnswers.{IsOpeningFailure}
+use Rattle.zeb_program.specs.PrivateShell.{EndsInput, TellsInput}
+use Rattle.zeb_program.specs.PrivateShows.{ShowsBatch, ShowsShell}
 use Rattle.zeb_program.specs.Registers.{ClosesStore, IsTakenOver, OpensStore, Places, UsedAs}
 use Rattle.zeb_program.specs.ScriptAnswers.{AreConditionsIn, AreScriptConditions, RunsFromNothing}
-use Rattle.std.specs.Io.KnownBytes.{Appends, IsAtEnd, Keeps as Stays}
+use Rattle.std.specs.Io.KnownBytes.{Appends, Keeps as Stays}
 use Rattle.zeb_program.specs.Explanations.{Explains}
 use Rattle.zeb_program.specs.FaultLines.{TellsCaused}
 use Rattle.zeb_program.specs.Inputs.{TakesAtMost}
 use Rattle.zeb_program.specs.Statuses.{closing_status, greater}
 use Rattle.zeb_program.specs.declared.statuses.Status.{Status}
-use Rattle.zeb_program.specs.declared.statuses.Status.TheVariants.{Failed}
 use Rattle.zeb_program.specs.Closings.{TellsClosed}
 use Rattle.zeb_program.specs.WordAnswers.{NamesLines, NamesShell}
 use Rattle.zeb_program.specs.WordRuns.{ExplainsTask, IsOwnOr, ReadsAt}
@@ -120,14 +121,6 @@ ServesOnNothing told at profile task result =
 
 -- ---- the lines of the input
 
--- A connection is used so, whatever is written, and then closed.
-pub record LeavesHeld {S : Type 0} (g : Ghosts S) (leaves : Closed → S → Type 0) (held : Held S) (Does : Held S → Held S → Type 0) : Type 0 where
-  pub last : Held S
-  pub closed : Closed
-  pub clean : HasCleanDisk (state g last) → HasCleanDisk (state g held)
-  pub does : HasCleanDisk (state g last) → Does held last
-  pub ends : ClosesStore g leaves last closed
-
 -- what is known of what was written stays, and grows by some bytes, maybe none
 abbrev pub Grows : Option (List ℕ) → Option (List ℕ) → Type 0
 Grows old new = (bytes : List ℕ) × Appends old new bytes
@@ -138,19 +131,6 @@ abbrev pub EndsStarved : Result Status AllocError → (failed fault_failed : Boo
 EndsStarved result failed fault_failed fault_old fault_new Stops =
     OnErr result (fault_failed ≡ false → Grows fault_old fault_new) × OnErr result (failed ≡ false → fault_failed ≡ false → Stops)
 
--- The status shows how far a shell has read its input: a failed read ends in `Failed`, and with another status the input is at its end.
-abbrev pub ShowsReading : (read_failed : Bool) → (left : Option (List ℕ)) → Result Status AllocError → Type 0
-ShowsReading read_failed left result =
-    (read_failed ≡ true → IfOk result (λ status. status ≡ Failed)) × IfOk result (λ status. status ≢ Failed → IsAtEnd left)
-
--- Lines are run over a connection, which is then closed. What is said of them is said of the connection as it was before.
-pub record Closes {S : Type 0} (g : Ghosts S) (leaves : Closed → S → Type 0) (held : Held S) (Said : Held S → Type 0) (fault_old fault_new : Option (List ℕ)) (closed : Closed) : Type 0 where
-  pub last : Held S
-  pub clean : HasCleanDisk (state g last) → HasCleanDisk (state g held)
-  pub lines : HasCleanDisk (state g last) → Said last
-  pub ends : ClosesStore g leaves last closed
-  pub closes : TellsClosed fault_old fault_new closed
-
 -- Just this store is closed, and that is told so, where no write has failed.
 abbrev pub ClosesAloud : {S : Type 0} → Ghosts S → (Closed → S → Type 0) → Held S → Bool → Option (List ℕ) → Option (List ℕ) → Closed → Type 0
 ClosesAloud g leaves last failed old new closed = ClosesStore g leaves last closed × (failed ≡ false → TellsClosed old new closed)
@@ -160,10 +140,25 @@ abbrev pub EndsSession : Result Status AllocError → Result Status AllocError �
 EndsSession (Ok answered) result Closing = (closed : Closed) × (result ≡ Ok (greater answered (closing_status closed))) × Closing closed
 EndsSession (Err error) result Closing = (closed : Closed) × (result ≡ Err error) × Closing closed
 
--- the lines of a batch are run so
-abbrev pub RunsIn : {S : Type 0} → Ghosts S → (Closed → S → Type 0) → Tells → Format → Conditions → ℕ → List ℕ → Held S → Option (List ℕ) → Option (List ℕ) → Option (List ℕ) → Option (List ℕ) → Status → Type 0
-RunsIn g leaves at format c n text held old new fault_old fault_new status = (answered : Status) × (closed : Closed) × (status ≡ greater answered (closing_status closed))
-    × Closes g leaves held (RunsText g at format c n text old new answered held) fault_old fault_new closed
+-- The lines of a batch are run over a connection, whatever is written, which is then closed, and this is answered.
+pub record RunsIn {S : Type 0} (g : Ghosts S) (leaves : Closed → S → Type 0) (at : Tells) (format : Format) (c : Conditions) (n : ℕ) (text : List ℕ) (held : Held S) (failed : Bool) (old new : Option (List ℕ)) (fault_failed : Bool) (fault_old fault_new : Option (List ℕ)) (result : Result Status AllocError) : Type 0 where
+  pub answered : Result Status AllocError
+  pub last : Held S
+  pub clean : HasCleanDisk (state g last) → HasCleanDisk (state g held)
+  pub lines : HasCleanDisk (state g last) → ShowsBatch g at format c n text failed old new held last answered
+  pub ends : EndsSession answered result (ClosesAloud g leaves last fault_failed fault_old fault_new)
+
+-- So are those of a shell, where the fault output tells with its cause that its input can't be read on.
+pub record ServesIn {S : Type 0} (g : Ghosts S) (leaves : Closed → S → Type 0) (at : Tells) (format : Format) (c : Conditions) (given left : Option (List ℕ)) (read_failed : Bool) (held : Held S) (failed : Bool) (old new : Option (List ℕ)) (fault_failed : Bool) (fault_old fault_new : Option (List ℕ)) (result : Result Status AllocError) : Type 0 where
+  pub answered : Result Status LineFault
+  pub told : Result Status AllocError
+  pub last : Held S
+  pub between : Option (List ℕ)
+  pub clean : HasCleanDisk (state g last) → HasCleanDisk (state g held)
+  pub lines : HasCleanDisk (state g last) → IfSome given (λ text. ShowsShell g at format c text left failed old new held last answered)
+  pub reads : EndsInput read_failed failed left answered
+  pub tells : TellsInput answered fault_failed fault_old between told
+  pub ends : EndsSession told result (ClosesAloud g leaves last fault_failed between fault_new)
 
 -- The lines of a batch are run on a register in memory that holds nothing yet, and the fault output is left alone; or why none was opened is told
 -- there, and nothing else.
@@ -171,22 +166,6 @@ abbrev pub RunsOnNothing : Tells → List Directive → ℕ → List ℕ → Opt
 RunsOnNothing at profile n text old new fault_old fault_new status =
     (RunsFromNothing at profile n text old new status × Stays fault_old fault_new)
     ⊎ ((why : Refusal) × IsOpeningFailure why × Stays old new × Writes fault_old fault_new (λ bytes. TellsCaused (Refused why) None bytes status))
-
--- and those of a shell
-abbrev pub ServesIn : {S : Type 0} → Ghosts S → (Closed → S → Type 0) → Tells → Format → Conditions → Option (List ℕ) → Option (List ℕ) → Bool → Held S → Option (List ℕ) → Option (List ℕ) → Option (List ℕ) → Option (List ℕ) → Status → Type 0
-ServesIn g leaves at format c given left failed held old new fault_old fault_new status =
-    (between : Option (List ℕ)) × (answered : Status) × (closed : Closed) × (status ≡ greater answered (closing_status closed))
-    × Closes g leaves held (λ last. IfSome given (λ text. ServesText g at format c text left failed old new fault_old between answered held last)) between fault_new closed
-
--- Where memory runs out for the program itself, the first lines of a batch are answered so, or none, and the rest are not.
-abbrev pub StopsIn : {S : Type 0} → Ghosts S → (Closed → S → Type 0) → Tells → Format → Conditions → ℕ → List ℕ → Held S → Option (List ℕ) → Option (List ℕ) → Option (List ℕ) → Option (List ℕ) → Type 0
-StopsIn g leaves at format c n text held old new fault_old fault_new =
-    (closed : Closed) × Closes g leaves held (StopsPart g at format c n text old new held) fault_old fault_new closed
-
--- and those of a shell
-abbrev pub StopsServing : {S : Type 0} → Ghosts S → (Closed → S → Type 0) → Tells → Format → Conditions → Option (List ℕ) → Option (List ℕ) → Held S → Option (List ℕ) → Option (List ℕ) → Option (List ℕ) → Option (List ℕ) → Type 0
-StopsServing g leaves at format c given left held old new fault_old fault_new =
-    (closed : Closed) × Closes g leaves held (λ last. IfSome given (λ text. StopsText g at format c Starved text left old new held last)) fault_old fault_new closed
 
 -- ---- the input
 

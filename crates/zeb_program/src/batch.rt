@@ -1,18 +1,15 @@
 //! A batch: commands in one session, one on a line.
 
-ghost use Rattle.std.specs.Prelude.{◌≡◌, ◌++◌, ◌∷◌, [], false, IfOk, MatchResult, OnErr};
+ghost use Rattle.std.specs.Prelude.{◌≡◌, ◌++◌, ◌∷◌, [], false, IfOk, OnErr};
 ghost use Rattle.zeb_paths.specs.Walks.{telling_of};
 ghost use Rattle.sqlite.specs.Held.{state};
 ghost use Rattle.sqlite.specs.State.{HasCleanDisk};
 ghost use Rattle.zeb_engine.specs.Refusals.{refusal_text};
 ghost use Rattle.zeb_program.specs.ScriptAnswers.{AnswersOpened, AnswersStopped};
 ghost use Rattle.std.specs.Io.KnownBytes.{Appends};
-ghost use Rattle.zeb_program.specs.Answers.{Writes, bad_line, mark_line, IsAnswer, AnswersAsTold, AnswersBatch};
-ghost use Rattle.zeb_program.specs.Doing.{DoesBatch, DoesLine, StopsLine, StopsPart};
-ghost use Rattle.zeb_program.specs.OverTables.{CommandOver, LineOver, LinesOver, ServesOver};
-ghost use Rattle.zeb_program.specs.PrivateServing.{Leads};
+ghost use Rattle.zeb_program.specs.Answers.{bad_line, mark_line};
+ghost use Rattle.zeb_program.specs.PrivateShows.{ShowsBatch, ShowsCommand, ShowsLine, WritesUnless};
 ghost use Rattle.zeb_program.specs.PrivateWordRuns.{RunsOnNothing};
-ghost use Rattle.zeb_program.specs.Serving.{LeadsOn};
 ghost use Rattle.zeb_engine.specs.Sessions.{KeepsConditions, conditions_in};
 ghost use Rattle.zeb_program.specs.Statuses.{IsFaultStatus, refusal_status};
 
@@ -79,8 +76,7 @@ pub fn run_on_nothing<P: Paths, W: Write, V: Write>(
     }
 }
 
-/// Runs the lines of a batch in a session, and answers the greatest status met. What is said of the answers is said up to the first line
-/// that names a file by its path of which the paths don't tell the bytes.
+/// Runs the lines of a batch in a session, and answers the greatest status met.
 pub fn run_lines<S: Alter, L: Layout, P: Paths, W: Write>(
     alloc: Global,
     session: &mut Session<S, L>,
@@ -89,31 +85,14 @@ pub fn run_lines<S: Alter, L: Layout, P: Paths, W: Write>(
     output: &mut Sink<W>,
 ) -> Result<Status, AllocError>
     ensures sound { output.new.failed ≡ false → output.old.failed ≡ false }
-    ensures answer { IfOk result (λ status. output.new.failed ≡ false
-        → HasCleanDisk (state S.Store session.new.connection)
-        → LeadsOn (state S.Store session.old.connection) (state S.Store session.new.connection)
-        (W.contents output.old.writer) (W.contents output.new.writer) (λ before bytes last.
-        AnswersBatch (P.tells paths.now) (conditions_in L.format session.old)
-        batch.entry.lines_before batch.entry.text.now before bytes status last)) }
-    // Each line is answered as the engine says of it on any tables, on those that the line before it left.
-    ensures over { IfOk result (λ status. output.new.failed ≡ false
-        → HasCleanDisk (state S.Store session.new.connection)
-        → Writes (W.contents output.old.writer) (W.contents output.new.writer)
-        (λ bytes. LinesOver S.Store (telling_of P.Paths paths.now) L.format
+    // Each line is answered as the engine says of it on any tables, on those that the line before it left; where memory runs out the first are.
+    ensures lines { HasCleanDisk (state S.Store session.new.connection)
+        → ShowsBatch S.Store (telling_of P.Paths paths.now) L.format
         (conditions_in L.format session.old) batch.entry.lines_before batch.entry.text.now
-        session.old.connection bytes status session.new.connection)) }
-    ensures stopped { OnErr result (output.new.failed ≡ false
-        → HasCleanDisk (state S.Store session.new.connection)
-        → StopsPart S.Store (telling_of P.Paths paths.now) L.format
-        (conditions_in L.format session.old) batch.entry.lines_before batch.entry.text.now
-        (W.contents output.old.writer) (W.contents output.new.writer) session.old.connection
-        session.new.connection) }
-    // Whatever is written, also where a write fails.
-    ensures does { HasCleanDisk (state S.Store session.new.connection)
-        → HasCleanDisk (state S.Store session.old.connection)
-        × DoesBatch S.Store (telling_of P.Paths paths.now) L.format
-        (conditions_in L.format session.old) batch.entry.lines_before batch.entry.text.now result
-        session.old.connection session.new.connection }
+        output.new.failed (W.contents output.old.writer) (W.contents output.new.writer)
+        session.old.connection session.new.connection result }
+    ensures clean { HasCleanDisk (state S.Store session.new.connection)
+        → HasCleanDisk (state S.Store session.old.connection) }
 {
     let mut rest = batch.text;
     let mut number = batch.lines_before;
@@ -137,28 +116,13 @@ pub fn run_line<S: Alter, L: Layout, P: Paths, W: Write>(
     output: &mut Sink<W>,
 ) -> Result<Status, AllocError>
     ensures sound { output.new.failed ≡ false → output.old.failed ≡ false }
-    ensures answer { IfOk result (λ status. output.new.failed ≡ false
-        → HasCleanDisk (state S.Store session.new.connection)
-        → LeadsOn (state S.Store session.old.connection) (state S.Store session.new.connection)
-        (W.contents output.old.writer) (W.contents output.new.writer) (λ before bytes later.
-        AnswersAsTold (P.tells paths.now) (conditions_in L.format session.old) number line.now
-        before bytes status later)) }
-    // It is answered as the engine says of it on any tables.
-    ensures over { IfOk result (λ status. output.new.failed ≡ false
-        → HasCleanDisk (state S.Store session.new.connection)
-        → Writes (W.contents output.old.writer) (W.contents output.new.writer)
-        (λ bytes. LineOver S.Store (telling_of P.Paths paths.now) L.format
-        (conditions_in L.format session.old) number line.now session.old.connection bytes status
-        session.new.connection)) }
-    // It is done, whatever is written; and where memory runs out at it, it may be done all the same.
-    ensures does { MatchResult result (λ _. HasCleanDisk (state S.Store session.new.connection)
-        → DoesLine S.Store (telling_of P.Paths paths.now) L.format
-        (conditions_in L.format session.old) number line.now session.old.connection
-        session.new.connection) (λ _. (output.new ≡ output.old)
-        × (HasCleanDisk (state S.Store session.new.connection)
-        → StopsLine S.Store (telling_of P.Paths paths.now) L.format
-        (conditions_in L.format session.old) line.now session.old.connection
-        session.new.connection)) }
+    // It is answered as the engine says of it on any tables; and where memory runs out at it, it may be done all the same.
+    ensures answer { HasCleanDisk (state S.Store session.new.connection)
+        → ShowsLine S.Store (telling_of P.Paths paths.now) L.format
+        (conditions_in L.format session.old) number line.now output.new.failed
+        (W.contents output.old.writer) (W.contents output.new.writer) session.old.connection
+        session.new.connection result }
+    ensures silent { OnErr result (output.new ≡ output.old) }
     // The session stays under its profile and its limits, and its disk was clean where it is.
     ensures stays { KeepsConditions session.old session.new
         × (HasCleanDisk (state S.Store session.new.connection)
@@ -173,6 +137,7 @@ pub fn run_line<S: Alter, L: Layout, P: Paths, W: Write>(
     }
 }
 
+/// Carries out a command, writes its reply or its refusal, and answers the status.
 fn run_command<S: Alter, L: Layout, W: Write>(
     alloc: Global,
     session: &mut Session<S, L>,
@@ -180,22 +145,11 @@ fn run_command<S: Alter, L: Layout, W: Write>(
     output: &mut Sink<W>,
 ) -> Result<Status, AllocError>
     ensures sound { output.new.failed ≡ false → output.old.failed ≡ false }
-    ensures answer { IfOk result (λ status. output.new.failed ≡ false
-        → HasCleanDisk (state S.Store session.new.connection)
-        → Leads (state S.Store session.old.connection) (state S.Store session.new.connection)
-        (W.contents output.old.writer) (W.contents output.new.writer) (λ before bytes later.
-        IsAnswer (conditions_in L.format session.old) command.now before bytes status later)) }
-    ensures over { IfOk result (λ status. output.new.failed ≡ false
-        → HasCleanDisk (state S.Store session.new.connection)
-        → Writes (W.contents output.old.writer) (W.contents output.new.writer)
-        (λ bytes. CommandOver L.format (conditions_in L.format session.old) command.now
-        (state S.Store session.old.connection) bytes status
-        (state S.Store session.new.connection))) }
-    // It is done, whatever is written, also where memory runs out for that.
-    ensures does { OnErr result (output.new ≡ output.old)
-        × (HasCleanDisk (state S.Store session.new.connection) → (answer : _)
-        × ServesOver L.format (conditions_in L.format session.old) command.now
-        (state S.Store session.old.connection) (state S.Store session.new.connection) answer) }
+    ensures answer { HasCleanDisk (state S.Store session.new.connection)
+        → ShowsCommand S.Store L.format (conditions_in L.format session.old) command.now
+        output.new.failed (W.contents output.old.writer) (W.contents output.new.writer)
+        session.old.connection session.new.connection result }
+    ensures silent { OnErr result (output.new ≡ output.old) }
     // The session stays under its profile and its limits, and its disk was clean where it is.
     ensures stays { KeepsConditions session.old session.new
         × (HasCleanDisk (state S.Store session.new.connection)
@@ -239,11 +193,11 @@ pub fn refuse<W: Write>(
     output: &mut Sink<W>,
 ) -> Result<Status, AllocError>
     ensures sound { output.new.failed ≡ false → output.old.failed ≡ false }
-    ensures answer { IfOk result (λ status. output.new.failed ≡ false
-        → Writes (W.contents output.old.writer) (W.contents output.new.writer)
+    ensures answer { IfOk result (λ status. WritesUnless output.new.failed
+        (W.contents output.old.writer) (W.contents output.new.writer)
         (λ bytes. (bytes ≡ refusal_text refusal.now ++ 10 ∷ [])
         × (status ≡ refusal_status refusal.now))) }
-    ensures stopped { OnErr result (output.new ≡ output.old) }
+    ensures silent { OnErr result (output.new ≡ output.old) }
     ensures fault { IfOk result IsFaultStatus }
 {
     output.write_line(refusal_line(alloc, refusal)?);

@@ -6,7 +6,7 @@ ghost use Rattle.zeb_paths.specs.Walks.{telling_of};
 ghost use Rattle.zeb_words.specs.declared.words.LayoutChoice.TheVariants.{Unsaid};
 ghost use Rattle.zeb_program.specs.Doing.{DoesBatch};
 ghost use Rattle.zeb_program.specs.LeftStores.{LeavesAt, LeavesByBatch, LeavesByShell, LeavesByTask, LeavesStore};
-ghost use Rattle.zeb_program.specs.PrivateWordRuns.{EndsStarved, Grows, TakesByWords};
+ghost use Rattle.zeb_program.specs.PrivateWordRuns.{EndsStarved, TakesByWords};
 ghost use Rattle.zeb_program.specs.Scripts.{BeginsRegister};
 ghost use Rattle.zeb_program.specs.ProfileFiles.{ReadsProfile};
 ghost use Rattle.zeb_program.specs.Registers.{places_of};
@@ -236,11 +236,8 @@ fn run_batch<R: Source, W: Write, V: Write, P: Paths>(
     let named = config.clone()?;
     match begin_batch(alloc, config, paths, input) {
         Ok((profile, text)) => {
-            let batch = Batch {
-                text: text.as_str(),
-                lines_before: 0,
-            };
-            serve_batch(alloc, profile, named, paths, batch, output, fault_output)
+            let text = text.as_str();
+            serve_batch(alloc, profile, named, paths, text, output, fault_output)
         }
         Err(failure) => tell_failure(alloc, &failure, fault_output),
     }
@@ -278,36 +275,36 @@ fn begin_batch<R: Source, P: Paths>(
     }
 }
 
-/// Runs the lines of a batch on the register at the path of the profile in this file. Where none stands there and no line begins one, they
+/// Runs the lines of a text on the register at the path of the profile in this file. Where none stands there and no line begins one, they
 /// are run on an empty one in memory, and no file is made.
 fn serve_batch<W: Write, V: Write, P: Paths>(
     alloc: Global,
     profile: Profile,
     config: String,
     paths: &mut P,
-    batch: Batch<'_>,
+    text: &str,
     output: &mut Sink<W>,
     fault_output: &mut Sink<V>,
 ) -> Result<Status, AllocError>
-    ensures answer { batch.entry.lines_before ≡ 0 → IfOk result
-        (λ status. output.new.failed ≡ false → fault_output.new.failed ≡ false
-        → RunsLines (places_of P.Store.Store P.Paths paths.old paths.new) config profile
-        batch.entry.text.now (W.contents output.old.writer) (W.contents output.new.writer)
+    ensures answer { IfOk result (λ status. output.new.failed ≡ false
+        → fault_output.new.failed ≡ false
+        → RunsLines (places_of P.Store.Store P.Paths paths.old paths.new) config profile text.now
+        (W.contents output.old.writer) (W.contents output.new.writer)
         (V.contents fault_output.old.writer) (V.contents fault_output.new.writer) status) }
-    ensures stopped { batch.entry.lines_before ≡ 0 → OnErr result
-        (output.new.failed ≡ false → fault_output.new.failed ≡ false
-        → StopsLines (places_of P.Store.Store P.Paths paths.old paths.new) profile
-        batch.entry.text.now (W.contents output.old.writer) (W.contents output.new.writer)
+    ensures stopped { EndsStarved result output.new.failed fault_output.new.failed
+        (V.contents fault_output.old.writer) (V.contents fault_output.new.writer)
+        (StopsLines (places_of P.Store.Store P.Paths paths.old paths.new) profile text.now
+        (W.contents output.old.writer) (W.contents output.new.writer)
         (V.contents fault_output.old.writer) (V.contents fault_output.new.writer)) }
-    ensures grows { OnErr result (fault_output.new.failed ≡ false
-        → Grows (V.contents fault_output.old.writer) (V.contents fault_output.new.writer)) }
-    ensures store { batch.entry.lines_before ≡ 0 → LeavesAt
-        (places_of P.Store.Store P.Paths paths.old paths.new) Unsaid profile result
-        (IsToldSince fault_output.new.failed (V.contents fault_output.old.writer)
-        (V.contents fault_output.new.writer)) (BeginsRegister batch.entry.text.now)
-        (λ format c. DoesBatch P.Store.Store (telling_of P.Paths paths.new) format c 0
-        batch.entry.text.now result) }
+    ensures store { LeavesAt (places_of P.Store.Store P.Paths paths.old paths.new) Unsaid profile
+        result (IsToldSince fault_output.new.failed (V.contents fault_output.old.writer)
+        (V.contents fault_output.new.writer)) (BeginsRegister text.now) (λ format c.
+        DoesBatch P.Store.Store (telling_of P.Paths paths.new) format c 0 text.now result) }
 {
+    let batch = Batch {
+        text,
+        lines_before: 0,
+    };
     if !uses_store(paths, &profile, batch.begins()) {
         return run_on_nothing(alloc, profile, paths, batch, output, fault_output);
     }

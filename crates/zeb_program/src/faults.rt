@@ -1,9 +1,9 @@
 //! Why a command that words or a line name isn't answered, and what is written of it.
 
 ghost use Rattle.std.specs.Prelude.{◌≡◌, false, IfOk, OnErr};
-ghost use Rattle.zeb_program.specs.Answers.{Writes};
 ghost use Rattle.zeb_program.specs.FaultLines.{TellsFault};
 ghost use Rattle.zeb_program.specs.PrivateFaults.{EndsTold, IsUnread, fault_of};
+ghost use Rattle.zeb_program.specs.PrivateShows.{WritesUnless};
 ghost use Rattle.zeb_program.specs.declared.faults.Fault.TheVariants.{Memory};
 
 use crate::batch::refuse;
@@ -61,8 +61,8 @@ pub fn tell<W: Write>(
     fault: &Fault,
     output: &mut Sink<W>,
 ) -> Result<Status, AllocError>
-    ensures told { IfOk result (λ status. output.new.failed ≡ false
-        → Writes (W.contents output.old.writer) (W.contents output.new.writer)
+    ensures told { IfOk result (λ status. WritesUnless output.new.failed
+        (W.contents output.old.writer) (W.contents output.new.writer)
         (λ line. TellsFault fault.now line status)) }
     ensures sound { output.new.failed ≡ false → output.old.failed ≡ false }
     ensures status { EndsTold fault.now result }

@@ -1,14 +1,12 @@
 //! The lines of a batch that name a change by the path of its file.
 
-ghost use Rattle.std.specs.Prelude.{◌≡◌, ◌≢◌, ◌⊎◌, ℕ, List, Some, false, string_bytes, IfOk, IfNone, IfSome, MatchResult};
+ghost use Rattle.std.specs.Prelude.{◌≡◌, ◌≢◌, false, IfNone, IfSome, OnErr};
 ghost use Rattle.sqlite.specs.Held.{state};
 ghost use Rattle.sqlite.specs.State.{HasCleanDisk};
 ghost use Rattle.zeb_change.specs.declared.settings.Kind.{Kind};
 ghost use Rattle.zeb_paths.specs.Walks.{telling_of};
-ghost use Rattle.zeb_program.specs.Answers.{IsFileAnswer, Writes};
 ghost use Rattle.zeb_program.specs.Batches.{kind_word};
-ghost use Rattle.zeb_program.specs.PrivateServing.{DoesPath, Leads};
-ghost use Rattle.zeb_program.specs.OverTables.{PathOver};
+ghost use Rattle.zeb_program.specs.PrivateShows.{ShowsPath};
 ghost use Rattle.zeb_engine.specs.Sessions.{KeepsConditions, conditions_in};
 
 use crate::faults::tell;
@@ -53,29 +51,14 @@ pub fn run_path_change<S: Alter, L: Layout, P: Paths, W: Write>(
     output: &mut Sink<W>,
 ) -> Result<Status, AllocError>
     ensures sound { output.new.failed ≡ false → output.old.failed ≡ false }
-    // Where the paths tell the file's bytes.
-    ensures answer { IfOk result (λ status. output.new.failed ≡ false
-        → HasCleanDisk (state S.Store session.new.connection) → (file : List ℕ)
-        → P.tells paths.now (string_bytes change.now.path) ≡ Some file
-        → Leads (state S.Store session.old.connection) (state S.Store session.new.connection)
-        (W.contents output.old.writer) (W.contents output.new.writer) (λ before bytes later.
-        IsFileAnswer (conditions_in L.format session.old) change.now file before bytes status
-        later)) }
-    // It is answered as the engine says of it on any tables, whatever the paths tell.
-    ensures over { IfOk result (λ status. output.new.failed ≡ false
-        → HasCleanDisk (state S.Store session.new.connection)
-        → Writes (W.contents output.old.writer) (W.contents output.new.writer)
-        (λ bytes. PathOver (telling_of P.Paths paths.now) L.format
-        (conditions_in L.format session.old) change.now (state S.Store session.old.connection) bytes
-        status (state S.Store session.new.connection))) }
-    // It is done, whatever is written; and where memory runs out, it is done all the same, or nothing is.
-    ensures does { MatchResult result (λ _. HasCleanDisk (state S.Store session.new.connection)
-        → DoesPath (telling_of P.Paths paths.now) L.format (conditions_in L.format session.old)
-        change.now (state S.Store session.old.connection) (state S.Store session.new.connection))
-        (λ _. (output.new ≡ output.old) × (HasCleanDisk (state S.Store session.new.connection)
-        → (session.new.connection ≡ session.old.connection) ⊎ DoesPath
-        (telling_of P.Paths paths.now) L.format (conditions_in L.format session.old) change.now
-        (state S.Store session.old.connection) (state S.Store session.new.connection))) }
+    // It is answered as the engine says of it on any tables, whatever the paths tell; and where memory runs out it is done all the same, or
+    // nothing is.
+    ensures answer { HasCleanDisk (state S.Store session.new.connection)
+        → ShowsPath S.Store (telling_of P.Paths paths.now) L.format
+        (conditions_in L.format session.old) change.now output.new.failed
+        (W.contents output.old.writer) (W.contents output.new.writer) session.old.connection
+        session.new.connection result }
+    ensures silent { OnErr result (output.new ≡ output.old) }
     // The session stays under its profile and its limits, and its disk was clean where it is.
     ensures stays { KeepsConditions session.old session.new
         × (HasCleanDisk (state S.Store session.new.connection)

@@ -1,9 +1,8 @@
 //! The lines of the input on a register that is open: they are run, and it is closed behind the last.
 
-ghost use Rattle.std.specs.Prelude.{◌≡◌, false, IfOk};
+ghost use Rattle.std.specs.Prelude.{◌≡◌, false};
 ghost use Rattle.zeb_paths.specs.Walks.{telling_of};
-ghost use Rattle.zeb_program.specs.Doing.{DoesBatch, DoesShell};
-ghost use Rattle.zeb_program.specs.PrivateWordRuns.{ClosesAloud, EndsSession, EndsStarved, LeavesHeld, RunsIn, ServesIn, ShowsReading, StopsIn, StopsServing, format_of};
+ghost use Rattle.zeb_program.specs.PrivateWordRuns.{ClosesAloud, EndsSession, RunsIn, ServesIn, format_of};
 ghost use Rattle.zeb_engine.specs.Sessions.{conditions_in};
 
 use crate::batch::run_lines;
@@ -12,7 +11,7 @@ use crate::opening::{OpenRegister, UsedLayout};
 use crate::outputs::Output;
 use crate::performing::close_register;
 use crate::script::Batch;
-use crate::shell::serve_lines;
+use crate::shell::{run_shell_lines, tell_input};
 use crate::sinks::Sink;
 use crate::statuses::Status;
 use std::alloc::{AllocError, Global};
@@ -32,25 +31,11 @@ pub fn run_on<W: Write, V: Write, P: Paths>(
     output: &mut Sink<W>,
     fault_output: &mut Sink<V>,
 ) -> Result<Status, AllocError>
-    ensures answer { IfOk result (λ status. output.new.failed ≡ false
-        → fault_output.new.failed ≡ false → RunsIn P.Store.Store (P.leaves paths.now)
-        (telling_of P.Paths paths.now) (format_of register.1)
-        (conditions_in (format_of register.1) register.0) batch.entry.lines_before
-        batch.entry.text.now register.0.connection (W.contents output.old.writer)
-        (W.contents output.new.writer) (V.contents fault_output.old.writer)
-        (V.contents fault_output.new.writer) status) }
-    ensures stopped { EndsStarved result output.new.failed fault_output.new.failed
-        (V.contents fault_output.old.writer) (V.contents fault_output.new.writer)
-        (StopsIn P.Store.Store (P.leaves paths.now) (telling_of P.Paths paths.now)
+    ensures { RunsIn P.Store.Store (P.leaves paths.now) (telling_of P.Paths paths.now)
         (format_of register.1) (conditions_in (format_of register.1) register.0)
-        batch.entry.lines_before batch.entry.text.now register.0.connection
-        (W.contents output.old.writer) (W.contents output.new.writer)
-        (V.contents fault_output.old.writer) (V.contents fault_output.new.writer)) }
-    // What becomes of the store, whatever is written.
-    ensures store { LeavesHeld P.Store.Store (P.leaves paths.now) register.0.connection
-        (DoesBatch P.Store.Store (telling_of P.Paths paths.now) (format_of register.1)
-        (conditions_in (format_of register.1) register.0) batch.entry.lines_before
-        batch.entry.text.now result) }
+        batch.entry.lines_before batch.entry.text.now register.0.connection output.new.failed
+        (W.contents output.old.writer) (W.contents output.new.writer) fault_output.new.failed
+        (V.contents fault_output.old.writer) (V.contents fault_output.new.writer) result }
 {
     let (session, layout) = register;
     match layout {
@@ -71,21 +56,11 @@ fn run_in<L: Layout, W: Write, V: Write, P: Paths>(
     output: &mut Sink<W>,
     fault_output: &mut Sink<V>,
 ) -> Result<Status, AllocError>
-    ensures answer { IfOk result (λ status. output.new.failed ≡ false
-        → fault_output.new.failed ≡ false → RunsIn P.Store.Store (P.leaves paths.now)
-        (telling_of P.Paths paths.now) L.format (conditions_in L.format session)
-        batch.entry.lines_before batch.entry.text.now session.connection
-        (W.contents output.old.writer) (W.contents output.new.writer)
-        (V.contents fault_output.old.writer) (V.contents fault_output.new.writer) status) }
-    ensures stopped { EndsStarved result output.new.failed fault_output.new.failed
-        (V.contents fault_output.old.writer) (V.contents fault_output.new.writer)
-        (StopsIn P.Store.Store (P.leaves paths.now) (telling_of P.Paths paths.now) L.format
+    ensures { RunsIn P.Store.Store (P.leaves paths.now) (telling_of P.Paths paths.now) L.format
         (conditions_in L.format session) batch.entry.lines_before batch.entry.text.now
-        session.connection (W.contents output.old.writer) (W.contents output.new.writer)
-        (V.contents fault_output.old.writer) (V.contents fault_output.new.writer)) }
-    ensures store { LeavesHeld P.Store.Store (P.leaves paths.now) session.connection
-        (DoesBatch P.Store.Store (telling_of P.Paths paths.now) L.format
-        (conditions_in L.format session) batch.entry.lines_before batch.entry.text.now result) }
+        session.connection output.new.failed (W.contents output.old.writer)
+        (W.contents output.new.writer) fault_output.new.failed (V.contents fault_output.old.writer)
+        (V.contents fault_output.new.writer) result }
 {
     let mut session = session;
     let answered = run_lines(alloc, &mut session, paths, batch, output);
@@ -102,25 +77,12 @@ pub fn serve_on<R: Source, W: Output, V: Write, P: Paths>(
     fault_output: &mut Sink<V>,
 ) -> Result<Status, AllocError>
     requires { R.has_failed input.old ≡ false }
-    ensures read { ShowsReading (R.has_failed input.new) (R.remaining input.new) result }
-    ensures answer { IfOk result (λ status. output.new.failed ≡ false
-        → fault_output.new.failed ≡ false → ServesIn P.Store.Store (P.leaves paths.now)
-        (telling_of P.Paths paths.now) (format_of register.1)
-        (conditions_in (format_of register.1) register.0) (R.remaining input.old)
-        (R.remaining input.new) (R.has_failed input.new) register.0.connection
-        (W.contents output.old.writer) (W.contents output.new.writer)
-        (V.contents fault_output.old.writer) (V.contents fault_output.new.writer) status) }
-    ensures stopped { EndsStarved result output.new.failed fault_output.new.failed
-        (V.contents fault_output.old.writer) (V.contents fault_output.new.writer)
-        (StopsServing P.Store.Store (P.leaves paths.now) (telling_of P.Paths paths.now)
+    ensures { ServesIn P.Store.Store (P.leaves paths.now) (telling_of P.Paths paths.now)
         (format_of register.1) (conditions_in (format_of register.1) register.0)
-        (R.remaining input.old) (R.remaining input.new) register.0.connection
-        (W.contents output.old.writer) (W.contents output.new.writer)
-        (V.contents fault_output.old.writer) (V.contents fault_output.new.writer)) }
-    // What becomes of the store, whatever is written.
-    ensures store { LeavesHeld P.Store.Store (P.leaves paths.now) register.0.connection
-        (DoesShell P.Store.Store (telling_of P.Paths paths.now) (format_of register.1)
-        (conditions_in (format_of register.1) register.0) (R.remaining input.old)) }
+        (R.remaining input.old) (R.remaining input.new) (R.has_failed input.new)
+        register.0.connection output.new.failed (W.contents output.old.writer)
+        (W.contents output.new.writer) fault_output.new.failed (V.contents fault_output.old.writer)
+        (V.contents fault_output.new.writer) result }
 {
     let (session, layout) = register;
     match layout {
@@ -142,26 +104,16 @@ fn serve_in<L: Layout, R: Source, W: Output, V: Write, P: Paths>(
     fault_output: &mut Sink<V>,
 ) -> Result<Status, AllocError>
     requires { R.has_failed input.old ≡ false }
-    ensures read { ShowsReading (R.has_failed input.new) (R.remaining input.new) result }
-    ensures answer { IfOk result (λ status. output.new.failed ≡ false
-        → fault_output.new.failed ≡ false → ServesIn P.Store.Store (P.leaves paths.now)
-        (telling_of P.Paths paths.now) L.format (conditions_in L.format session)
-        (R.remaining input.old) (R.remaining input.new) (R.has_failed input.new) session.connection
-        (W.contents output.old.writer) (W.contents output.new.writer)
-        (V.contents fault_output.old.writer) (V.contents fault_output.new.writer) status) }
-    ensures stopped { EndsStarved result output.new.failed fault_output.new.failed
-        (V.contents fault_output.old.writer) (V.contents fault_output.new.writer)
-        (StopsServing P.Store.Store (P.leaves paths.now) (telling_of P.Paths paths.now) L.format
-        (conditions_in L.format session) (R.remaining input.old) (R.remaining input.new)
-        session.connection (W.contents output.old.writer) (W.contents output.new.writer)
-        (V.contents fault_output.old.writer) (V.contents fault_output.new.writer)) }
-    ensures store { LeavesHeld P.Store.Store (P.leaves paths.now) session.connection
-        (DoesShell P.Store.Store (telling_of P.Paths paths.now) L.format
-        (conditions_in L.format session) (R.remaining input.old)) }
+    ensures { ServesIn P.Store.Store (P.leaves paths.now) (telling_of P.Paths paths.now)
+        L.format (conditions_in L.format session) (R.remaining input.old) (R.remaining input.new)
+        (R.has_failed input.new) session.connection output.new.failed
+        (W.contents output.old.writer) (W.contents output.new.writer) fault_output.new.failed
+        (V.contents fault_output.old.writer) (V.contents fault_output.new.writer) result }
 {
     let mut session = session;
-    let answered = serve_lines(alloc, &mut session, paths, input, output, fault_output);
-    end_session(paths, session, answered, fault_output)
+    let answered = run_shell_lines(alloc, &mut session, paths, input, output);
+    let told = tell_input(answered, fault_output);
+    end_session(paths, session, told, fault_output)
 }
 
 /// Closes the register of a session whose lines are answered so, tells where not all stands in its one file then, and answers the

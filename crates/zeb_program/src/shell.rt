@@ -1,20 +1,16 @@
 //! A shell: the lines of the input in one session, each answered before the next is read.
 
-ghost use Rattle.std.specs.Prelude.{◌≡◌, ◌↔◌, [], true, false, IfErr, IfOk, IfSome, MatchResult, OnErr};
+ghost use Rattle.std.specs.Prelude.{◌≡◌, ◌↔◌, [], true, false, IfSome, OnErr};
 ghost use Rattle.std.specs.Io.KnownBytes.{IsAtEnd};
 ghost use Rattle.sqlite.specs.Held.{state};
 ghost use Rattle.sqlite.specs.State.{HasCleanDisk};
 ghost use Rattle.zeb_paths.specs.Walks.{telling_of};
-ghost use Rattle.zeb_program.specs.Answers.{AnswersAsTold, Writes};
-ghost use Rattle.zeb_program.specs.Doing.{DoesLine, DoesShell, RunsText, ServesText, StopsLine, StopsText};
 ghost use Rattle.zeb_program.specs.Lines.{first_line, after_first_line};
-ghost use Rattle.zeb_program.specs.OverTables.{LineOver};
-ghost use Rattle.zeb_program.specs.PrivateShell.{AnswersNextLine, ComesTo, EndsInput, StopsAtLine};
-ghost use Rattle.zeb_program.specs.PrivateWordRuns.{ShowsReading};
-ghost use Rattle.zeb_program.specs.Serving.{LeadsOn};
+ghost use Rattle.zeb_program.specs.PrivateShell.{AnswersNextLine, ComesTo, EndsInput, StopsAtLine, TellsInput};
+ghost use Rattle.zeb_program.specs.PrivateShows.{ShowsLine, ShowsShell};
 ghost use Rattle.zeb_engine.specs.Sessions.{KeepsConditions, conditions_in};
 ghost use Rattle.zeb_program.specs.declared.line_input.InputCause.TheVariants.{FailedRead};
-ghost use Rattle.zeb_program.specs.declared.line_input.LineFault.TheVariants.{Unreadable, Memory};
+ghost use Rattle.zeb_program.specs.declared.line_input.LineFault.TheVariants.{Unreadable};
 
 use crate::batch::{refuse_line, run_line};
 use crate::failures::tell_unread;
@@ -32,39 +28,18 @@ use zeb_marc::Source;
 use zeb_paths::Paths;
 use zeb_register::Layout;
 
-/// Runs the lines of the input in a session as `run_shell_lines` does, and answers the greatest status met. Where the input can't be
-/// read on, that is told on the fault output with its cause, and the status is 3.
-pub fn serve_lines<R: Source, S: Alter, L: Layout, P: Paths, W: Output, V: Write>(
-    alloc: Global,
-    session: &mut Session<S, L>,
-    paths: &P,
-    input: &mut R,
-    output: &mut Sink<W>,
+/// The status of a shell whose lines ended so. Where its input can't be read on, that is told on the fault output with its cause, and the
+/// status is 3. Want of memory is passed on.
+pub fn tell_input<V: Write>(
+    answered: Result<Status, LineFault>,
     fault_output: &mut Sink<V>,
 ) -> Result<Status, AllocError>
-    requires { R.has_failed input.old ≡ false }
-    ensures answer { IfOk result (λ status. output.new.failed ≡ false
-        → fault_output.new.failed ≡ false → HasCleanDisk (state S.Store session.new.connection)
-        → IfSome (R.remaining input.old) (λ text. ServesText S.Store (telling_of P.Paths paths.now)
-        L.format (conditions_in L.format session.old) text (R.remaining input.new)
-        (R.has_failed input.new) (W.contents output.old.writer) (W.contents output.new.writer)
-        (V.contents fault_output.old.writer) (V.contents fault_output.new.writer) status
-        session.old.connection session.new.connection)) }
-    ensures stopped { OnErr result (output.new.failed ≡ false
-        → HasCleanDisk (state S.Store session.new.connection) → IfSome (R.remaining input.old)
-        (λ text. StopsText S.Store (telling_of P.Paths paths.now) L.format
-        (conditions_in L.format session.old) Memory text (R.remaining input.new)
-        (W.contents output.old.writer) (W.contents output.new.writer) session.old.connection
-        session.new.connection)) }
+    ensures sound { fault_output.new.failed ≡ false → fault_output.old.failed ≡ false }
+    ensures told { TellsInput answered fault_output.new.failed
+        (V.contents fault_output.old.writer) (V.contents fault_output.new.writer) result }
     ensures silent { OnErr result (fault_output.new ≡ fault_output.old) }
-    ensures does { HasCleanDisk (state S.Store session.new.connection)
-        → HasCleanDisk (state S.Store session.old.connection)
-        × DoesShell S.Store (telling_of P.Paths paths.now) L.format
-        (conditions_in L.format session.old) (R.remaining input.old) session.old.connection
-        session.new.connection }
-    ensures read { ShowsReading (R.has_failed input.new) (R.remaining input.new) result }
 {
-    match run_shell_lines(alloc, session, paths, input, output) {
+    match answered {
         Ok(status) => Ok(status),
         Err(LineFault::Unreadable(cause)) => {
             tell_unread(cause, fault_output);
@@ -80,9 +55,6 @@ pub fn serve_lines<R: Source, S: Alter, L: Layout, P: Paths, W: Output, V: Write
 /// wait for each answer. A line that isn't UTF-8 is a bad one. It ends at the input's end, or with status 3 where a write fails:
 /// no line is read whose answer could not be seen. A failed read, and a line that is longer than an input may be, are
 /// `Unreadable`; the answers of the lines before stay.
-///
-/// What is said of the answers is said of an input that tells its bytes, up to the first line that names a file of which the paths
-/// don't tell them.
 pub fn run_shell_lines<R: Source, S: Alter, L: Layout, P: Paths, W: Output>(
     alloc: Global,
     session: &mut Session<S, L>,
@@ -92,23 +64,14 @@ pub fn run_shell_lines<R: Source, S: Alter, L: Layout, P: Paths, W: Output>(
 ) -> Result<Status, LineFault>
     requires { R.has_failed input.old ≡ false }
     ensures sound { output.new.failed ≡ false → output.old.failed ≡ false }
-    ensures answer { IfOk result (λ status. output.new.failed ≡ false
-        → HasCleanDisk (state S.Store session.new.connection) → IfSome (R.remaining input.old)
-        (λ text. RunsText S.Store (telling_of P.Paths paths.now) L.format
-        (conditions_in L.format session.old) 0 text (W.contents output.old.writer)
-        (W.contents output.new.writer) status session.old.connection session.new.connection)) }
-    ensures stopped { IfErr result (λ why. output.new.failed ≡ false
-        → HasCleanDisk (state S.Store session.new.connection) → IfSome (R.remaining input.old)
-        (λ text. StopsText S.Store (telling_of P.Paths paths.now) L.format
-        (conditions_in L.format session.old) why text (R.remaining input.new)
-        (W.contents output.old.writer) (W.contents output.new.writer) session.old.connection
-        session.new.connection)) }
-    // Whatever is written, also where a write fails.
-    ensures does { HasCleanDisk (state S.Store session.new.connection)
-        → HasCleanDisk (state S.Store session.old.connection)
-        × DoesShell S.Store (telling_of P.Paths paths.now) L.format
-        (conditions_in L.format session.old) (R.remaining input.old) session.old.connection
-        session.new.connection }
+    // Whatever is written; of an input that tells its bytes.
+    ensures lines { HasCleanDisk (state S.Store session.new.connection)
+        → IfSome (R.remaining input.old) (λ text. ShowsShell S.Store (telling_of P.Paths paths.now)
+        L.format (conditions_in L.format session.old) text (R.remaining input.new)
+        output.new.failed (W.contents output.old.writer) (W.contents output.new.writer)
+        session.old.connection session.new.connection result) }
+    ensures clean { HasCleanDisk (state S.Store session.new.connection)
+        → HasCleanDisk (state S.Store session.old.connection) }
     // Only where a write failed a line may be left.
     ensures ends { EndsInput (R.has_failed input.new) output.new.failed (R.remaining input.new)
         result }
@@ -178,26 +141,12 @@ fn run_bytes<S: Alter, L: Layout, P: Paths, W: Write>(
 ) -> Result<Status, AllocError>
     ensures sound { output.new.failed ≡ false → output.old.failed ≡ false }
     // Of bytes that are one line.
-    ensures answer { IfOk result (λ status. output.new.failed ≡ false
-        → HasCleanDisk (state S.Store session.new.connection) → after_first_line bytes.items ≡ []
-        → LeadsOn (state S.Store session.old.connection) (state S.Store session.new.connection)
-        (W.contents output.old.writer) (W.contents output.new.writer) (λ before written later.
-        AnswersAsTold (P.tells paths.now) (conditions_in L.format session.old) number
-        (first_line bytes.items) before written status later)) }
-    ensures over { IfOk result (λ status. output.new.failed ≡ false
-        → HasCleanDisk (state S.Store session.new.connection) → after_first_line bytes.items ≡ []
-        → Writes (W.contents output.old.writer) (W.contents output.new.writer)
-        (λ written. LineOver S.Store (telling_of P.Paths paths.now) L.format
-        (conditions_in L.format session.old) number (first_line bytes.items) session.old.connection
-        written status session.new.connection)) }
-    ensures does { MatchResult result (λ _. HasCleanDisk (state S.Store session.new.connection)
-        → after_first_line bytes.items ≡ [] → DoesLine S.Store (telling_of P.Paths paths.now)
+    ensures answer { HasCleanDisk (state S.Store session.new.connection)
+        → after_first_line bytes.items ≡ [] → ShowsLine S.Store (telling_of P.Paths paths.now)
         L.format (conditions_in L.format session.old) number (first_line bytes.items)
-        session.old.connection session.new.connection) (λ _. (output.new ≡ output.old)
-        × (HasCleanDisk (state S.Store session.new.connection) → after_first_line bytes.items ≡ []
-        → StopsLine S.Store (telling_of P.Paths paths.now) L.format
-        (conditions_in L.format session.old) (first_line bytes.items) session.old.connection
-        session.new.connection)) }
+        output.new.failed (W.contents output.old.writer) (W.contents output.new.writer)
+        session.old.connection session.new.connection result }
+    ensures silent { OnErr result (output.new ≡ output.old) }
     // The session stays under its profile and its limits, and its disk was clean where it is.
     ensures stays { KeepsConditions session.old session.new
         × (HasCleanDisk (state S.Store session.new.connection)

@@ -12,8 +12,7 @@ ghost use Rattle.zeb_program.specs.Errands.{choice_of};
 ghost use Rattle.zeb_program.specs.FaultAnswers.{GivesAnswer, Reaches};
 ghost use Rattle.zeb_program.specs.OverTables.{AnalysesOver, ChangesOver, ServesOver};
 ghost use Rattle.zeb_program.specs.PrivateServing.{CarriesOut, KeepsStill, StandsFor};
-ghost use Rattle.zeb_program.specs.Serving.{AnswersFrom};
-ghost use Rattle.zeb_program.specs.TaskAnswers.{AnswersCommand, AreTold, ReadsWhole, paths_of};
+ghost use Rattle.zeb_program.specs.TaskAnswers.{AreTold, ReadsWhole, paths_of};
 ghost use Rattle.zeb_program.specs.PrivateWarnings as spec;
 ghost use Rattle.zeb_engine.specs.Sessions.{KeepsConditions, conditions_in};
 ghost use Rattle.zeb_program.specs.Warnings.{WarnsBelow, records_in, unmarked_by, unmarked_of, warning_of};
@@ -174,9 +173,9 @@ pub fn carry_out<S: Alter, L: Layout, P: Paths>(
     task: &Task,
 ) -> Result<Served, Fault>
     ensures done { (answer : Result Reply Fault) × StandsFor result answer
-        × CarriesOut (P.tells paths.now) (telling_of P.Paths paths.now) L.format
-        (conditions_in L.format session.old) task.now (state S.Store session.old.connection)
-        (state S.Store session.new.connection) answer }
+        × CarriesOut (telling_of P.Paths paths.now) L.format (conditions_in L.format session.old)
+        task.now (state S.Store session.old.connection) (state S.Store session.new.connection)
+        answer }
     // An analysis leaves the connection as it is, whatever it is answered. Where something couldn't be read, the register was asked for nothing.
     ensures still { KeepsStill S.Store task.now result session.old.connection
         session.new.connection (session.new ≡ session.old) }
@@ -215,9 +214,6 @@ fn to_serve(reply: Result<Reply, Fault>) -> Result<Served, Fault>
 
 /// Asks a register for one command.
 fn ask<S: Alter, L: Layout>(session: &mut Session<S, L>, command: &Command) -> Result<Reply, Fault>
-    ensures answer { HasCleanDisk (state S.Store session.new.connection)
-        → AnswersFrom (state S.Store session.old.connection) (state S.Store session.new.connection)
-        result (AnswersCommand (conditions_in L.format session.old) command.now) }
     ensures over { HasCleanDisk (state S.Store session.new.connection)
         → GivesAnswer (ServesOver L.format (conditions_in L.format session.old) command.now
         (state S.Store session.old.connection) (state S.Store session.new.connection)) result }

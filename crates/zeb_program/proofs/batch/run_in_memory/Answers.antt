@@ -1,4 +1,4 @@
-use Rattle.zeb_program.proofs.Cited.{refl, codes, HasCleanDisk, file_state, conditions, telling_of}
+use Rattle.zeb_program.proofs.Cited.{refl, codes, conditions, telling_of}
 use Rattle.zeb_program.proofs.MemoryLemmas.{always_clean}
 use Rattle.zeb_program.proofs.ScriptAnswerLemmas.{refused_opening, opened_batch, run_from_nothing, stopped_batch, silent_refusal}
 use Rattle.zeb_program.proofs.batch.run_in_memory.Goals as goal
@@ -13,8 +13,8 @@ returns-in-Ok-clause-answer g c =
     let n = c.args.batch.lines_before in
     let text = c.args.batch.text.now in
     opened_batch at c.args.profile old new n text c.run_lines.new.output.failed c.run_lines.result
-    (run_from_nothing at k c.args.profile c.in-Ok.session.connection last old new n text c.run_lines.new.output.failed (HasCleanDisk (file_state last)) c.run_lines.result
-    c.in-Ok.ensures.under c.in-Ok.ensures.empty (always_clean (λ _. refl) last) c.run_lines.ensures.answer c.run_lines.ensures.over)
+    (run_from_nothing at k c.args.profile c.in-Ok.session.connection last old new n text c.run_lines.new.output.failed c.run_lines.result
+    c.in-Ok.ensures.under c.in-Ok.ensures.empty (c.run_lines.ensures.lines (always_clean (λ _. refl) last)))
 
 pub returns-in-Ok-clause-stopped : goal.returns-in-Ok-clause-stopped
 returns-in-Ok-clause-stopped g c =
@@ -22,7 +22,7 @@ returns-in-Ok-clause-stopped g c =
     let last = c.run_lines.new.session.connection in
     let k = conditions (codes "2") session.profile session.limits in
     stopped_batch (telling_of g.P.Paths c.args.paths.now) k c.args.profile session.connection last (g.W.Write.contents c.args.output.now.writer) (g.W.Write.contents c.run_lines.new.output.writer)
-    c.args.batch.lines_before c.args.batch.text.now c.run_lines.new.output.failed (HasCleanDisk (file_state last)) c.run_lines.result c.in-Ok.ensures.under c.in-Ok.ensures.empty (always_clean (λ _. refl) last) c.run_lines.ensures.stopped
+    c.args.batch.lines_before c.args.batch.text.now c.run_lines.new.output.failed c.run_lines.result c.in-Ok.ensures.under c.in-Ok.ensures.empty (c.run_lines.ensures.lines (always_clean (λ _. refl) last))
 
 pub returns-in-Err-clause-answer : goal.returns-in-Err-clause-answer
 returns-in-Err-clause-answer g c = refused_opening (telling_of g.P.Paths c.args.paths.now) _ _ _ _ _ _ c.in-Err.refusal c.refuse.result c.in-Err.ensures.failed c.refuse.ensures.answer
@@ -30,4 +30,4 @@ returns-in-Err-clause-answer g c = refused_opening (telling_of g.P.Paths c.args.
 pub returns-in-Err-clause-stopped : goal.returns-in-Err-clause-stopped
 returns-in-Err-clause-stopped g c =
     silent_refusal (telling_of g.P.Paths c.args.paths.now) (λ sink. g.W.Write.contents sink.writer) c.refuse.new.output.failed c.args.output.now c.refuse.new.output c.args.profile c.args.batch.lines_before c.args.batch.text.now
-    c.refuse.result c.refuse.ensures.stopped
+    c.refuse.result c.refuse.ensures.silent

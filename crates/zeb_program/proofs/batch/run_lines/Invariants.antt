@@ -1,7 +1,5 @@
 use Rattle.zeb_program.proofs.Cited.{◌≡◌, ◌+◌, ◌<◌, ◌^◌, false, length, state, HasCleanDisk, LineOver, Utf8, shadow, telling_of}
 use Rattle.zeb_program.proofs.AnswerLemmas.{IsAnswered}
-use Rattle.zeb_program.proofs.DoneLemmas.{HasDone}
-use Rattle.zeb_program.proofs.ServingLemmas.{Reaches}
 use Rattle.zeb_program.proofs.batch.run_lines.Given as goal
 use Rattle.zeb_engine.specs.Sessions.{conditions_in}
 
@@ -15,15 +13,9 @@ invariant-loop-rest g l =
       sound : l.output.failed ≡ false → l.initial.output.failed ≡ false;
       under : (l.session.profile ≡ before.profile) × (l.session.limits ≡ before.limits);
       clean : HasCleanDisk (state g.S.Store l.session.connection) → HasCleanDisk (state g.S.Store before.connection);
-      done : HasCleanDisk (state g.S.Store l.session.connection)
-          → HasDone g.S.Store (telling_of g.P.Paths l.paths) g.L.Layout.format (conditions_in g.L.Layout.format before)
-          l.batch.lines_before l.batch.text.now before.connection l.number l.rest l.session.connection;
-      over : l.output.failed ≡ false → HasCleanDisk (state g.S.Store l.session.connection)
-          → IsAnswered (LineOver g.S.Store (telling_of g.P.Paths l.paths) g.L.Layout.format (conditions_in g.L.Layout.format before))
+      lines : HasCleanDisk (state g.S.Store l.session.connection)
+          → IsAnswered (LineOver g.S.Store (telling_of g.P.Paths l.paths) g.L.Layout.format (conditions_in g.L.Layout.format before)) l.output.failed
           (g.W.Write.contents l.initial.output.writer) (g.W.Write.contents l.output.writer) l.batch.lines_before l.batch.text.now before.connection l.number l.rest l.greatest l.session.connection;
-      answers : l.output.failed ≡ false → HasCleanDisk (state g.S.Store l.session.connection)
-          → Reaches (g.P.Paths.tells l.paths) (conditions_in g.L.Layout.format before) (state g.S.Store before.connection) (state g.S.Store l.session.connection)
-          (g.W.Write.contents l.initial.output.writer) (g.W.Write.contents l.output.writer) l.batch.lines_before l.batch.text.now l.number l.rest l.greatest;
     }
 
 abbrev pub decreases-loop-rest : goal.decreases-loop-rest

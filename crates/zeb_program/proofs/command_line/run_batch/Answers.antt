@@ -7,8 +7,8 @@ use Rattle.zeb_program.proofs.command_line.run_batch.Goals as goal
 
 pub returns-in-Ok-clause-answer : goal.returns-in-Ok-clause-answer
 returns-in-Ok-clause-answer g c =
-    batch_run (places_of g.P.Store.Store g.P.Paths c.args.paths.now c.serve_batch.new.paths) c.args.config c.in_ok-named.named (g.R.Source.remaining c.args.input.now) _ c.in-Ok.profile c.as_str.result.now _ _ _ _ _ _ c.serve_batch.result
-    c.in_ok-named.ensures.cases c.in-Ok.ensures.begun.0 (subst (IsText (g.R.Source.remaining c.args.input.now)) (sym c.as_str.ensures.value) c.in-Ok.ensures.begun.1) (c.serve_batch.ensures.answer refl)
+    batch_run (places_of g.P.Store.Store g.P.Paths c.args.paths.now c.serve_batch.new.paths) c.args.config c.in_ok-named.named (g.R.Source.remaining c.args.input.now) _ c.in-Ok.profile c.as_str-text.result.now _ _ _ _ _ _ c.serve_batch.result
+    c.in_ok-named.ensures.cases c.in-Ok.ensures.begun.0 (subst (IsText (g.R.Source.remaining c.args.input.now)) (sym c.as_str-text.ensures.value) c.in-Ok.ensures.begun.1) c.serve_batch.ensures.answer
 
 pub returns-in-Err-clause-answer : goal.returns-in-Err-clause-answer
 returns-in-Err-clause-answer g c =
@@ -17,9 +17,9 @@ returns-in-Err-clause-answer g c =
 
 pub returns-in-Ok-clause-stopped : goal.returns-in-Ok-clause-stopped
 returns-in-Ok-clause-stopped g c = (
-  c.serve_batch.ensures.grows,
-  stop_batch (places_of g.P.Store.Store g.P.Paths c.args.paths.now c.serve_batch.new.paths) c.args.config (g.R.Source.remaining c.args.input.now) c.in-Ok.profile c.as_str.result.now _ _ _ _ _ _ c.serve_batch.result
-      c.in-Ok.ensures.begun.0 (subst (IsText (g.R.Source.remaining c.args.input.now)) (sym c.as_str.ensures.value) c.in-Ok.ensures.begun.1) (c.serve_batch.ensures.stopped refl),
+  c.serve_batch.ensures.stopped.0,
+  stop_batch (places_of g.P.Store.Store g.P.Paths c.args.paths.now c.serve_batch.new.paths) c.args.config (g.R.Source.remaining c.args.input.now) c.in-Ok.profile c.as_str-text.result.now _ _ _ _ _ _ c.serve_batch.result
+      c.in-Ok.ensures.begun.0 (subst (IsText (g.R.Source.remaining c.args.input.now)) (sym c.as_str-text.ensures.value) c.in-Ok.ensures.begun.1) c.serve_batch.ensures.stopped.1,
 )
 
 pub returns-in-Err-clause-stopped : goal.returns-in-Err-clause-stopped
@@ -37,7 +37,7 @@ returns-in_err-named-clause-stopped g c = (
 
 pub returns-in-Ok-clause-store : goal.returns-in-Ok-clause-store
 returns-in-Ok-clause-store g c =
-    inr (c.as_str.result.now, subst (IsText (g.R.Source.remaining c.args.input.now)) (sym c.as_str.ensures.value) c.in-Ok.ensures.begun.1, c.in-Ok.profile, c.in-Ok.ensures.begun.0, c.serve_batch.ensures.store refl)
+    inr (c.as_str-text.result.now, subst (IsText (g.R.Source.remaining c.args.input.now)) (sym c.as_str-text.ensures.value) c.in-Ok.ensures.begun.1, c.in-Ok.profile, c.in-Ok.ensures.begun.0, c.serve_batch.ensures.store)
 
 pub returns-in-Err-clause-store : goal.returns-in-Err-clause-store
 returns-in-Err-clause-store g c =

@@ -1,14 +1,24 @@
 use Rattle.zeb_program.proofs.Cited.{◌≡◌, inl, refl, rules, Err, string_bytes, format_of, places_of, IsToldSince, on_err}
-use Rattle.zeb_program.proofs.LeftLemmas.{left_served, left_unserved, starved}
-use Rattle.zeb_program.proofs.StopLemmas.{stop_serving, stop_unnamed, stop_unserved}
+use Rattle.zeb_program.proofs.LeftLemmas.{left_unserved, starved}
+use Rattle.zeb_program.proofs.SessionLemmas.{left_served, shell_grows, shell_reads, shell_served, stop_serving}
+use Rattle.zeb_program.proofs.StopLemmas.{stop_unnamed, stop_unserved}
 use Rattle.zeb_program.proofs.ToldLemmas.{told_unanswered, unbegun_grows, unopened_grows}
 use Rattle.zeb_program.proofs.WordAnswerLemmas.{shell_read, shell_refused}
-use Rattle.zeb_program.proofs.WordRunLemmas.{shell_served, shell_unopened}
+use Rattle.zeb_program.proofs.WordRunLemmas.{shell_unopened}
 use Rattle.zeb_program.proofs.command_line.run_shell.Goals as goal
 use Rattle.zeb_engine.specs.Sessions.{conditions_in}
 
+pub returns-in-Ok-clause-failed_read : goal.returns-in-Ok-clause-failed_read
+returns-in-Ok-clause-failed_read g c =
+    let register = c.in-Ok.register in
+    let format = format_of register.1 in
+    (shell_reads (places_of g.P.Store.Store g.P.Paths c.args.paths.now c.open.new.paths) c.args.config format (conditions_in format register.0) (g.R.Source.remaining c.args.input.now) _ _ register.0.connection _ _ _ _ _ _ c.serve_on.result c.in-Ok.ensures.opened c.serve_on.ensures).0
+
 pub returns-in-Ok-clause-whole : goal.returns-in-Ok-clause-whole
-returns-in-Ok-clause-whole g c = shell_read c.serve_on.result _ _ c.serve_on.ensures.read.1
+returns-in-Ok-clause-whole g c =
+    let register = c.in-Ok.register in
+    let format = format_of register.1 in
+    shell_read c.serve_on.result _ _ (shell_reads (places_of g.P.Store.Store g.P.Paths c.args.paths.now c.open.new.paths) c.args.config format (conditions_in format register.0) (g.R.Source.remaining c.args.input.now) _ _ register.0.connection _ _ _ _ _ _ c.serve_on.result c.in-Ok.ensures.opened c.serve_on.ensures).1
 
 pub returns-in-Err-clause-whole : goal.returns-in-Err-clause-whole
 returns-in-Err-clause-whole g c = shell_refused c.tell_unanswered.result _ _ refl
@@ -17,8 +27,7 @@ pub returns-in-Ok-clause-answer : goal.returns-in-Ok-clause-answer
 returns-in-Ok-clause-answer g c =
     let register = c.in-Ok.register in
     let format = format_of register.1 in
-    shell_served (places_of g.P.Store.Store g.P.Paths c.args.paths.now c.open.new.paths) c.args.config format (conditions_in format register.0) register.0.connection
-    _ _ _ _ _ _ _ _ _ c.serve_on.result c.in-Ok.ensures.opened c.serve_on.ensures.answer
+    shell_served (places_of g.P.Store.Store g.P.Paths c.args.paths.now c.open.new.paths) c.args.config format (conditions_in format register.0) (g.R.Source.remaining c.args.input.now) _ _ register.0.connection _ _ _ _ _ _ c.serve_on.result c.in-Ok.ensures.opened c.serve_on.ensures
 
 pub returns-in-Err-clause-answer : goal.returns-in-Err-clause-answer
 returns-in-Err-clause-answer g c =
@@ -29,9 +38,8 @@ pub returns-in-Ok-clause-stopped : goal.returns-in-Ok-clause-stopped
 returns-in-Ok-clause-stopped g c =
     let register = c.in-Ok.register in
     let format = format_of register.1 in (
-      c.serve_on.ensures.stopped.0,
-      stop_serving (places_of g.P.Store.Store g.P.Paths c.args.paths.now c.open.new.paths) c.args.config format (conditions_in format register.0) register.0.connection
-          _ _ _ _ _ _ _ _ c.serve_on.result c.in-Ok.ensures.opened c.serve_on.ensures.stopped.1,
+      shell_grows (places_of g.P.Store.Store g.P.Paths c.args.paths.now c.open.new.paths) c.args.config format (conditions_in format register.0) (g.R.Source.remaining c.args.input.now) _ _ register.0.connection _ _ _ _ _ _ c.serve_on.result c.in-Ok.ensures.opened c.serve_on.ensures,
+      stop_serving (places_of g.P.Store.Store g.P.Paths c.args.paths.now c.open.new.paths) c.args.config format (conditions_in format register.0) (g.R.Source.remaining c.args.input.now) _ _ register.0.connection _ _ _ _ _ _ c.serve_on.result c.in-Ok.ensures.opened c.serve_on.ensures,
     )
 
 pub returns-in-Err-clause-stopped : goal.returns-in-Err-clause-stopped
@@ -51,8 +59,7 @@ pub returns-in-Ok-clause-store : goal.returns-in-Ok-clause-store
 returns-in-Ok-clause-store g c =
     let register = c.in-Ok.register in
     let format = format_of register.1 in
-    left_served (places_of g.P.Store.Store g.P.Paths c.args.paths.now c.open.new.paths) c.args.config format (conditions_in format register.0) register.0.connection
-    (g.R.Source.remaining c.args.input.now) c.serve_on.result (IsToldSince c.serve_on.new.fault_output.failed (g.V.Write.contents c.args.fault_output.now.writer) (g.V.Write.contents c.serve_on.new.fault_output.writer)) c.in-Ok.ensures.opened c.serve_on.ensures.store
+    left_served (places_of g.P.Store.Store g.P.Paths c.args.paths.now c.open.new.paths) c.args.config format (conditions_in format register.0) (g.R.Source.remaining c.args.input.now) _ _ register.0.connection _ _ _ _ _ _ c.serve_on.result c.in-Ok.ensures.opened c.serve_on.ensures (IsToldSince c.serve_on.new.fault_output.failed (g.V.Write.contents c.args.fault_output.now.writer) (g.V.Write.contents c.serve_on.new.fault_output.writer))
 
 pub returns-in-Err-clause-store : goal.returns-in-Err-clause-store
 returns-in-Err-clause-store g c =

@@ -1,66 +1,40 @@
-use Rattle.zeb_program.proofs.Cited.{state, HasCleanDisk, ◌∙◌, [], ◌∷◌, ap, inl, inr, map, refl, string_bytes, telling_of}
-use Rattle.zeb_program.proofs.DoneLemmas.{met_done, met_either}
-use Rattle.zeb_program.proofs.LineStopLemmas.{done_fault, done_reply, same_err, stopped_fault}
-use Rattle.zeb_program.proofs.OverLemmas.{refused_path, replied_path}
-use Rattle.zeb_program.proofs.PathLemmas.{refused_file, replied_file}
+use Rattle.zeb_program.proofs.Cited.{◌∙◌, ◌≡◌, ap, Err, Ok, answer_status, answer_text, inr, refl, rules, TellsFault, telling_of}
+use Rattle.zeb_program.proofs.LineStopLemmas.{path_over, path_stops, same_err}
+use Rattle.zeb_program.proofs.ShownLemmas.{starved, told_or_done}
 use Rattle.zeb_program.proofs.path_changes.run_path_change.Goals as goal
 use Rattle.zeb_engine.specs.Sessions.{conditions_in}
 
 pub returns-in_ok-render-in-Ok-clause-answer : goal.returns-in_ok-render-in-Ok-clause-answer
-returns-in_ok-render-in-Ok-clause-answer g c =
-    let tells = g.P.Paths.tells c.args.paths.now in
-    let k = conditions_in g.L.Layout.format c.args.session.now in
-    let old = state g.S.Store c.args.session.now.connection in
-    let new = state g.S.Store c.change_by_paths.new.session.connection in
-    replied_file tells k c.args.change.now old new (g.W.Write.contents c.args.output.now.writer) (g.W.Write.contents c.write.new.self.writer)
-    c.in-Ok.reply c.as_slice.result.now c.write.new.self.failed (HasCleanDisk new)
-    (λ clean file known. (c.in-Ok.ensures.changes clean).leaves.serves (file ∷ []) (inl (ap (map tells) (ap (map string_bytes) c.from_ref-named.ensures.value) ∙ ap (λ told. told ∷ []) known)))
-    (c.as_slice.ensures.value ∙ c.in_ok-render-in-Ok.ensures) c.write.ensures.bytes
+returns-in_ok-render-in-Ok-clause-answer g c = λ clean.
+    let bytes = c.as_slice.result.now in (
+      bytes,
+      path_over g.S.Store (telling_of g.P.Paths c.args.paths.now) g.L.Layout.format (conditions_in g.L.Layout.format c.args.session.now) c.args.change.now c.args.session.now.connection c.change_by_paths.new.session.connection
+          c.from_ref-named.result.now c.from_ref-named.ensures.value (Ok c.in-Ok.reply) bytes _ c.in-Ok.ensures.reaches (c.in-Ok.ensures.changes clean) (c.as_slice.ensures.value ∙ c.in_ok-render-in-Ok.ensures, refl),
+      c.write.ensures.bytes,
+    )
+
+pub returns-in_err-render-in-Ok-clause-answer : goal.returns-in_err-render-in-Ok-clause-answer
+returns-in_err-render-in-Ok-clause-answer g c = λ clean.
+    let reply = c.in-Ok.reply in
+    let is : c.from_residual.result ≡ Err c.in_err-render-in-Ok.field-0.0 = search rules in
+    starved _ _ _ _ _ c.from_residual.result c.in_err-render-in-Ok.field-0.0 is
+    (inr (
+      answer_text (Ok reply),
+      answer_status (Ok reply),
+      path_over g.S.Store (telling_of g.P.Paths c.args.paths.now) g.L.Layout.format (conditions_in g.L.Layout.format c.args.session.now) c.args.change.now c.args.session.now.connection c.change_by_paths.new.session.connection
+          c.from_ref-named.result.now c.from_ref-named.ensures.value (Ok reply) _ _ c.in-Ok.ensures.reaches (c.in-Ok.ensures.changes clean) (refl, refl),
+    ))
+
+pub returns-in_err-render-in-Ok-clause-silent : goal.returns-in_err-render-in-Ok-clause-silent
+returns-in_err-render-in-Ok-clause-silent g c = same_err c.from_residual.result refl
 
 pub returns-in-Err-clause-answer : goal.returns-in-Err-clause-answer
-returns-in-Err-clause-answer g c =
-    let tells = g.P.Paths.tells c.args.paths.now in
+returns-in-Err-clause-answer g c = λ clean.
+    let at = telling_of g.P.Paths c.args.paths.now in
     let k = conditions_in g.L.Layout.format c.args.session.now in
-    let old = state g.S.Store c.args.session.now.connection in
-    let new = state g.S.Store c.change_by_paths.new.session.connection in
-    refused_file tells k c.args.change.now old new (g.W.Write.contents c.args.output.now.writer) (g.W.Write.contents c.tell.new.output.writer)
-    c.in-Err.fault c.tell.new.output.failed (HasCleanDisk new) c.tell.result
-    (λ clean file known. (c.in-Err.ensures.changes clean).leaves.serves (file ∷ []) (inl (ap (map tells) (ap (map string_bytes) c.from_ref-named.ensures.value) ∙ ap (λ told. told ∷ []) known)))
-    c.tell.ensures.told
-
-pub returns-in_ok-render-in-Ok-clause-over : goal.returns-in_ok-render-in-Ok-clause-over
-returns-in_ok-render-in-Ok-clause-over g c =
-    let new = state g.S.Store c.change_by_paths.new.session.connection in
-    replied_path (telling_of g.P.Paths c.args.paths.now) g.L.Layout.format (conditions_in g.L.Layout.format c.args.session.now) c.args.change.now (state g.S.Store c.args.session.now.connection) new
-    (g.W.Write.contents c.args.output.now.writer) (g.W.Write.contents c.write.new.self.writer) c.write.new.self.failed (HasCleanDisk new) c.from_ref-named.result.now
-    c.in-Ok.reply c.as_slice.result.now c.from_ref-named.ensures.value c.in-Ok.ensures.reaches c.in-Ok.ensures.changes (c.as_slice.ensures.value ∙ c.in_ok-render-in-Ok.ensures) c.write.ensures.bytes
-
-pub returns-in-Err-clause-over : goal.returns-in-Err-clause-over
-returns-in-Err-clause-over g c =
-    let new = state g.S.Store c.change_by_paths.new.session.connection in
-    refused_path (telling_of g.P.Paths c.args.paths.now) g.L.Layout.format (conditions_in g.L.Layout.format c.args.session.now) c.args.change.now (state g.S.Store c.args.session.now.connection) new
-    (g.W.Write.contents c.args.output.now.writer) (g.W.Write.contents c.tell.new.output.writer) c.tell.new.output.failed (HasCleanDisk new) c.from_ref-named.result.now
-    c.in-Err.fault c.tell.result c.from_ref-named.ensures.value
-    c.in-Err.ensures.reaches c.in-Err.ensures.changes c.tell.ensures.told
-
-pub returns-in_ok-render-in-Ok-clause-does : goal.returns-in_ok-render-in-Ok-clause-does
-returns-in_ok-render-in-Ok-clause-does g c = λ clean.
-    done_reply g.S.Store (telling_of g.P.Paths c.args.paths.now) g.L.Layout.format (conditions_in g.L.Layout.format c.args.session.now) c.args.change.now
-    c.args.session.now.connection c.change_by_paths.new.session.connection c.from_ref-named.result.now c.from_ref-named.ensures.value c.in-Ok.reply c.in-Ok.ensures.reaches (c.in-Ok.ensures.changes clean)
-
-pub returns-in_err-render-in-Ok-clause-does : goal.returns-in_err-render-in-Ok-clause-does
-returns-in_err-render-in-Ok-clause-does g c =
-    met_done c.from_residual.result _ _ _ (same_err c.from_residual.result refl)
-    (λ clean. done_reply g.S.Store (telling_of g.P.Paths c.args.paths.now) g.L.Layout.format (conditions_in g.L.Layout.format c.args.session.now) c.args.change.now
-    c.args.session.now.connection c.change_by_paths.new.session.connection c.from_ref-named.result.now c.from_ref-named.ensures.value c.in-Ok.reply c.in-Ok.ensures.reaches (c.in-Ok.ensures.changes clean))
-    (λ done clean. inr (done clean))
-
-pub returns-in-Err-clause-does : goal.returns-in-Err-clause-does
-returns-in-Err-clause-does g c =
-    met_either c.tell.result _ _ _ c.tell.ensures.silent
-    (λ told clean. done_fault g.S.Store (telling_of g.P.Paths c.args.paths.now) g.L.Layout.format (conditions_in g.L.Layout.format c.args.session.now) c.args.change.now
-    c.args.session.now.connection c.change_by_paths.new.session.connection c.from_ref-named.result.now c.from_ref-named.ensures.value c.in-Err.fault
-    (λ is. told (c.tell.ensures.status.0 is)) c.in-Err.ensures.reaches (c.in-Err.ensures.changes clean))
-    (λ clean. stopped_fault g.S.Store (telling_of g.P.Paths c.args.paths.now) g.L.Layout.format (conditions_in g.L.Layout.format c.args.session.now) c.args.change.now
-    c.args.session.now.connection c.change_by_paths.new.session.connection c.from_ref-named.result.now c.from_ref-named.ensures.value c.in-Err.fault
+    let old = c.args.session.now.connection in
+    let new = c.change_by_paths.new.session.connection in
+    told_or_done _ _ _ _ _ (TellsFault c.in-Err.fault) c.tell.result c.tell.ensures.told
+    (λ bytes status told. path_over g.S.Store at g.L.Layout.format k c.args.change.now old new c.from_ref-named.result.now c.from_ref-named.ensures.value (Err c.in-Err.fault) bytes status c.in-Err.ensures.reaches (c.in-Err.ensures.changes clean) told)
+    (path_stops g.S.Store at g.L.Layout.format k c.args.change.now old new c.from_ref-named.result.now c.from_ref-named.ensures.value c.in-Err.fault
     (λ unread. ap (λ session. session.connection) (c.in-Err.ensures.unread unread)) c.in-Err.ensures.reaches (c.in-Err.ensures.changes clean))

@@ -14,7 +14,7 @@ returns-clause-serves g c =
     let last = c.carry_out-served.new.session.connection in
     let at = telling_of g.P.Paths c.args.paths.now in
     gives_for c.told_of.result (λ answer. IsOwnOr answer own) (ServesOnNothing (g.P.Paths.tells c.args.paths.now) at c.args.profile c.args.task.now)
-    (λ answer. served_nothing (g.P.Paths.tells c.args.paths.now) at c.args.profile c.args.task.now k (file_state session.connection) (file_state last) own answer
+    (λ answer. served_nothing at c.args.profile c.args.task.now k (file_state session.connection) (file_state last) own answer
     c.in_ok-session.ensures.under c.in_ok-session.ensures.empty (always_clean (λ _. refl) last) done.2) (c.told_of.ensures.gives own done.1)
 
 pub returns-clause-warns : goal.returns-clause-warns

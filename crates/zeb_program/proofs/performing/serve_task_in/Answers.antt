@@ -17,7 +17,7 @@ returns-clause-serves g c =
     let done = c.carry_out-served.ensures.done in
     let closed = c.close_register-closed.result in (
       gives_for c.told_of.result (λ answer. IsOwnOr answer done.0) (ServesHeld store leaves tells at format k task held closed)
-          (λ answer. served_held store leaves tells at format k task held c.carry_out-served.new.session.connection closed done.0 answer c.carry_out-served.ensures.still.0 done.2 c.close_register-closed.ensures)
+          (λ answer. served_held store leaves at format k task held c.carry_out-served.new.session.connection closed done.0 answer c.carry_out-served.ensures.still.0 done.2 c.close_register-closed.ensures)
           (c.told_of.ensures.gives done.0 done.1),
       c.told_of.ensures.explains,
     )

@@ -1,9 +1,7 @@
-use Rattle.zeb_program.proofs.Cited.{◌≡◌, Err, refl, rules, state, LineOver, Memory, telling_of}
-use Rattle.zeb_program.proofs.DoneLemmas.{done_next}
-use Rattle.zeb_program.proofs.LineStopLemmas.{stopped_next, stopped_still}
+use Rattle.zeb_program.proofs.Cited.{◌≡◌, ℕ, List, Err, refl, rules, LineOver, Memory, StopsLine, WritesUnless, telling_of}
+use Rattle.zeb_program.proofs.LineStopLemmas.{stopped_still}
 use Rattle.zeb_program.proofs.LineInputLemmas.{ends_read}
-use Rattle.zeb_program.proofs.ShellLemmas.{next_answer, next_none, next_some, next_taken, none_read}
-use Rattle.zeb_program.proofs.ShellOverLemmas.{next_over}
+use Rattle.zeb_program.proofs.ShellLemmas.{next_first, next_none, next_some, next_taken, none_read, passed_on}
 use Rattle.zeb_program.proofs.ShellTextLemmas.{stops_line}
 use Rattle.zeb_program.proofs.shell.run_next_line.Goals as goal
 use Rattle.zeb_engine.specs.Sessions.{conditions_in}
@@ -12,18 +10,16 @@ pub returns-clause-line : goal.returns-clause-line
 returns-clause-line g c =
     let k = conditions_in g.L.Layout.format c.args.session.now in
     let left = g.R.Source.remaining c.args.input.now in
+    let Over : List ℕ → List ℕ → Type 0 = λ line bytes. LineOver g.S.Store (telling_of g.P.Paths c.args.paths.now) g.L.Layout.format k c.args.number line c.args.session.now.connection bytes c.in_ok-status.status c.run_bytes.new.session.connection in
+    let wrote = g.W.Write.contents c.args.output.now.writer in
+    let mid = g.W.Write.contents c.run_bytes.new.output.writer in
+    let writes = g.W.Write.contents c.flush.new.self.writer in
     record {
       some = next_some c.in_ok-bytes.bytes.items left c.in_ok-bytes.ensures.read.0 (search rules);
       taken = next_taken c.in_ok-bytes.bytes.items left _ c.in_ok-bytes.ensures.read.0 c.in_ok-bytes.ensures.read.1;
       passed = c.flush.ensures.passed;
-      answer = λ sound clean. next_answer (g.P.Paths.tells c.args.paths.now) k c.args.number c.in_ok-status.status c.in_ok-bytes.bytes.items left (state g.S.Store c.args.session.now.connection)
-          (state g.S.Store c.run_bytes.new.session.connection) (g.W.Write.contents c.args.output.now.writer) (g.W.Write.contents c.run_bytes.new.output.writer) (g.W.Write.contents c.flush.new.self.writer)
-          c.in_ok-bytes.ensures.read.0 (c.in_ok-status.ensures.answer (c.flush.ensures.sound sound) clean) (c.flush.ensures.bytes sound);
-      over = λ sound clean. next_over (LineOver g.S.Store (telling_of g.P.Paths c.args.paths.now) g.L.Layout.format k) c.args.number c.in_ok-status.status c.in_ok-bytes.bytes.items left
-          c.args.session.now.connection c.run_bytes.new.session.connection (g.W.Write.contents c.args.output.now.writer) (g.W.Write.contents c.run_bytes.new.output.writer) (g.W.Write.contents c.flush.new.self.writer)
-          c.in_ok-bytes.ensures.read.0 (c.in_ok-status.ensures.over (c.flush.ensures.sound sound) clean) (c.flush.ensures.bytes sound);
-      does = λ clean. done_next g.S.Store (telling_of g.P.Paths c.args.paths.now) g.L.Layout.format k c.args.session.now.connection c.run_bytes.new.session.connection c.args.number c.in_ok-bytes.bytes.items left
-          c.in_ok-bytes.ensures.read.0 (c.in_ok-status.ensures.does clean);
+      line = λ clean. next_first (λ line. WritesUnless c.flush.new.self.failed wrote writes (Over line)) c.in_ok-bytes.bytes.items left c.in_ok-bytes.ensures.read.0
+          (λ alone. passed_on c.run_bytes.new.output.failed c.flush.new.self.failed wrote mid writes _ c.flush.ensures.sound c.flush.ensures.bytes (c.in_ok-status.ensures.answer clean alone));
     }
 
 pub returns-then-is_empty-clause-line : goal.returns-then-is_empty-clause-line
@@ -46,6 +42,6 @@ returns-in_err-status-clause-line g c =
     let is : c.from_residual-in_err-status.result ≡ Err Memory = search rules in
     let k = conditions_in g.L.Layout.format c.args.session.now in
     stops_line _ _ _ c.from_residual-in_err-status.result Memory is (
-      (λ clean. stopped_next g.S.Store (telling_of g.P.Paths c.args.paths.now) g.L.Layout.format k c.args.session.now.connection c.run_bytes.new.session.connection c.in_ok-bytes.bytes.items (g.R.Source.remaining c.args.input.now) c.in_ok-bytes.ensures.read.0 (c.in_err-status.ensures.does.1 clean), ends_read (g.R.Source.remaining c.args.input.now) (g.R.Source.remaining c.read_line.new.source) c.in_ok-bytes.bytes.items c.in_ok-bytes.ensures.read.0 c.in_ok-bytes.ensures.read.1 c.read_line.ensures.bounded),
-      c.in_err-status.ensures.does.0,
+      (λ clean. next_first (λ line. StopsLine g.S.Store (telling_of g.P.Paths c.args.paths.now) g.L.Layout.format k line c.args.session.now.connection c.run_bytes.new.session.connection) c.in_ok-bytes.bytes.items (g.R.Source.remaining c.args.input.now) c.in_ok-bytes.ensures.read.0 (c.in_err-status.ensures.answer clean), ends_read (g.R.Source.remaining c.args.input.now) (g.R.Source.remaining c.read_line.new.source) c.in_ok-bytes.bytes.items c.in_ok-bytes.ensures.read.0 c.in_ok-bytes.ensures.read.1 c.read_line.ensures.bounded),
+      c.in_err-status.ensures.silent,
     )

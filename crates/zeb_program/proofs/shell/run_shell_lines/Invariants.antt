@@ -1,7 +1,5 @@
-use Rattle.zeb_program.proofs.Cited.{◌≡◌, false, state, HasCleanDisk, LineOver, telling_of}
-use Rattle.zeb_program.proofs.DoneLemmas.{HasServed}
-use Rattle.zeb_program.proofs.ShellLemmas.{Serves}
-use Rattle.zeb_program.proofs.ShellOverLemmas.{Goes}
+use Rattle.zeb_program.proofs.Cited.{◌≡◌, false, state, HasCleanDisk, telling_of}
+use Rattle.zeb_program.proofs.ShellLemmas.{Goes}
 use Rattle.zeb_program.proofs.shell.run_shell_lines.Given as goal
 use Rattle.zeb_engine.specs.Sessions.{conditions_in}
 
@@ -14,15 +12,8 @@ invariant-loop-lines_before g l =
       sound : l.output.failed ≡ false → l.initial.output.failed ≡ false;
       under : (l.session.profile ≡ before.profile) × (l.session.limits ≡ before.limits);
       clean : HasCleanDisk (state g.S.Store l.session.connection) → HasCleanDisk (state g.S.Store before.connection);
-      done : HasCleanDisk (state g.S.Store l.session.connection)
-          → HasServed g.S.Store (telling_of g.P.Paths l.paths) g.L.Layout.format (conditions_in g.L.Layout.format before)
-          (g.R.Source.remaining l.initial.input) (g.R.Source.remaining l.input) l.lines_before before.connection l.session.connection;
-      over : l.output.failed ≡ false → HasCleanDisk (state g.S.Store l.session.connection)
-          → Goes (LineOver g.S.Store (telling_of g.P.Paths l.paths) g.L.Layout.format (conditions_in g.L.Layout.format before))
+      lines : HasCleanDisk (state g.S.Store l.session.connection)
+          → Goes g.S.Store (telling_of g.P.Paths l.paths) g.L.Layout.format (conditions_in g.L.Layout.format before) l.output.failed
           (g.W.Write.contents l.initial.output.writer) (g.W.Write.contents l.output.writer) (g.R.Source.remaining l.initial.input) (g.R.Source.remaining l.input) l.lines_before l.greatest
           before.connection l.session.connection;
-      answers : l.output.failed ≡ false → HasCleanDisk (state g.S.Store l.session.connection)
-          → Serves (g.P.Paths.tells l.paths) (conditions_in g.L.Layout.format before) (state g.S.Store before.connection)
-          (state g.S.Store l.session.connection) (g.W.Write.contents l.initial.output.writer) (g.W.Write.contents l.output.writer)
-          (g.R.Source.remaining l.initial.input) (g.R.Source.remaining l.input) l.lines_before l.greatest;
     }

@@ -1,16 +1,7 @@
-use Rattle.zeb_program.proofs.Cited.{state, IfErr, OnErr, GivesAnswer, ServesOver, IsUnread, AnswersFrom, AnswersCommand, ChangesNothing}
+use Rattle.zeb_program.proofs.Cited.{state, IfErr, OnErr, GivesAnswer, ServesOver, IsUnread, ChangesNothing}
 use Rattle.zeb_program.proofs.OverLemmas.{as_given, given_read, given_refused, gives}
-use Rattle.zeb_program.proofs.TaskLemmas.{given_command}
 use Rattle.zeb_program.proofs.tasks.ask.Goals as goal
 use Rattle.zeb_engine.specs.Sessions.{conditions_in}
-
-pub returns-clause-answer : goal.returns-clause-answer
-returns-clause-answer g c = λ clean.
-    let k = conditions_in g.L.Layout.format c.args.session.now in
-    let old = state g.S.Store c.args.session.now.connection in
-    let new = state g.S.Store c.command.new.self.connection in
-    as_given (λ it. AnswersFrom old new it (AnswersCommand k c.args.command.now)) c.command.result c.as_told.result c.as_told.ensures
-    (given_command k c.args.command.now old new c.command.result (c.command.ensures.step clean))
 
 pub returns-clause-over : goal.returns-clause-over
 returns-clause-over g c = λ clean.

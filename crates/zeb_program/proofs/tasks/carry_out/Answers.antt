@@ -1,6 +1,6 @@
-use Rattle.zeb_program.proofs.Cited.{state, inl, refl, subst, sym, telling_of, ReadsWhole, paths_of}
+use Rattle.zeb_program.proofs.Cited.{state, refl, subst, sym, telling_of, ReadsWhole, paths_of}
 use Rattle.zeb_program.proofs.OverLemmas.{analysed_task_over, asked_task_over, changed_task_over}
-use Rattle.zeb_program.proofs.TaskLemmas.{analysed_files, analysed_task, analysis_reaches, asked_reaches, asked_task, change_reaches, changed_task}
+use Rattle.zeb_program.proofs.TaskLemmas.{analysis_reaches, asked_reaches, change_reaches}
 use Rattle.zeb_program.proofs.WarningLemmas.{below_task, served_whole}
 use Rattle.zeb_program.proofs.WordRunLemmas.{replied_reaches}
 use Rattle.zeb_program.proofs.tasks.carry_out.Goals as goal
@@ -8,7 +8,6 @@ use Rattle.zeb_engine.specs.Sessions.{conditions_in}
 
 pub returns-in-Ask-clause-done : goal.returns-in-Ask-clause-done
 returns-in-Ask-clause-done g c =
-    let told = g.P.Paths.tells c.args.paths.now in
     let at = telling_of g.P.Paths c.args.paths.now in
     let k = conditions_in g.L.Layout.format c.args.session.now in
     let old = state g.S.Store c.args.session.now.connection in
@@ -16,7 +15,6 @@ returns-in-Ask-clause-done g c =
       c.ask.result,
       c.to_serve.ensures.reply,
       record {
-        serves = λ clean. asked_task told k c.args.task.now old new c.ask.result c.in-Ask.command c.in-Ask.is (c.ask.ensures.answer clean);
         over = λ clean. asked_task_over at g.L.Layout.format k c.args.task.now old new c.ask.result c.in-Ask.command c.in-Ask.is (c.ask.ensures.over clean) (c.ask.ensures.refused clean);
         reaches = asked_reaches at c.args.task.now c.in-Ask.command c.ask.result c.in-Ask.is c.ask.ensures.read;
       },
@@ -24,7 +22,6 @@ returns-in-Ask-clause-done g c =
 
 pub returns-in-Change-clause-done : goal.returns-in-Change-clause-done
 returns-in-Change-clause-done g c =
-    let told = g.P.Paths.tells c.args.paths.now in
     let at = telling_of g.P.Paths c.args.paths.now in
     let k = conditions_in g.L.Layout.format c.args.session.now in
     let old = state g.S.Store c.args.session.now.connection in
@@ -33,9 +30,6 @@ returns-in-Change-clause-done g c =
       own,
       c.to_serve-in-Change.ensures.reply,
       record {
-        serves = λ clean.
-            changed_task told k c.args.task.now old new own c.in-Change.kind c.in-Change.database c.in-Change.named c.deref.result.now
-            c.in-Change.is c.deref.ensures.value (λ files known. (c.change_by_paths.ensures.changes clean).leaves.serves files (inl known));
         over = λ clean.
             changed_task_over at g.L.Layout.format k c.args.task.now old new own c.in-Change.kind c.in-Change.database c.in-Change.named c.deref.result.now
             c.in-Change.is c.deref.ensures.value (c.change_by_paths.ensures.changes clean);
@@ -45,7 +39,6 @@ returns-in-Change-clause-done g c =
 
 pub returns-in-Analyse-clause-done : goal.returns-in-Analyse-clause-done
 returns-in-Analyse-clause-done g c =
-    let told = g.P.Paths.tells c.args.paths.now in
     let at = telling_of g.P.Paths c.args.paths.now in
     let k = conditions_in g.L.Layout.format c.args.session.now in
     let held = state g.S.Store c.args.session.now.connection in
@@ -53,9 +46,6 @@ returns-in-Analyse-clause-done g c =
       done.0,
       done.1,
       record {
-        serves = λ clean.
-            analysed_task told k c.args.task.now held held done.0 c.in-Analyse.named c.deref-in-Analyse.result.now c.in-Analyse.is c.deref-in-Analyse.ensures.value
-            (λ files known. analysed_files k at _ files known held done.0 done.2);
         over = λ clean.
             analysed_task_over at g.L.Layout.format k c.args.task.now held held done.0 c.in-Analyse.named c.deref-in-Analyse.result.now c.in-Analyse.is c.deref-in-Analyse.ensures.value done.2 refl;
         reaches = replied_reaches at (ReadsWhole c.args.task.now) (paths_of c.args.task.now) c.analyse_paths.result done.0 done.1 (analysis_reaches at c.args.task.now c.in-Analyse.named c.deref-in-Analyse.result.now c.analyse_paths.result c.in-Analyse.is c.deref-in-Analyse.ensures.value c.analyse_paths.ensures.reaches);
