@@ -49,6 +49,9 @@ fn part(name: &str) -> &'static str {
         "posted" => moby_dick::POSTED,
         "answers" => moby_dick::ANSWERS,
         "terms" => scanning::TERMS,
+        "first" => leaves::FIRST,
+        "second" => leaves::SECOND,
+        "whole" => leaves::WHOLE,
         _ => "no such part",
     }
 }
@@ -104,41 +107,55 @@ impl<S: Alter> Opened<S> {
         match words.word() {
             "do" => self.change_alone::<L>(words, true, text),
             "undo" => self.change_alone::<L>(words, false, text),
-            "UPDATE" => execute(&mut self.conn, step, text),
+            "UPDATE" | "INSERT" => execute(&mut self.conn, step, text),
             "SELECT" => rows(&mut self.conn, step, text),
             word => self.read::<L>(word, words, text),
         }
     }
 
     /// What a step answers. One behind `use` has the steps that follow be on that database, and one behind `limit` limits each statement.
-    fn answer<L: Layout>(&mut self, alloc: Global, step: &str) -> Result<String, RegFault> {
-        let mut text = String::new(alloc);
+    fn answer<L: Layout>(&mut self, alloc: Global, step: &str, text: &mut String) -> Done {
         let (word, rest) = step.split_once(' ').unwrap_or((step, ""));
         match word {
             "use" => self.db = database_of(&mut self.conn, rest)?.map(|found| found.id),
             "limit" => self.conn.set_step_limit(rest.parse().ok()),
-            _ => self.step::<L>(alloc, step, &mut text)?,
+            _ => self.step::<L>(alloc, step, text)?,
         }
-        Ok(text)
+        Ok(())
     }
 
-    /// The same on one line, a fault by its name.
-    fn told<L: Layout>(&mut self, alloc: Global, step: &str) -> Result<String, Fail> {
-        match self.answer::<L>(alloc, step) {
-            Ok(text) => Ok(text.replace(alloc, '\n', ";")?),
-            Err(fault) => Ok(format!(in alloc; "{fault}")?),
+    /// Puts the same, a fault by its name.
+    fn tell<L: Layout>(&mut self, alloc: Global, step: &str, text: &mut String) -> Outcome {
+        if let Err(fault) = self.answer::<L>(alloc, step, text) {
+            text.clear();
+            write!(text, "{fault}")?;
         }
+        Ok(())
+    }
+
+    /// The same on one line.
+    fn told<L: Layout>(&mut self, alloc: Global, step: &str) -> Result<String, Fail> {
+        let mut text = String::new(alloc);
+        self.tell::<L>(alloc, step, &mut text)?;
+        Ok(text.replace(alloc, '\n', ";")?)
+    }
+
+    /// A line gets its answer.
+    fn run_line<L: Layout>(&mut self, alloc: Global, line: &str) -> Outcome {
+        let Some((step, wanted)) = row_of::<L>(line) else {
+            return Ok(());
+        };
+        let text = self.told::<L>(alloc, step)?;
+        if text.as_str() == wanted {
+            return Ok(());
+        }
+        Err(Fail::new(format!(in alloc; "{line}: {text}")?))
     }
 
     /// Each line gets its answer.
     fn answers<L: Layout>(&mut self, alloc: Global, lines: &str) -> Outcome {
         for line in lines.split('\n') {
-            if let Some((step, wanted)) = row_of::<L>(line) {
-                let text = self.told::<L>(alloc, step)?;
-                if text.as_str() != wanted {
-                    return Err(Fail::new(format!(in alloc; "{line}: {text}")?));
-                }
-            }
+            self.run_line::<L>(alloc, line)?;
         }
         Ok(())
     }
@@ -156,7 +173,7 @@ impl<S: Alter> Opened<S> {
         for line in table.split('\n') {
             match line.strip_prefix("with ") {
                 Some(names) => self.parts::<L>(alloc, names)?,
-                None => self.answers::<L>(alloc, line)?,
+                None => self.run_line::<L>(alloc, line)?,
             }
         }
         Ok(())
@@ -196,6 +213,11 @@ fn records_and_lists_stand_as_they_were_put(rt: HostRuntime) -> Outcome {
 fn terms_come_in_the_order_of_their_bytes(rt: HostRuntime) -> Outcome {
     run_in_each(rt.alloc(), scanning::TABLES)?;
     run_in_each(rt.alloc(), scanning::NEIGHBOURS)
+}
+
+#[test]
+fn leaves_are_read_and_changed(rt: HostRuntime) -> Outcome {
+    run_all::<Leaves>(rt.alloc(), leaves::TABLES)
 }
 
 #[test]

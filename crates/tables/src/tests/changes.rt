@@ -3,6 +3,7 @@
 use super::words::{Change, Words};
 use super::{Done, Opened};
 use sqlite::{Alter, Transaction};
+use std::alloc::Global;
 use std::cmp::Ordering;
 use worked_samples::record;
 use zeb_keys::order_is_by_parts;
@@ -24,56 +25,77 @@ pub fn name_of(bytes: &[u8]) -> &str {
     worked_samples::name_of(bytes).unwrap_or(str::from_utf8(bytes).unwrap_or("no text"))
 }
 
-/// A key, and a change of it.
 fn change_key<S: Alter, L: Layout>(
     tx: &mut Transaction<'_, S>,
     db: DatabaseId,
-    mut words: Words<'_>,
+    change: &Change,
 ) -> Done {
-    let (key, Change { sysno, old, new }) = (words.key()?, words.change()?);
-    L::key_change(tx, &mut Work::default(), db, &key, sysno, &old, &new)
+    let (work, sysno) = (&mut Work::default(), change.sysno);
+    L::key_change(tx, work, db, &change.key, sysno, &change.old, &change.new)
+}
+
+/// A record that has the word as its identifier too.
+fn put_word<S: Alter, L: Layout>(
+    tx: &mut Transaction<'_, S>,
+    db: DatabaseId,
+    change: &Change,
+) -> Done {
+    record_put(tx, db, change.sysno, change.key.term.as_str(), b"x")?;
+    change_key::<S, L>(tx, db, change)
 }
 
 /// So many records with numbers from 1 on, each with a word of its own.
 fn fill<S: Alter, L: Layout>(
     tx: &mut Transaction<'_, S>,
     db: DatabaseId,
-    mut words: Words<'_>,
+    alloc: Global,
+    count: u64,
 ) -> Done {
-    let alloc = words.alloc;
-    for sysno in 1..=words.number()? {
-        let name = format!(in alloc; "w{sysno:04}")?;
-        record_put(tx, db, sysno, &name, b"x")?;
-        let left = format!(in alloc; "0:w <{name}> {sysno} - 2.1")?;
-        change_key::<S, L>(tx, db, Words { alloc, left: &left })?;
+    for sysno in 1..=count {
+        let left = format!(in alloc; "0:w <w{sysno:04}> {sysno} - 2.1")?;
+        put_word::<S, L>(tx, db, &Words { alloc, left: &left }.change()?)?;
     }
     Ok(())
 }
 
-/// Two keys, each with a change of it.
+/// Changes of two keys, the lesser of which stands first.
 fn change_run<S: Alter, L: Layout>(
     tx: &mut Transaction<'_, S>,
     db: DatabaseId,
-    mut words: Words<'_>,
+    one: Change,
+    other: Change,
 ) -> Done {
-    let (key, one) = (words.key()?, words.change()?);
-    let (next, other) = (words.key()?, words.change()?);
     order_is_by_parts();
-    match key.cmp(&next) {
+    match one.key.cmp(&other.key) {
         Ordering::Less => {}
         _ => return Err(RegFault::Memory),
     }
     let run = [
         KeyChanges {
-            key: &key,
-            changes: &[one.borrowed()],
+            key: &one.key,
+            changes: &[one.of_record()],
         },
         KeyChanges {
-            key: &next,
-            changes: &[other.borrowed()],
+            key: &other.key,
+            changes: &[other.of_record()],
         },
     ];
     L::run_changes(tx, &mut Work::default(), db, &run)
+}
+
+/// Does a step on keys.
+fn change_keys<S: Alter, L: Layout>(
+    tx: &mut Transaction<'_, S>,
+    db: DatabaseId,
+    word: &str,
+    mut words: Words<'_>,
+) -> Done {
+    let one = words.change()?;
+    match word {
+        "key_change" => change_key::<S, L>(tx, db, &one),
+        "run_changes" => change_run::<S, L>(tx, db, one, words.change()?),
+        _ => Err(RegFault::Memory),
+    }
 }
 
 /// The number of the record with this identifier, and its bytes.
@@ -99,14 +121,12 @@ fn change_in<S: Alter, L: Layout>(
     text: &mut String,
 ) -> Done {
     match word {
-        "key_change" => change_key::<S, L>(tx, db, words)?,
-        "run_changes" => change_run::<S, L>(tx, db, words)?,
-        "fill" => fill::<S, L>(tx, db, words)?,
+        "fill" => fill::<S, L>(tx, db, words.alloc, words.number()?)?,
         "record_put" => record_put(tx, db, words.number()?, words.word(), bytes_of(words.left))?,
         "record_take" => record_take(tx, db, words.number()?)?,
         "record_of_ident" => look_for(tx, db, words.left, text)?,
         "database_take" => L::database_take(tx, db)?,
-        _ => return Err(RegFault::Memory),
+        _ => change_keys::<S, L>(tx, db, word, words)?,
     }
     Ok(())
 }

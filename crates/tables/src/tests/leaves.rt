@@ -1,223 +1,198 @@
-//! What is read of keys, by the leaves of a register. A line is a term and behind ` ->` its postings, each as `1:2.3`, the number of the
-//! record, of the unit and of the word in it, and the number of its records; or a fault by its name. Of two terms with `..` between it is the
-//! postings of all terms from the one to the other. Of `*` it is each term of the register with the number of its records, and of `#` how many
-//! terms it has, and how many postings. Of a text with `+` and a number it is so many terms from there on, and with `-` so many below. Of a
-//! statement of SQL it is the rows, each with a semicolon behind it.
+//! Registers in leaves: what is read of leaves that are made by hand, whole, damaged or lacking, and what changes leave in leaves.
 
-use crate::queries::rows;
-use sqlite::{Alter, Connection, params};
-use std::alloc::Global;
-use std::fmt::Write;
-use std::test::Fail;
-use zeb_keys::{Key, Register, Term};
-use zeb_leaves::{Leaves, key_count};
-use zeb_register::{
-    DatabaseId, Layout, Posting, RegFault, RegisterOf, TermCount, Work, database_put, make_tables,
-};
+/// A leaf from the empty term on: a in record 1, b in record 1.
+pub static FIRST: &str = "\
+do make_tables
+do database_put Default 256
+INSERT INTO blocks VALUES (1, 0, 0, '', 0, x'000161000103010202000162000103010202') -> 1";
 
-mod changes;
-mod reads;
+/// A leaf from block 1 of b on: b in record 256, c in records 1 and 255.
+pub static SECOND: &str = "\
+INSERT INTO blocks VALUES (1, 0, 0, 'b', 1, x'000162010103000202000163000207010202fe010101') -> 1";
 
-/// Whether all that was asked got its answer.
-type Outcome = Result<(), Fail>;
+/// What both leaves say.
+pub static WHOLE: &str = "\
+key_list 0:w <a> -> 1:2.2,
+key_count 0:w <a> -> 1
+key_list 0:w <b> -> 1:2.2,256:2.2,
+key_count 0:w <b> -> 2
+key_list 0:w <c> -> 1:2.2,255:1.1,
+key_count 0:w <c> -> 2
+key_list 0:w <aa> ->
+key_count 0:w <aa> -> 0
+key_list 0:w <d> ->
+key_count 0:w <d> -> 0
+postings_between 0:w <a> <a> 0 -> 1:2.2,
+postings_between 0:w <a> <b> 0 -> 1:2.2,1:2.2,256:2.2,
+postings_between 0:w <b> <d> 0 -> 1:2.2,256:2.2,1:2.2,255:1.1,
+postings_between 0:w <aa> <az> 0 ->
+postings_between 0:w <c> <a> 0 ->
+terms_of 0:w -> a 1,b 2,c 2,
+totals 0:w -> 3 5
+terms_from 0:w <> 9 -> a 1,b 2,c 2,
+terms_from 0:w <a> 1 -> a 1,
+terms_from 0:w <b> 1 -> b 2,
+terms_from 0:w <aa> 2 -> b 2,c 2,
+terms_from 0:w <b> 0 ->
+terms_from 0:w <d> 2 ->
+terms_before 0:w <z> 2 -> b 2,c 2,
+terms_before 0:w <c> 1 -> b 2,
+terms_before 0:w <c> 9 -> a 1,b 2,
+terms_before 0:w <aa> 1 -> a 1,
+terms_before 0:w <c> 0 ->
+terms_before 0:w <a> 1 ->
+terms_before 0:w <> 3 ->";
 
-/// Makes the tables, and a database.
-fn begin<S: Alter>(conn: &mut Connection<S>) -> Result<DatabaseId, RegFault> {
-    if !conn.is_autocommit() {
-        return Err(RegFault::Store);
-    }
-    let mut tx = conn.transaction();
-    make_tables(&mut tx)?;
-    let db = database_put(&mut tx, "Default", 256)?;
-    tx.commit()?;
-    Ok(db)
-}
+pub static TABLES: &str = "\
+# There is no leaf.
+do make_tables
+do database_put Default 256
+key_list 0:w <a> ->
+key_count 0:w <a> -> 0
+key_list 0:w <b> ->
+key_count 0:w <b> -> 0
+postings_between 0:w <a> <b> 0 ->
+terms_of 0:w ->
+totals 0:w -> 0 0
+terms_from 0:w <a> 1 ->
+terms_before 0:w <a> 1 ->
 
-/// Puts a leaf with this key of its own.
-fn put_leaf<S: Alter>(
-    conn: &mut Connection<S>,
-    db: DatabaseId,
-    term: &str,
-    block: u32,
-    bytes: &[u8],
-) -> Result<(), RegFault> {
-    let db = db.column();
-    let (index, register): (u32, u32) = (0, 0);
-    conn.execute(
-        "INSERT INTO blocks VALUES (?1, ?2, ?3, ?4, ?5, ?6)",
-        params![db, index, register, term, block, bytes],
-    )?;
-    Ok(())
-}
+# Both are whole, and then the second is cut.
+with first second whole
+UPDATE blocks SET data = x'00' WHERE block = 1 -> 1
+key_list 0:w <a> -> 1:2.2,
+key_count 0:w <a> -> 1
+key_list 0:w <b> -> Damaged
+key_count 0:w <b> -> Damaged
+key_list 0:w <c> -> Damaged
+key_count 0:w <c> -> Damaged
+key_list 0:w <d> -> Damaged
+key_count 0:w <d> -> Damaged
+key_list 0:w <aa> ->
+key_count 0:w <aa> -> 0
+postings_between 0:w <a> <aa> 0 -> 1:2.2,
+postings_between 0:w <a> <b> 0 -> Damaged
+postings_between 0:w <c> <d> 0 -> Damaged
+postings_between 0:w <d> <a> 0 ->
+terms_of 0:w -> Damaged
+totals 0:w -> Damaged
+terms_from 0:w <a> 1 -> a 1,
+terms_from 0:w <a> 2 -> Damaged
+terms_from 0:w <b> 1 -> Damaged
+terms_from 0:w <c> 1 -> Damaged
+terms_from 0:w <b> 0 ->
+terms_before 0:w <b> 1 -> a 1,
+terms_before 0:w <c> 1 -> Damaged
+terms_before 0:w <d> 2 -> Damaged
 
-fn put_postings(list: &[Posting], text: &mut String) -> Result<(), RegFault> {
-    for posting in list {
-        write!(text, "{}:{}.{},", posting.sysno, posting.seq, posting.pos)?;
-    }
-    Ok(())
-}
+# The first is cut: where it lies behind the last term that is asked for, that isn't told.
+with first second
+UPDATE blocks SET data = x'00' WHERE block = 0 -> 1
+terms_from 0:w <c> 1 -> c 2,
+terms_from 0:w <b> 1 -> Damaged
+terms_from 0:w <a> 1 -> Damaged
+terms_before 0:w <z> 1 -> c 2,
+terms_before 0:w <z> 2 -> Damaged
+terms_before 0:w <b> 1 -> Damaged
 
-/// A term of the first index's words.
-fn key_of(alloc: Global, term: &str) -> Result<Key, RegFault> {
-    Ok(Key {
-        index: 0,
-        register: Register::Word,
-        term: Term::new(String::from_str(alloc, term)?),
-    })
-}
+# There is no first leaf: a key below each leaf is damaged.
+do make_tables
+do database_put Default 256
+with second
+key_list 0:w <a> -> Damaged
+key_count 0:w <a> -> Damaged
+key_list 0:w <b> -> Damaged
+key_count 0:w <b> -> Damaged
+key_list 0:w <c> -> 1:2.2,255:1.1,
+key_count 0:w <c> -> 2
+postings_between 0:w <a> <c> 0 -> Damaged
+postings_between 0:w <c> <d> 0 -> 1:2.2,255:1.1,
+terms_of 0:w -> Damaged
+totals 0:w -> Damaged
+terms_from 0:w <b> 1 -> Damaged
+terms_from 0:w <c> 1 -> c 2,
+terms_before 0:w <d> 1 -> c 2,
+terms_before 0:w <d> 2 -> Damaged
+terms_before 0:w <a> 1 -> Damaged
+terms_before 0:w <> 1 ->
 
-/// What is read of a term of the first index's words.
-fn read_key<S: Alter>(
-    alloc: Global,
-    conn: &mut Connection<S>,
-    db: DatabaseId,
-    term: &str,
-) -> Result<String, RegFault> {
-    let key = key_of(alloc, term)?;
-    let mut text = String::new(alloc);
-    let work = &mut Work::default();
-    put_postings(&Leaves::key_list(alloc, conn, work, db, &key)?, &mut text)?;
-    let records = key_count(alloc, conn, db, &key)?;
-    let separator = if text.is_empty() { "" } else { " " };
-    write!(text, "{separator}of {records}")?;
-    Ok(text)
-}
+# The first also has c in record 1, which the second covers: nobody reads that c.
+with first second
+UPDATE blocks SET data = x'000161000103010202000162000103010202000163000103010202' WHERE block = 0 -> 1
+terms_of 0:w -> a 1,b 2,c 2,
+totals 0:w -> 3 5
 
-/// What is read of the terms from one to another.
-fn read_between<S: Alter>(
-    alloc: Global,
-    conn: &mut Connection<S>,
-    db: DatabaseId,
-    first: &str,
-    last: &str,
-) -> Result<String, RegFault> {
-    let (at, work) = (words_of(db), &mut Work::default());
-    let mut text = String::new(alloc);
-    put_postings(
-        &Leaves::postings_between(alloc, conn, work, at, first, last)?,
-        &mut text,
-    )?;
-    if text.is_empty() {
-        text.push_str("none")?;
-    }
-    Ok(text)
-}
+# The first says of a that two records have it, where its block has one: that is counted and not summed.
+with first second
+UPDATE blocks SET data = x'000161000203010202000162000103010202' WHERE block = 0 -> 1
+terms_of 0:w -> a 2,b 2,c 2,
+totals 0:w -> Damaged
 
-/// The register of the first index's words.
-fn words_of(db: DatabaseId) -> RegisterOf {
-    RegisterOf {
-        db,
-        index: 0,
-        register: Register::Word,
-    }
-}
+# The first has a and the byte 0xff in place of b, which isn't UTF-8.
+with first second
+UPDATE blocks SET data = x'0001610001030102020101ff000103010202' WHERE block = 0 -> 1
+key_list 0:w <a> -> Damaged
+key_count 0:w <a> -> Damaged
+key_list 0:w <b> -> Damaged
+key_count 0:w <b> -> Damaged
+key_list 0:w <c> -> 1:2.2,255:1.1,
+key_count 0:w <c> -> 2
+terms_of 0:w -> Damaged
+totals 0:w -> Damaged
 
-/// The terms, each with the number of its records.
-fn terms_text(alloc: Global, counts: &[TermCount]) -> Result<String, RegFault> {
-    let mut text = String::new(alloc);
-    for count in counts {
-        write!(text, "{}:{},", count.term, count.records)?;
-    }
-    if text.is_empty() {
-        text.push_str("none")?;
-    }
-    Ok(text)
-}
+# The second's own term is the byte 0x80, and so isn't UTF-8.
+with first second
+UPDATE blocks SET term = CAST(x'80' AS TEXT) WHERE block = 1 -> 1
+key_list 0:w <a> -> 1:2.2,
+key_count 0:w <a> -> 1
+key_list 0:w <\u{e9}> -> Damaged
+key_count 0:w <\u{e9}> -> Damaged
+terms_of 0:w -> Damaged
+totals 0:w -> Damaged
 
-/// The number that the text spells, or 0.
-fn number_of(text: &str) -> u64 {
-    text.parse().unwrap_or(0)
-}
+# What is written is read, and then b leaves record 256.
+do make_tables
+do database_put Default 256
+do key_change 0:w <b> 256 - 2.2
+do key_change 0:w <a> 1 - 2.2
+do key_change 0:w <c> 255 - 1.1
+do key_change 0:w <b> 1 - 2.2
+do key_change 0:w <c> 1 - 2.2
+with whole
+do key_change 0:w <b> 256 2.2 -
+key_list 0:w <b> -> 1:2.2,
+key_count 0:w <b> -> 1
+key_list 0:w <c> -> 1:2.2,255:1.1,
+key_count 0:w <c> -> 2
+terms_of 0:w -> a 1,b 1,c 2,
+totals 0:w -> 3 4
 
-/// So many terms beside a text, where it is asked for these.
-fn read_beside<S: Alter>(
-    alloc: Global,
-    conn: &mut Connection<S>,
-    db: DatabaseId,
-    words: &str,
-) -> Result<Option<String>, RegFault> {
-    let (at, work) = (words_of(db), &mut Work::default());
-    if let Some((start, many)) = words.split_once("+") {
-        let counts = Leaves::terms_from(alloc, conn, work, at, start, number_of(many))?;
-        return Ok(Some(terms_text(alloc, &counts)?));
-    }
-    if let Some((start, many)) = words.split_once("-") {
-        let counts = Leaves::terms_before(alloc, conn, work, at, start, number_of(many))?;
-        return Ok(Some(terms_text(alloc, &counts)?));
-    }
-    Ok(None)
-}
+# Other places than a record has are damage.
+with first second
+do key_change 0:w <a> 1 1.1 - -> Damaged
+with whole
 
-/// How many terms the register has, and how many postings.
-fn read_totals<S: Alter>(
-    alloc: Global,
-    conn: &mut Connection<S>,
-    db: DatabaseId,
-) -> Result<String, RegFault> {
-    let sums = Leaves::totals(alloc, conn, &mut Work::default(), words_of(db))?;
-    let mut text = String::new(alloc);
-    write!(text, "{} terms, {} postings", sums.terms, sums.occurrences)?;
-    Ok(text)
-}
-
-/// The rows that a statement finds, each with a semicolon behind it.
-fn read_rows<S: Alter>(
-    alloc: Global,
-    conn: &mut Connection<S>,
-    sql: &str,
-) -> Result<String, RegFault> {
-    let mut text = String::new(alloc);
-    rows(conn, sql, &mut text)?;
-    Ok(text.replace(alloc, '\n', ";")?)
-}
-
-/// What is read of a term, of the terms between two, of those beside a text, or of all.
-fn read_terms<S: Alter>(
-    alloc: Global,
-    conn: &mut Connection<S>,
-    db: DatabaseId,
-    words: &str,
-) -> Result<String, RegFault> {
-    if words == "*" {
-        let counts = Leaves::terms_of(alloc, conn, &mut Work::default(), words_of(db))?;
-        return terms_text(alloc, &counts);
-    }
-    if words == "#" {
-        return read_totals(alloc, conn, db);
-    }
-    if let Some(text) = read_beside(alloc, conn, db, words)? {
-        return Ok(text);
-    }
-    match words.split_once("..") {
-        Some((first, last)) => read_between(alloc, conn, db, first, last),
-        None => read_key(alloc, conn, db, words),
-    }
-}
-
-/// What is read of rows, or of terms.
-fn read<S: Alter>(
-    alloc: Global,
-    conn: &mut Connection<S>,
-    db: DatabaseId,
-    words: &str,
-) -> Result<String, RegFault> {
-    if words.starts_with("SELECT ") {
-        return read_rows(alloc, conn, words);
-    }
-    read_terms(alloc, conn, db, words)
-}
-
-/// Each line gets its answer.
-fn run<S: Alter>(alloc: Global, conn: &mut Connection<S>, db: DatabaseId, lines: &str) -> Outcome {
-    for line in lines.split('\n') {
-        let (words, wanted) = line.split_once(" -> ").unwrap_or((line, ""));
-        let text = match read(alloc, conn, db, words) {
-            Ok(text) => text,
-            Err(fault) => format!(in alloc; "{fault}")?,
-        };
-        if text.as_str() != wanted {
-            return Err(Fail::new(format!(in alloc; "{line}: {text}")?));
-        }
-    }
-    Ok(())
-}
+# a comes to stand a thousand times in record 1, and b and c leave records 256, 1 and 255. The first leaf is parted: a has 3,000 bytes in
+# its block, seven beside it, and so a leaf of its own. The last leaf is empty. Then the same postings are there again as at first.
+with first second
+do key_change 0:w <c> 1 2.2 -
+do key_change 0:w <a> 1 2.2 1.1-1000
+do key_change 0:w <b> 256 2.2 -
+do key_change 0:w <c> 255 1.1 -
+key_list 0:w <b> -> 1:2.2,
+key_count 0:w <b> -> 1
+key_list 0:w <c> ->
+key_count 0:w <c> -> 0
+postings_between 0:w <b> <d> 0 -> 1:2.2,
+terms_of 0:w -> a 1,b 1,
+totals 0:w -> 2 1001
+SELECT length(data) FROM blocks WHERE term = '' -> 3007;
+SELECT term, block, data FROM blocks WHERE term = 'b' ORDER BY block -> b|0|000162000103010202;b|1|;
+do key_change 0:w <a> 1 1.1-1000 2.2
+do key_change 0:w <b> 256 - 2.2
+do key_change 0:w <c> 255 - 1.1
+do key_change 0:w <c> 1 - 2.2
+with whole
+SELECT term, block, data FROM blocks ORDER BY term, block -> \
+|0|000161000103010202;b|0|000162000103010202;b|1|00016201010300020200016300020701\
+0202fe010101;";

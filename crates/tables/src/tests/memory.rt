@@ -1,27 +1,47 @@
 //! Requests for memory that are refused: to be run with each refused in turn (tests/each_allocation.py of the repository).
 
-use super::{Opened, Outcome, row_of};
+use super::{Done, Opened, Outcome, row_of};
 use crate::queries::state;
 use sqlite::{Connection, MemStore};
-use std::alloc::Global;
+use std::alloc::{AllocError, Global};
 use std::test::Fail;
 use zeb_register::{RegFault, Rows};
 
-/// A line gets its answer. A refused step leaves all rows as they were, and gets its answer where memory is there.
-fn answer_or_memory(alloc: Global, opened: &mut Opened<MemStore>, line: &str) -> Outcome {
-    let (step, wanted) = row_of::<Rows>(line).ok_or("no row")?;
+/// Does a step once more, if all rows are as they were.
+fn answer_again(
+    alloc: Global,
+    opened: &mut Opened<MemStore>,
+    step: &str,
+    before: &str,
+    text: &mut String,
+) -> Done {
+    if state(alloc, &mut opened.conn)?.as_str() != before {
+        return Err(RegFault::Store);
+    }
+    text.clear();
+    opened.answer::<Rows>(alloc, step, text)
+}
+
+/// Does a step. A refused one leaves all rows as they were, and gets its answer where memory is there.
+fn answer_or_memory(
+    alloc: Global,
+    opened: &mut Opened<MemStore>,
+    step: &str,
+    text: &mut String,
+) -> Done {
     let before = state(alloc, &mut opened.conn)?;
-    let text = match opened.answer::<Rows>(alloc, step) {
-        Ok(text) => text,
-        Err(fault) => {
-            let after = state(alloc, &mut opened.conn)?;
-            if fault != RegFault::Memory || after.as_str() != before.as_str() {
-                return Err(Fail::new(line));
-            }
-            opened.answer::<Rows>(alloc, step)?
-        }
-    };
-    if text.as_str() == wanted {
+    match opened.answer::<Rows>(alloc, step, text) {
+        Err(RegFault::Memory) => answer_again(alloc, opened, step, &before, text),
+        done => done,
+    }
+}
+
+/// A line gets its answer.
+fn run_line(alloc: Global, opened: &mut Opened<MemStore>, line: &str) -> Outcome {
+    let (step, wanted) = row_of::<Rows>(line).ok_or("no row")?;
+    let mut text = String::new(alloc);
+    let done = answer_or_memory(alloc, opened, step, &mut text);
+    if done.is_ok() && text.as_str() == wanted {
         return Ok(());
     }
     Err(Fail::new(line))
@@ -55,28 +75,39 @@ do record_take 3
 do database_take
 do wipe";
 
-/// A store in memory with the tables and a database, each made again where memory was refused.
-fn begun(alloc: Global) -> Result<Opened<MemStore>, RegFault> {
-    let conn = match Connection::open_in_memory(alloc) {
-        Ok(conn) => conn,
-        Err(_) => Connection::open_in_memory(alloc)?,
-    };
-    let mut opened = Opened { conn, db: None };
-    for step in BEGUN.split('\n') {
-        if opened.answer::<Rows>(alloc, step).is_err() {
-            opened.answer::<Rows>(alloc, step)?;
-        }
+/// Does a step at the second try, if not at the first.
+fn begin(alloc: Global, opened: &mut Opened<MemStore>, step: &str) -> Done {
+    let text = &mut String::new(alloc);
+    if opened.answer::<Rows>(alloc, step, text).is_ok() {
+        return Ok(());
     }
-    Ok(opened)
+    opened.answer::<Rows>(alloc, step, text)
+}
+
+/// A store in memory, made again where memory was refused.
+fn connection(alloc: Global) -> Result<Connection<MemStore>, AllocError> {
+    match Connection::open_in_memory(alloc) {
+        Ok(conn) => Ok(conn),
+        Err(_) => Connection::open_in_memory(alloc),
+    }
+}
+
+fn run(alloc: Global, opened: &mut Opened<MemStore>) -> Outcome {
+    for step in BEGUN.split('\n') {
+        begin(alloc, opened, step)?;
+    }
+    for line in STEPS.split('\n') {
+        run_line(alloc, opened, line)?;
+    }
+    if state(alloc, &mut opened.conn)?.is_empty() {
+        return Ok(());
+    }
+    Err(Fail::new("rows are left"))
 }
 
 /// Holds whichever request for memory is refused.
 #[test]
 fn one_request_for_memory_may_be_refused(rt: HostRuntime) -> Outcome {
-    let mut opened = begun(rt.alloc())?;
-    for line in STEPS.split('\n') {
-        answer_or_memory(rt.alloc(), &mut opened, line)?;
-    }
-    assert_eq!(rt; state(rt.alloc(), &mut opened.conn)?.as_str(), "");
-    Ok(())
+    let conn = connection(rt.alloc())?;
+    run(rt.alloc(), &mut Opened { conn, db: None })
 }

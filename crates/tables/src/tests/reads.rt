@@ -5,10 +5,12 @@ use super::words::Words;
 use super::{Done, Opened};
 use sqlite::Alter;
 use std::alloc::Global;
+use zeb_keys::Key;
+use zeb_leaves::key_count;
 use zeb_packed::Blocks;
 use zeb_register::{
-    DatabaseId, Layout, Record, RegFault, RegisterOf, TermCount, Work, database_of, ident_of,
-    meta_of, record_count, record_from, records,
+    DatabaseId, Layout, Posting, Record, RegFault, RegisterOf, TermCount, Work, database_of,
+    ident_of, meta_of, record_count, record_from, records,
 };
 
 /// A text, if there is one.
@@ -24,6 +26,22 @@ fn put_record(record: &Record, text: &mut String) -> Done {
     Ok(())
 }
 
+fn put_records(all: &[Record], text: &mut String) -> Done {
+    for record in all {
+        put_record(record, text)?;
+        text.push(',')?;
+    }
+    Ok(())
+}
+
+/// Each posting as `1:2.3`, the number of the record, of the unit and of the word in it.
+fn put_postings(all: &[Posting], text: &mut String) -> Done {
+    for posting in all {
+        write!(text, "{}:{}.{},", posting.sysno, posting.seq, posting.pos)?;
+    }
+    Ok(())
+}
+
 /// Each term, and the number of its records.
 fn put_counts(all: &[TermCount], text: &mut String) -> Done {
     for count in all {
@@ -32,22 +50,18 @@ fn put_counts(all: &[TermCount], text: &mut String) -> Done {
     Ok(())
 }
 
+fn put_number(number: u64, text: &mut String) -> Done {
+    write!(text, "{number}")?;
+    Ok(())
+}
+
 impl<S: Alter> Opened<S> {
     /// The last number of the database of this name.
     fn last(&mut self, name: &str, text: &mut String) -> Done {
         match database_of(&mut self.conn, name)? {
-            Some(database) => write!(text, "{}", database.last)?,
-            None => text.push_str("none")?,
+            Some(database) => put_number(database.last, text),
+            None => put(None, text),
         }
-        Ok(())
-    }
-
-    fn all_records(&mut self, alloc: Global, db: DatabaseId, text: &mut String) -> Done {
-        for record in records(alloc, &mut self.conn, db)? {
-            put_record(&record, text)?;
-            text.push(',')?;
-        }
-        Ok(())
     }
 
     /// The first record from this number on.
@@ -58,17 +72,23 @@ impl<S: Alter> Opened<S> {
         }
     }
 
-    /// Each posting of a key as `1:2.3`, the number of the record, of the unit and of the word in it.
-    fn list<L: Layout>(&mut self, db: DatabaseId, mut words: Words<'_>, text: &mut String) -> Done {
-        let (key, work) = (words.key()?, &mut Work::default());
-        for posting in L::key_list(words.alloc, &mut self.conn, work, db, &key)? {
-            write!(text, "{}:{}.{},", posting.sysno, posting.seq, posting.pos)?;
+    /// Does a step that reads a key: its postings, or by the leaves the number of its records.
+    fn read_key<L: Layout>(
+        &mut self,
+        alloc: Global,
+        word: &str,
+        (db, key): (DatabaseId, &Key),
+        text: &mut String,
+    ) -> Done {
+        let (conn, work) = (&mut self.conn, &mut Work::default());
+        match word {
+            "key_list" => put_postings(&L::key_list(alloc, conn, work, db, key)?, text),
+            _ => put_number(key_count(alloc, conn, db, key)?, text),
         }
-        Ok(())
     }
 
-    /// The postings from one term to another by the numbers of their records. The rows of `blocks` that are counted are told where they
-    /// are other than these, or than none in a layout without blocks.
+    /// The postings from one term to another. The rows of `blocks` that are counted are told where they are other than these, or than none
+    /// in a layout without blocks.
     fn between<L: Layout>(
         &mut self,
         at: RegisterOf,
@@ -76,10 +96,10 @@ impl<S: Alter> Opened<S> {
         text: &mut String,
     ) -> Done {
         let (first, last, rows) = (words.term()?, words.term()?, words.number()?);
-        let (conn, mut work) = (&mut self.conn, Work::default());
-        for posting in L::postings_between(words.alloc, conn, &mut work, at, first, last)? {
-            write!(text, "{},", posting.sysno)?;
-        }
+        let (alloc, conn, mut work) = (words.alloc, &mut self.conn, Work::default());
+        let all = L::postings_between(alloc, conn, &mut work, at, first, last)?;
+        put_postings(&all, text)?;
+        drop(all);
         let has_blocks = L::version() == Blocks::version();
         if work.block_read != if has_blocks { rows } else { 0 } {
             write!(text, " of {} rows", work.block_read)?;
@@ -87,8 +107,8 @@ impl<S: Alter> Opened<S> {
         Ok(())
     }
 
-    /// Does a step that reads a register: its terms, all of them, from a text on or before it, or their number and that of postings.
-    fn read_terms<L: Layout>(
+    /// Its terms from a text on or before it.
+    fn read_near<L: Layout>(
         &mut self,
         at: RegisterOf,
         word: &str,
@@ -96,21 +116,25 @@ impl<S: Alter> Opened<S> {
         text: &mut String,
     ) -> Done {
         let (alloc, conn, work) = (words.alloc, &mut self.conn, &mut Work::default());
-        if word == "totals" {
-            let totals = L::totals(alloc, conn, work, at)?;
-            write!(text, "{} {}", totals.terms, totals.occurrences)?;
-            return Ok(());
-        }
-        if word == "terms_of" {
-            return put_counts(&L::terms_of(alloc, conn, work, at)?, text);
-        }
         let (start, n) = (words.term()?, words.number()?);
-        let all = match word {
-            "terms_from" => L::terms_from(alloc, conn, work, at, start, n)?,
-            "terms_before" => L::terms_before(alloc, conn, work, at, start, n)?,
-            _ => return Err(RegFault::Memory),
-        };
-        put_counts(&all, text)
+        match word {
+            "terms_from" => put_counts(&L::terms_from(alloc, conn, work, at, start, n)?, text),
+            "terms_before" => put_counts(&L::terms_before(alloc, conn, work, at, start, n)?, text),
+            _ => Err(RegFault::Memory),
+        }
+    }
+
+    /// All its terms.
+    fn read_terms<L: Layout>(&mut self, at: RegisterOf, alloc: Global, text: &mut String) -> Done {
+        let (conn, work) = (&mut self.conn, &mut Work::default());
+        put_counts(&L::terms_of(alloc, conn, work, at)?, text)
+    }
+
+    /// The number of its terms and that of its postings.
+    fn read_totals<L: Layout>(&mut self, at: RegisterOf, alloc: Global, text: &mut String) -> Done {
+        let totals = L::totals(alloc, &mut self.conn, &mut Work::default(), at)?;
+        write!(text, "{} {}", totals.terms, totals.occurrences)?;
+        Ok(())
     }
 
     /// Does a step that reads a register.
@@ -129,11 +153,13 @@ impl<S: Alter> Opened<S> {
         };
         match word {
             "postings_between" => self.between::<L>(at, words, text),
-            _ => self.read_terms::<L>(at, word, words, text),
+            "terms_of" => self.read_terms::<L>(at, words.alloc, text),
+            "totals" => self.read_totals::<L>(at, words.alloc, text),
+            _ => self.read_near::<L>(at, word, words, text),
         }
     }
 
-    /// Does a step that reads records or a list.
+    /// Does a step that reads records, a list or a register.
     fn read_records<L: Layout>(
         &mut self,
         db: DatabaseId,
@@ -142,12 +168,14 @@ impl<S: Alter> Opened<S> {
         text: &mut String,
     ) -> Done {
         match word {
-            "key_list" => self.list::<L>(db, words, text),
-            "records" => self.all_records(words.alloc, db, text),
-            "record_count" => {
-                write!(text, "{}", record_count(&mut self.conn, db)?)?;
-                Ok(())
-            }
+            "key_list" | "key_count" => self.read_key::<L>(
+                words.alloc,
+                word,
+                (db, &words.key()?),
+                text,
+            ),
+            "records" => put_records(&records(words.alloc, &mut self.conn, db)?, text),
+            "record_count" => put_number(record_count(&mut self.conn, db)?, text),
             "record_from" => self.first_from(db, words.number()?, text),
             _ => self.read_register::<L>(db, word, words, text),
         }

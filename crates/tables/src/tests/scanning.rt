@@ -89,8 +89,8 @@ terms_before 0:w <ab> 2 -> ' 1,a\0 1,
 terms_from 0:w <caf\u{e9}> 2 -> caf\u{e9} 1,
 totals 0:w -> 6 6";
 
-/// Words of index 0, and one more in another database, register and index. The records of `a` lie in three blocks. Each posting is read
-/// by the number of its record, and each call has the number of rows of `blocks` that these stand in.
+/// Words of index 0, and one more in another database, register and index. The records of `a` lie in three blocks. Each call
+/// has the number of rows of `blocks` that its postings stand in where tables are packed.
 pub static NEIGHBOURS: &str = "\
 do make_tables
 do database_put Other 0
@@ -107,14 +107,14 @@ do key_change 0:w <b> 256 - 1.1
 do key_change 0:w <b> 257 - 1.1
 do key_change 0:w <caf\u{e9}> 1 - 1.1
 # A term stands at each end.
-postings_between 0:w <a> <b> 6 -> 1,300,600,7,2,256,257,
-postings_between 0:w <a\0> <ab> 2 -> 7,2,
-postings_between 0:w <a> <a> 3 -> 1,300,600,
-postings_between 0:w <caf\u{e9}> <caf\u{e9}> 1 -> 1,
+postings_between 0:w <a> <b> 6 -> 1:1.1,300:1.1,600:1.1,7:1.1,2:1.1,256:1.1,257:1.1,
+postings_between 0:w <a\0> <ab> 2 -> 7:1.1,2:1.1,
+postings_between 0:w <a> <a> 3 -> 1:1.1,300:1.1,600:1.1,
+postings_between 0:w <caf\u{e9}> <caf\u{e9}> 1 -> 1:1.1,
 # The ends stand between terms, and before and behind all of them.
-postings_between 0:w <A> <a\0a> 4 -> 1,300,600,7,
-postings_between 0:w <aa> <az> 1 -> 2,
-postings_between 0:w <> <\u{10ffff}> 7 -> 1,300,600,7,2,256,257,1,
+postings_between 0:w <A> <a\0a> 4 -> 1:1.1,300:1.1,600:1.1,7:1.1,
+postings_between 0:w <aa> <az> 1 -> 2:1.1,
+postings_between 0:w <> <\u{10ffff}> 7 -> 1:1.1,300:1.1,600:1.1,7:1.1,2:1.1,256:1.1,257:1.1,1:1.1,
 # No term stands there.
 postings_between 0:w <a\0a> <aa> 0 ->
 postings_between 0:w <d> <e> 0 ->

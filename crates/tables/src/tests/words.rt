@@ -1,5 +1,6 @@
 //! The words of a step.
 
+use super::Done;
 use std::alloc::Global;
 use zeb_keys::{Key, Register, Term};
 use zeb_register::{Place, RecordChange, RegFault};
@@ -12,16 +13,17 @@ pub struct Words<'a> {
     pub left: &'a str,
 }
 
-/// The number of a record, the places of a key that stood there and those that stand there then.
+/// A key, the number of a record, the places of the key that stood there and those that stand there then.
 #[derive(Drop)]
 pub struct Change {
+    pub key: Key,
     pub sysno: u64,
     pub old: Vec<Place>,
     pub new: Vec<Place>,
 }
 
 impl Change {
-    pub fn borrowed(&self) -> RecordChange<'_> {
+    pub fn of_record(&self) -> RecordChange<'_> {
         RecordChange {
             sysno: self.sysno,
             old: &self.old,
@@ -74,27 +76,46 @@ impl<'a> Words<'a> {
         })
     }
 
-    /// The places of a record as `2.1,3.4`, a unit and a word of it, or `-` where there is none.
-    fn places(&mut self) -> Result<Vec<Place>, RegFault> {
-        let mut places = Vec::new(self.alloc);
-        let text = self.word();
-        if text == "-" {
-            return Ok(places);
-        }
-        for place in text.split(',') {
-            let (seq, pos) = place.split_once('.').ok_or(RegFault::Memory)?;
-            let (seq, pos) = (number(seq)?, number(pos)?);
-            places.push(Place { seq, pos })?;
-        }
-        Ok(places)
+    /// A change as `0:w <whale> 1 - 2.1`.
+    pub fn change(&mut self) -> Result<Change, RegFault> {
+        let mut change = Change {
+            key: self.key()?,
+            sysno: 0,
+            old: Vec::new(self.alloc),
+            new: Vec::new(self.alloc),
+        };
+        self.read_places(&mut change)?;
+        Ok(change)
     }
 
-    pub fn change(&mut self) -> Result<Change, RegFault> {
-        let (sysno, old, new) = (self.number()?, self.places()?, self.places()?);
-        Ok(Change { sysno, old, new })
+    /// What stands behind the key of a change.
+    fn read_places(&mut self, change: &mut Change) -> Done {
+        change.sysno = self.number()?;
+        push_places(&mut change.old, self.word())?;
+        push_places(&mut change.new, self.word())
     }
 }
 
 fn number(text: &str) -> Result<u64, RegFault> {
     text.parse::<u64>().ok().ok_or(RegFault::Memory)
+}
+
+/// Puts places as `2.1,3.4`, a unit and a word of it, or `-` where there is none. Of words that follow one another, as `1.1-9`, each is a place.
+fn push_places(places: &mut Vec<Place>, text: &str) -> Done {
+    if text == "-" {
+        return Ok(());
+    }
+    for part in text.split(',') {
+        let (seq, words) = part.split_once('.').ok_or(RegFault::Memory)?;
+        let (first, last) = words.split_once('-').unwrap_or((words, words));
+        push_words(places, number(seq)?, number(first)?, number(last)?)?;
+    }
+    Ok(())
+}
+
+fn push_words(places: &mut Vec<Place>, seq: u64, first: u64, last: u64) -> Done {
+    for pos in first..=last {
+        places.push(Place { seq, pos })?;
+    }
+    Ok(())
 }

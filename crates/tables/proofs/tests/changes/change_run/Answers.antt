@@ -8,8 +8,8 @@ use Rattle.tables.proofs.tests.changes.change_run.Goals as goal
 pub run_changes-requires : goal.run_changes-requires
 unfolding IsStrictlySortedBy
 run_changes-requires g c =
-    let key = c.in_ok-key.key in
-    let next = c.in_ok-next.next in
+    let key = c.args.one.key in
+    let next = c.args.other.key in
     let less : key_order key next ≡ Less = sym (c.order_is_by_parts.ensures.keys key next) ∙ sym c.cmp.ensures ∙ c.in-Less.is in
     let alone = λ (change : RecordChange). IsNonDecreasingBy-short (λ (it : RecordChange). it.sysno) (change ∷ []) (omega arith) in
-    record { rising = record { keys = ((less, tt), (tt, tt)); numbers = (alone c.borrowed.result, (alone c.borrowed-2.result, tt)) } }
+    record { rising = record { keys = ((less, tt), (tt, tt)); numbers = (alone c.of_record.result, (alone c.of_record-2.result, tt)) } }
