@@ -1,121 +1,109 @@
 //! Commands over files that stop at some call, each call in turn. What is opened again after it dumps and checks as before the command
 //! that was under way, or as after it, whichever layout and profile it is opened under.
 
-use command_rows::sessions::{ask, is_printed, lacks_memory, prints};
-use command_rows::stories::rows_of;
+use crate::rows::Done;
+use command_rows::sessions::{Stopped, ask, lacks_memory, prints};
+use command_rows::stories::{Row, rows_of};
 use sqlite::{Connection, FileStore, Files};
 use sqlite_disk::{Crash, Fuse, Memory};
-use std::alloc::{AllocError, AllocGlobal, Global};
-use std::process::Abort;
+use std::alloc::Global;
 use std::test::Fail;
 use tables::disks::connected;
 use zeb_leaves::Leaves;
 use zeb_packed::Blocks;
 use zeb_register::Layout;
 
-/// What is printed for a dump and a check: over a row for each posting under `books`, over the layout in question under `books`, and over that
-/// under `subjects`.
-type Look = [&'static str; 3];
-
-/// What is done on the files before; commands, which stop somewhere; and how the files look before the first of these and after each.
+/// Commands on new files, and those on the same files once they were closed. Then how the files look before the first of them and after each:
+/// with bars between, what is printed for a dump and a check in each of `SETTINGS`, with a comma between where these differ.
 struct Case {
     begun: &'static str,
-    stopped: &'static str,
-    looks: &'static [Look],
+    then: &'static str,
+    looks: &'static str,
 }
 
-const NOT_BEGUN: &str = "dump Default; check -> 1: register not initialised";
+/// A row for each posting under `books`, the layout in question under `books`, and the same under `subjects`.
+const SETTINGS: [&str; 3] = ["plain books", "either books", "either subjects"];
 
-const FORMAT: &str = "dump Default; check -> 1: register has another format";
-
-const PROFILE: &str = "dump Default; check -> 1: profile differs from the register's";
-
-const DAMAGE: &str = "dump Default -> bytes of moby\ncheck -> 1: register damaged";
-
-/// A register that keeps `moby`.
-const MOBY: &str = "dump Default -> bytes of moby\ncheck -> ok";
-
-const DOCK: &str = "dump Default -> bytes of dock\ncheck -> ok";
-
-/// One that has no record, with its database and without.
-const EMPTY: &str = "dump Default -> bytes of nothing\ncheck -> ok";
-
-const DROPPED: &str = "dump Default -> 1: diagnostic 235 at 0: Default\ncheck -> ok";
-
-const CHANGED: Case = Case {
+static CHANGED: Case = Case {
     begun: "",
-    stopped: "\
+    then: "\
 either books
 init -> ok
 update Default moby -> inserted 1 updated 0 deleted 0
 update Default dock -> inserted 0 updated 1 deleted 0
 delete Default dock -> inserted 0 updated 0 deleted 1",
-    looks: &[
-        [NOT_BEGUN, NOT_BEGUN, NOT_BEGUN],
-        [FORMAT, DROPPED, PROFILE],
-        [FORMAT, MOBY, PROFILE],
-        [FORMAT, DOCK, PROFILE],
-        [FORMAT, EMPTY, PROFILE],
-    ],
+    looks: "\
+1: register not initialised|1: register not initialised|1: register not initialised
+1: register has another format|1: diagnostic 235 at 0: Default, ok|1: profile differs from the register's
+1: register has another format|bytes of moby, ok|1: profile differs from the register's
+1: register has another format|bytes of dock, ok|1: profile differs from the register's
+1: register has another format|bytes of nothing, ok|1: profile differs from the register's",
 };
 
 /// A record that is replaced thrice in a command, one that is asked for twice, and the database.
-const TAKEN: Case = Case {
+static TAKEN: Case = Case {
     begun: "\
 either books
 init -> ok
 update Default cafe+moby -> inserted 2 updated 0 deleted 0",
-    stopped: "\
+    then: "\
 either books
 update Default dock moby+dock -> inserted 0 updated 3 deleted 0
 adelete Default cafe+cafe -> inserted 0 updated 0 deleted 1
 drop Default -> ok
 create Default -> ok",
-    looks: &[
-        [
-            FORMAT,
-            "dump Default -> bytes of cafe+moby\ncheck -> ok",
-            PROFILE,
-        ],
-        [
-            FORMAT,
-            "dump Default -> bytes of cafe+dock\ncheck -> ok",
-            PROFILE,
-        ],
-        [FORMAT, DOCK, PROFILE],
-        [FORMAT, DROPPED, PROFILE],
-        [FORMAT, EMPTY, PROFILE],
-    ],
+    looks: "\
+1: register not initialised|1: register not initialised|1: register not initialised
+1: register has another format|1: diagnostic 235 at 0: Default, ok|1: profile differs from the register's
+1: register has another format|bytes of cafe+moby, ok|1: profile differs from the register's
+1: register has another format|bytes of cafe+dock, ok|1: profile differs from the register's
+1: register has another format|bytes of dock, ok|1: profile differs from the register's
+1: register has another format|1: diagnostic 235 at 0: Default, ok|1: profile differs from the register's
+1: register has another format|bytes of nothing, ok|1: profile differs from the register's",
 };
 
-const REINDEXED: Case = Case {
+static REINDEXED: Case = Case {
     begun: "\
 either books
 init -> ok
 update Default moby -> inserted 1 updated 0 deleted 0",
-    stopped: "either subjects\nreindex -> ok",
-    looks: &[[FORMAT, MOBY, PROFILE], [FORMAT, PROFILE, MOBY]],
+    then: "either subjects\nreindex -> ok",
+    looks: "\
+1: register not initialised|1: register not initialised|1: register not initialised
+1: register has another format|1: diagnostic 235 at 0: Default, ok|1: profile differs from the register's
+1: register has another format|bytes of moby, ok|1: profile differs from the register's
+1: register has another format|1: profile differs from the register's|bytes of moby, ok",
 };
 
 /// The registers of `moby`, of which a word is gone, or in leaves all words of titles, and in which one stands that no record has.
-const DAMAGED: Case = Case {
+static DAMAGED: Case = Case {
     begun: "\
 either books
 init -> ok
 update Default moby -> inserted 1 updated 0 deleted 0
 alter DELETE FROM blocks WHERE idx = 0 AND reg = 0 AND term IN ('', 'moby') -> ok
 alter INSERT INTO dict SELECT id, 0, 0, 'zebra', 1 FROM databases -> ok",
-    stopped: "either books\nreindex -> ok",
-    looks: &[[FORMAT, DAMAGE, PROFILE], [FORMAT, MOBY, PROFILE]],
+    then: "either books\nreindex -> ok",
+    looks: "\
+1: register not initialised|1: register not initialised|1: register not initialised
+1: register has another format|1: diagnostic 235 at 0: Default, ok|1: profile differs from the register's
+1: register has another format|bytes of moby, ok|1: profile differs from the register's
+1: register has another format|bytes of moby, 1: register damaged|1: profile differs from the register's
+1: register has another format|bytes of moby, 1: register damaged|1: profile differs from the register's
+1: register has another format|bytes of moby, ok|1: profile differs from the register's",
 };
 
-const UPGRADED: Case = Case {
+static UPGRADED: Case = Case {
     begun: "\
 plain books
 init -> ok
 update Default moby -> inserted 1 updated 0 deleted 0",
-    stopped: "either books\nupgrade -> ok",
-    looks: &[[MOBY, FORMAT, FORMAT], [FORMAT, MOBY, PROFILE]],
+    then: "either books\nupgrade -> ok",
+    looks: "\
+1: register not initialised|1: register not initialised|1: register not initialised
+1: diagnostic 235 at 0: Default, ok|1: register has another format|1: register has another format
+bytes of moby, ok|1: register has another format|1: register has another format
+1: register has another format|bytes of moby, ok|1: profile differs from the register's",
 };
 
 /// Files that stop after so many calls.
@@ -123,140 +111,119 @@ type Stopping = Files<Fuse<Memory>>;
 
 type OnFiles = Connection<FileStore<Fuse<Memory>>>;
 
-/// Tells a story on a store over files in memory.
-fn told_on<L: Layout>(
-    alloc: Global,
-    new: Connection<FileStore<Memory>>,
-    story: &str,
-) -> Result<Connection<FileStore<Memory>>, Fail> {
-    let mut connection = new;
-    for row in &rows_of(alloc, story)? {
-        let (left, answer) = ask::<FileStore<Memory>, L>(
-            alloc,
-            connection,
-            row.setting,
-            row.command,
-        );
-        prints(alloc, &answer, row.command, row.wanted)?;
-        connection = left;
+/// New files, of which the log, or else the database file, stops after so many calls.
+fn stopping(alloc: Global, calls: u64, is_log: bool) -> Stopping {
+    let (log_calls, db_calls) = if is_log {
+        (calls, u64::MAX)
+    } else {
+        (u64::MAX, calls)
+    };
+    Files {
+        log: Fuse::new(Memory::new(alloc), log_calls),
+        db: Fuse::new(Memory::new(alloc), db_calls),
     }
-    Ok(connection)
 }
 
-/// Files on which a story was told, and which stop after so many calls of the log, or of the database file.
-fn begun<L: Layout>(
-    alloc: Global,
-    story: &str,
-    log_calls: u64,
-    db_calls: u64,
-) -> Result<Stopping, Fail> {
-    let new = Files {
-        log: Memory::new(alloc),
-        db: Memory::new(alloc),
+/// Asks a command, if each one before it was answered as it should be. For the disk it is refused as for want of memory.
+fn step<L: Layout>(alloc: Global, store: OnFiles, row: Row<'_>, outcome: &mut Done) -> OnFiles {
+    if outcome.is_err() {
+        return store;
+    }
+    let (store, answer) = ask::<FileStore<Fuse<Memory>>, L>(alloc, store, row.setting, row.command);
+    *outcome = match lacks_memory(&answer) {
+        true => Err(Stopped::Memory),
+        false => prints(alloc, &answer, row.command, row.wanted),
     };
-    let Ok(connection) = connected(alloc, new) else {
-        return Err(Fail::new("files are refused"));
-    };
-    let files = told_on::<L>(alloc, connection, story)?.into_store().close();
-    Ok(Files {
-        log: Fuse::new(files.log, log_calls),
-        db: Fuse::new(files.db, db_calls),
-    })
+    store
 }
 
-/// How many commands of a story were answered before one was refused for the disk, and the files.
-fn commanded<L: Layout>(
+/// Opens files, asks commands there, counts those that were answered as they should be, and closes the files.
+fn run<L: Layout>(
     alloc: Global,
     files: Stopping,
-    story: &str,
-) -> Result<(usize, Stopping), Fail> {
-    let mut connection = match connected(alloc, files) {
-        Ok(connection) => connection,
-        Err(files) => return Ok((0, files)),
+    rows: &[Row<'_>],
+    (count, outcome): (&mut usize, &mut Done),
+) -> Stopping {
+    let mut store = match connected(alloc, files) {
+        Ok(store) => store,
+        Err(files) => {
+            *outcome = Err(Stopped::Memory);
+            return files;
+        }
     };
-    let mut count = 0_usize;
-    for row in &rows_of(alloc, story)? {
-        let (left, answer) = ask::<FileStore<Fuse<Memory>>, L>(
-            alloc,
-            connection,
-            row.setting,
-            row.command,
-        );
-        connection = left;
-        if lacks_memory(&answer) {
-            break;
-        }
-        prints(alloc, &answer, row.command, row.wanted)?;
-        count = count.saturating_add(1);
+    for row in rows {
+        store = step::<L>(alloc, store, *row, outcome);
+        *count = count.saturating_add(usize::from(outcome.is_ok()));
     }
-    Ok((count, connection.into_store().close()))
+    store.into_store().close()
 }
 
-/// Whether a store looks so.
-fn is_as<L: Layout>(
-    alloc: Global,
-    store: OnFiles,
-    look: &Look,
-) -> Result<(OnFiles, bool), AllocError> {
-    let [plain, either, subjects] = look;
-    let story = format!(in alloc;
-        "plain books\n{plain}\neither books\n{either}\neither subjects\n{subjects}"
-    )?;
-    let mut store = store;
-    for row in &rows_of(alloc, &story)? {
-        let (left, answer) = ask::<FileStore<Fuse<Memory>>, L>(
-            alloc,
-            store,
-            row.setting,
-            row.command,
-        );
-        store = left;
-        if !is_printed(alloc, &answer, row.wanted)? {
-            return Ok((store, false));
+/// Asks how a store looks.
+fn look<L: Layout>(alloc: Global, mut store: OnFiles, line: &str, outcome: &mut Done) -> OnFiles {
+    for (setting, wanted) in SETTINGS.iter().zip(line.split('|')) {
+        let (dump, check) = wanted.split_once(", ").unwrap_or((wanted, wanted));
+        for (command, wanted) in [("dump Default", dump), ("check", check)] {
+            let row = Row {
+                setting,
+                command,
+                wanted,
+            };
+            store = step::<L>(alloc, store, row, outcome);
         }
     }
-    Ok((store, true))
+    store
 }
 
-/// Whether what a crash leaves on the files is as it was after so many commands, or after one more.
-fn is_left<L: Layout>(
-    alloc: Global,
-    files: Stopping,
-    looks: &[Look],
-    count: usize,
-) -> Result<bool, Fail> {
-    let mut files = files;
+/// Whether a store looks as it did after so many commands, or after one more.
+fn looks_so<L: Layout>(alloc: Global, mut store: OnFiles, looks: &str, count: usize) -> bool {
+    for line in looks.split('\n').skip(count).take(2) {
+        let mut outcome = Ok(());
+        store = look::<L>(alloc, store, line, &mut outcome);
+        if outcome.is_ok() {
+            return true;
+        }
+    }
+    false
+}
+
+/// The same of what a crash leaves on files.
+fn is_left<L: Layout>(alloc: Global, mut files: Stopping, looks: &str, count: usize) -> bool {
     files.log.crash();
     files.db.crash();
-    let Ok(mut connection) = connected(alloc, files) else {
-        return Err(Fail::new("what a crash leaves can't be opened"));
-    };
-    for possible in looks.iter().skip(count).take(2) {
-        let (again, is_so) = is_as::<L>(alloc, connection, possible)?;
-        if is_so {
-            return Ok(true);
-        }
-        connection = again;
+    match connected(alloc, files) {
+        Ok(store) => looks_so::<L>(alloc, store, looks, count),
+        Err(_) => false,
     }
-    Ok(false)
+}
+
+/// Asks commands on files until they stop. Whether they didn't.
+fn goes_on<L: Layout>(
+    alloc: Global,
+    files: Stopping,
+    (begun, then): (&[Row<'_>], &[Row<'_>]),
+    looks: &str,
+) -> Result<bool, Fail> {
+    let (mut count, mut outcome) = (0, Ok(()));
+    let mut files = run::<L>(alloc, files, begun, (&mut count, &mut outcome));
+    if outcome.is_ok() {
+        files = run::<L>(alloc, files, then, (&mut count, &mut outcome));
+    }
+    match (outcome, is_left::<L>(alloc, files, looks, count)) {
+        (Err(Stopped::Otherwise(text)), _) => Err(Fail::new(text)),
+        (outcome, true) => Ok(outcome.is_ok()),
+        _ => Err(Fail::new("other files are left")),
+    }
 }
 
 /// Stops the log or the database file at its n-th call, for each n until all commands are answered.
-fn stops_anywhere<H: Abort + AllocGlobal, L: Layout>(
-    rt: &H,
-    case: &Case,
+fn stops_anywhere<L: Layout>(
+    alloc: Global,
+    commands: (&[Row<'_>], &[Row<'_>]),
+    looks: &str,
     is_log: bool,
 ) -> Result<(), Fail> {
-    for calls in 0..1_000u64 {
-        let (log_calls, db_calls) = if is_log {
-            (calls, u64::MAX)
-        } else {
-            (u64::MAX, calls)
-        };
-        let files = begun::<L>(rt.alloc(), case.begun, log_calls, db_calls)?;
-        let (count, files) = commanded::<L>(rt.alloc(), files, case.stopped)?;
-        assert!(rt; is_left::<L>(rt.alloc(), files, case.looks, count)?);
-        if count.saturating_add(1) == case.looks.len() {
+    for calls in 0..2_000u64 {
+        if goes_on::<L>(alloc, stopping(alloc, calls, is_log), commands, looks)? {
             return Ok(());
         }
     }
@@ -264,28 +231,30 @@ fn stops_anywhere<H: Abort + AllocGlobal, L: Layout>(
 }
 
 /// The same over packed blocks, and over leaves.
-fn stops_in_either<H: Abort + AllocGlobal>(rt: &H, case: &Case, is_log: bool) -> Result<(), Fail> {
-    stops_anywhere::<H, Blocks>(rt, case, is_log)?;
-    stops_anywhere::<H, Leaves>(rt, case, is_log)
+fn stops_in_either(alloc: Global, case: &Case, is_log: bool) -> Result<(), Fail> {
+    let (begun, then) = (rows_of(alloc, case.begun)?, rows_of(alloc, case.then)?);
+    let commands = (begun.as_slice(), then.as_slice());
+    stops_anywhere::<Blocks>(alloc, commands, case.looks, is_log)?;
+    stops_anywhere::<Leaves>(alloc, commands, case.looks, is_log)
 }
 
 #[test]
 fn a_log_that_stops_leaves_whole_commands(rt: HostRuntime) -> Result<(), Fail> {
-    stops_in_either(&rt, &CHANGED, true)?;
-    stops_in_either(&rt, &TAKEN, true)
+    stops_in_either(rt.alloc(), &CHANGED, true)?;
+    stops_in_either(rt.alloc(), &TAKEN, true)
 }
 
 #[test]
 fn a_file_that_stops_leaves_whole_commands(rt: HostRuntime) -> Result<(), Fail> {
-    stops_in_either(&rt, &CHANGED, false)?;
-    stops_in_either(&rt, &TAKEN, false)
+    stops_in_either(rt.alloc(), &CHANGED, false)?;
+    stops_in_either(rt.alloc(), &TAKEN, false)
 }
 
 #[test]
 fn a_renewal_that_stops_leaves_what_a_check_finds(rt: HostRuntime) -> Result<(), Fail> {
     for case in [&REINDEXED, &DAMAGED, &UPGRADED] {
-        stops_in_either(&rt, case, true)?;
-        stops_in_either(&rt, case, false)?;
+        stops_in_either(rt.alloc(), case, true)?;
+        stops_in_either(rt.alloc(), case, false)?;
     }
     Ok(())
 }

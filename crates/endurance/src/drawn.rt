@@ -2,12 +2,12 @@
 //! returns; one that is refused leaves all rows as they were; all layouts answer alike; and a check finds a register sound just where
 //! nothing was done that harms it.
 
+use crate::rows::{Done, compare};
 use command_rows::lots::Draw;
-use command_rows::sessions::{Stopped, ask, prints, told};
+use command_rows::sessions::{Stopped, told};
 use command_rows::stories::{asked, new_store};
 use sqlite::{Connection, MemStore, params};
-use std::alloc::{AllocError, AllocGlobal, Global};
-use std::process::Abort;
+use std::alloc::Global;
 use std::test::Fail;
 use zeb_leaves::Leaves;
 use zeb_packed::Blocks;
@@ -72,8 +72,9 @@ static HARMFUL: [&str; 24] = [
     "DELETE FROM dict WHERE idx = ?1 % 3",
 ];
 
-/// What is asked of each register after a check.
-static ASKED: [&str; 14] = [
+/// What is asked of each register. The last check but one is of a register that may have been harmed, and the last one of one that is begun anew.
+static ASKED: [&str; 18] = [
+    "check",
     "find Default @attr 1=4 @attr 5=1 d",
     "find Default @or @attr 1=4 cafe @attr 1=31 @attr 4=109 1851",
     "scan Default 5 2 @attr 1=4 m",
@@ -88,20 +89,37 @@ static ASKED: [&str; 14] = [
     "update Default moby",
     "upgrade",
     "reindex",
+    "check",
+    "init",
+    "check",
 ];
+
+/// What stands between what was printed for the commands that made a register and for all that was asked of it.
+const HARMED: &str = "harmed: ";
+
+const SOUND: &str = "sound: ";
 
 type Store = Connection<MemStore>;
 
-/// A register of a layout that commands made, and what was printed for them.
-fn made<L: Layout>(alloc: Global, draw: &mut Draw) -> Result<(Store, String), AllocError> {
-    let (mut store, _) = ask::<MemStore, L>(alloc, new_store(alloc)?, SETTING, "init");
-    let mut printed = String::new(alloc);
+/// Asks a line, and adds what is printed for it.
+fn step<L: Layout>(
+    alloc: Global,
+    store: Store,
+    line: &str,
+    printed: &mut String,
+) -> Result<Store, Stopped> {
+    let (store, answer) = asked::<MemStore, L>(alloc, store, SETTING, line)?;
+    write!(printed, "{line}: {}; ", told(alloc, &answer)?)?;
+    Ok(store)
+}
+
+/// A register of a layout that commands made.
+fn made<L: Layout>(alloc: Global, draw: &mut Draw, printed: &mut String) -> Result<Store, Stopped> {
+    let mut store = step::<L>(alloc, new_store(alloc)?, "init", printed)?;
     for _ in 0..=draw.below(7) {
-        let (left, answer) = ask::<MemStore, L>(alloc, store, SETTING, draw.one_of(&MAKING));
-        printed.push_str(told(alloc, &answer)?.as_str())?;
-        store = left;
+        store = step::<L>(alloc, store, draw.one_of(&MAKING), printed)?;
     }
-    Ok((store, printed))
+    Ok(store)
 }
 
 /// Whether one of the statements, drawn by lot, changes a row.
@@ -122,89 +140,71 @@ fn is_harmed(store: &mut Store, draw: &mut Draw) -> bool {
     draw.below(4) > 0 && changes(store, draw, &HARMFUL)
 }
 
-/// A command prints this.
-fn gives<L: Layout>(
-    alloc: Global,
-    store: Store,
-    line: &str,
-    wanted: &str,
-) -> Result<Store, Stopped> {
-    let (store, answer) = asked::<MemStore, L>(alloc, store, SETTING, line)?;
-    prints(alloc, &answer, line, wanted)?;
-    Ok(store)
-}
-
-/// Everything is asked of a register, and what is printed is given. A check tells whether it was harmed; what wasn't is sound later too,
-/// and so is what is begun anew.
-fn all_asked<L: Layout>(alloc: Global, store: Store, is_harmed: bool) -> Result<String, Stopped> {
-    let verdict = if is_harmed {
-        "1: register damaged"
-    } else {
-        "ok"
-    };
-    let mut store = gives::<L>(alloc, store, "check", verdict)?;
-    let mut printed = String::new(alloc);
-    for line in &ASKED {
-        let (left, answer) = asked::<MemStore, L>(alloc, store, SETTING, line)?;
-        printed.push_str(told(alloc, &answer)?.as_str())?;
-        store = left;
-    }
-    if !is_harmed {
-        store = gives::<L>(alloc, store, "check", "ok")?;
-    }
-    let store = gives::<L>(alloc, store, "init", "ok")?;
-    gives::<L>(alloc, store, "check", "ok")?;
-    Ok(printed)
-}
-
-/// What a register printed that was made, changed and asked.
-#[derive(Drop)]
-struct Printed {
-    /// What was printed for the commands that made it.
-    made: String,
-    is_harmed: bool,
-    /// What was printed for all that was asked of it.
-    asked: String,
-}
-
 /// Makes a register of a layout, changes its rows, and asks everything of it.
-fn register<L: Layout>(alloc: Global, draw: &mut Draw) -> Result<Printed, Stopped> {
-    let (mut store, made) = made::<L>(alloc, draw)?;
+fn tell<L: Layout>(alloc: Global, draw: &mut Draw, printed: &mut String) -> Done {
+    let mut store = made::<L>(alloc, draw, printed)?;
     let is_harmed = is_harmed(&mut store, draw);
-    let asked = all_asked::<L>(alloc, store, is_harmed)?;
-    Ok(Printed {
-        made,
-        is_harmed,
-        asked,
-    })
+    printed.push_str(if is_harmed { HARMED } else { SOUND })?;
+    for line in &ASKED {
+        store = step::<L>(alloc, store, line, printed)?;
+    }
+    Ok(())
+}
+
+/// A check tells whether a register was harmed; what wasn't is sound later too, and so is what is begun anew.
+fn is_told_apart(alloc: Global, printed: &str) -> Done {
+    let is_harmed = printed.contains("harmed: check: 1: register damaged; ");
+    let is_sound = printed.contains("sound: check: ok\n; ")
+        && printed.ends_with("; check: ok\n; init: ok\n; check: ok\n; ");
+    if (is_harmed || is_sound) && printed.ends_with("; init: ok\n; check: ok\n; ") {
+        return Ok(());
+    }
+    compare(alloc, printed, "what a check tells")
+}
+
+/// What a register printed as it was made, and what it was asked, if it isn't harmed.
+fn parts(printed: &str) -> (&str, &str) {
+    match printed.split_once(HARMED) {
+        Some((made, _)) => (made, ""),
+        None => printed.split_once(SOUND).unwrap_or((printed, "")),
+    }
 }
 
 /// The same is printed for the commands of both, and for what is asked where neither was harmed: a statement may harm one of them alone.
-fn are_alike<H: Abort>(rt: &H, one: &Printed, other: &Printed) {
-    assert_eq!(rt; one.made.as_str(), other.made.as_str());
-    if !one.is_harmed && !other.is_harmed {
-        assert_eq!(rt; one.asked.as_str(), other.asked.as_str());
+fn are_alike(alloc: Global, one: &str, other: &str) -> Done {
+    let (made, asked) = parts(one);
+    let (other_made, other_asked) = parts(other);
+    compare(alloc, made, other_made)?;
+    if asked.is_empty() || other_asked.is_empty() {
+        return Ok(());
     }
+    compare(alloc, asked, other_asked)
+}
+
+/// What a register of a layout printed.
+fn drawn<L: Layout>(alloc: Global, draw: &mut Draw) -> Result<String, Stopped> {
+    let mut printed = String::new(alloc);
+    tell::<L>(alloc, draw, &mut printed)?;
+    is_told_apart(alloc, &printed)?;
+    Ok(printed)
 }
 
 /// Makes a register in each layout by the same commands, changes their rows by the same statements, and asks everything of each.
-fn drawn<H: Abort + AllocGlobal>(rt: &H, draw: &mut Draw) -> Result<(), Stopped> {
-    let mut again = *draw;
-    let mut once_more = *draw;
-    let plain = register::<Rows>(rt.alloc(), draw)?;
-    let packed = register::<Blocks>(rt.alloc(), &mut again)?;
-    let leaves = register::<Leaves>(rt.alloc(), &mut once_more)?;
-    are_alike(rt, &plain, &packed);
-    are_alike(rt, &plain, &leaves);
-    are_alike(rt, &packed, &leaves);
-    Ok(())
+fn all_drawn(alloc: Global, draw: &mut Draw) -> Done {
+    let (mut again, mut once_more) = (*draw, *draw);
+    let plain = drawn::<Rows>(alloc, draw)?;
+    let packed = drawn::<Blocks>(alloc, &mut again)?;
+    let leaves = drawn::<Leaves>(alloc, &mut once_more)?;
+    are_alike(alloc, &plain, &packed)?;
+    are_alike(alloc, &plain, &leaves)?;
+    are_alike(alloc, &packed, &leaves)
 }
 
 #[test]
 fn registers_drawn_by_lot_answer_alike_and_are_told_apart(rt: HostRuntime) -> Result<(), Fail> {
     let mut draw = Draw::new();
     for _ in 0..REGISTERS {
-        drawn(&rt, &mut draw)?;
+        all_drawn(rt.alloc(), &mut draw)?;
     }
     Ok(())
 }

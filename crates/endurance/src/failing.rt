@@ -1,55 +1,20 @@
 //! Inputs and outputs that fail: at each byte, and each time that an output has to pass on. The status, what was written before, and what
 //! is left of the input.
 
-use crate::rows::Row;
-use crate::runs::{Done, Ends, FAILED, Narrow, OPEN, Takes};
+use crate::rows::{Done, Row, compare};
+use crate::runs::{End, Ends, Input, Narrow, OPEN, Takes, run_on};
 use sqlite::MemStore;
-use std::alloc::{AllocError, AllocGlobal};
-use std::io::{self, BufWriter, ErrorKind, Read};
-use std::process::Abort;
+use std::alloc::{AllocError, Global};
+use std::io::{self, BufWriter};
 use std::test::Fail;
-use zeb_marc::{FromRead, Slice, Source};
 use zeb_packed::Blocks;
 use zeb_paths::Shelf;
-use zeb_program::{Sink, run};
-
-/// A reader of some bytes, at most so many at a time, after which each read fails.
-#[derive(Drop)]
-pub struct Torn<'a> {
-    pub bytes: &'a [u8],
-    pub most: usize,
-}
-
-impl Read for Torn<'_> {
-    fn read(&mut self, buffer: &mut [u8]) -> io::Result<usize> {
-        if self.bytes.is_empty() {
-            return Err(io::Error::from(ErrorKind::TimedOut));
-        }
-        let count = self.bytes.len().min(buffer.len()).min(self.most);
-        let (now, later) = self.bytes.split_at(count);
-        buffer[..count].copy_from_slice(now);
-        self.bytes = later;
-        Ok(count)
-    }
-}
-
-/// A reader whose bytes are LF without end.
-#[derive(Drop)]
-pub struct Endless;
-
-impl Read for Endless {
-    fn read(&mut self, buffer: &mut [u8]) -> io::Result<usize> {
-        for byte in buffer.iter_mut() {
-            *byte = b'\n';
-        }
-        Ok(buffer.len())
-    }
-}
+use zeb_program::Sink;
 
 /// Lines over a register that holds Moby Dick.
 static LINES: &str = "\
 find Default moby -> hits 1; 1 a1
-update Default hex:<B> -> inserted 1 updated 0 deleted 0
+update Default hex:cafe -> inserted 1 updated 0 deleted 0
 # a remark
 stat X -> zebraidx: diagnostic 235 at 0: X
 x -> zebraidx: bad line 5; 2
@@ -63,7 +28,7 @@ att 4 Title
 melm 245 Title
 .
 init -> ok
-update Default hex:<A> -> inserted 1 updated 0 deleted 0
+update Default hex:moby -> inserted 1 updated 0 deleted 0
 find Default @attr 1=4 whale -> hits 1; 1 a1
 find X @attr 1=4 whale -> zebraidx: diagnostic 235 at 0: X
 x -> zebraidx: bad line 10; 2";
@@ -76,27 +41,32 @@ update|missing -> 3: cannot read missing
 create|a/b -> 2: bad usage; \
 2: cause: a database's name has 1 to 64 ASCII letters, digits, '-', '_' and '.', and no others";
 
-/// The input fails behind each of its bytes, of which so many are given at a time. A shell has answered the lines before; else none is run.
-fn reads_fail(rt: &(impl Abort + AllocGlobal), words: &str, lines: &str, most: usize) -> Done {
-    let whole = Row::of_lines(rt.alloc(), words, lines, usize::MAX)?;
+/// What is said of a script that can't be read, and of another input.
+const CUT: &str = "zebraidx: cannot read input";
+
+const UNREAD: &str = "3: cannot read input; 3: cause: a read failed";
+
+/// A run over the register that holds Moby Dick is as a row says, or fails.
+fn is_run(takes: Takes, row: &Row, input: &mut Input<'_>, fails: bool) -> Done {
+    Ends::run_loaded::<Blocks>(takes, row, input)?.are(row, fails)
+}
+
+/// What comes of an input that fails behind these bytes. A shell has answered the lines before; else none is run.
+fn cut_off(alloc: Global, words: &str, lines: &str, bytes: &[u8]) -> Result<Row, AllocError> {
+    let ended = bytes.iter().filter(|byte| **byte == b'\n').count();
+    let count = if words == "shell" { ended } else { 0 };
+    let mut row = Row::of_lines(alloc, words, lines, count)?;
+    row.add("", if words.is_empty() { CUT } else { UNREAD })?;
+    Ok(row)
+}
+
+/// The input fails behind each of its bytes, of which so many are given at a time.
+fn reads_fail(alloc: Global, words: &str, lines: &str, most: usize) -> Done {
+    let whole = Row::of_lines(alloc, words, lines, usize::MAX)?;
     for place in 0..=whole.input.len() {
         let bytes = &whole.input.as_bytes()[..place];
-        let ended = bytes.iter().filter(|byte| **byte == b'\n').count();
-        let count = if words == "shell" { ended } else { 0 };
-        let mut row = Row::of_lines(rt.alloc(), words, lines, count)?;
-        let begin = if words.is_empty() { "zebraidx" } else { "3" };
-        let cause = if words.is_empty() {
-            ""
-        } else {
-            "; 3: cause: a read failed"
-        };
-        row.add(
-            "",
-            &format!(in rt.alloc(); "{begin}: cannot read input{cause}")?,
-        )?;
-        let mut input = FromRead::new(Torn { bytes, most });
-        let ends = Ends::run_loaded::<FromRead<Torn<'_>>, Blocks>(OPEN, &row, &mut input)?;
-        ends.are(rt, &row, true, words);
+        let row = cut_off(alloc, words, lines, bytes)?;
+        is_run(OPEN, &row, &mut Input::new(bytes, most, End::Failure), true)?;
     }
     Ok(())
 }
@@ -104,8 +74,8 @@ fn reads_fail(rt: &(impl Abort + AllocGlobal), words: &str, lines: &str, most: u
 #[test]
 fn lines_behind_a_read_that_fails_are_not_run(rt: HostRuntime) -> Result<(), Fail> {
     for (words, lines) in [("", SCRIPT), ("batch", LINES), ("shell", LINES)] {
-        reads_fail(&rt, words, lines, 1)?;
-        reads_fail(&rt, words, lines, 8192)?;
+        reads_fail(rt.alloc(), words, lines, 1)?;
+        reads_fail(rt.alloc(), words, lines, 8192)?;
     }
     Ok(())
 }
@@ -113,62 +83,55 @@ fn lines_behind_a_read_that_fails_are_not_run(rt: HostRuntime) -> Result<(), Fai
 #[test]
 fn an_input_without_end_is_refused(rt: HostRuntime) -> Result<(), Fail> {
     let row = Row::read(rt.alloc(), " -> zebraidx: cannot read input; 3")?;
-    let ends = Ends::run_loaded::<FromRead<Endless>, Blocks>(
-        OPEN,
-        &row,
-        &mut FromRead::new(Endless),
-    )?;
-    ends.are(&rt, &row, true, "without end");
-    Ok(())
+    Ok(is_run(OPEN, &row, &mut Input::new(&[], 1, End::Never), true)?)
 }
 
 /// A run over outputs that may fail writes the answers of the lines that it reads of an input, as far as they go in, and reads no others.
-fn is_hindered(rt: &impl Abort, row: &Row, input: &str, takes: Takes, fails: bool) -> Done {
-    let alloc = *row.words.allocator();
-    let mut source = Slice::new(input.as_bytes());
-    let ends = Ends::run_loaded::<Slice<'_>, Blocks>(takes, row, &mut source)?;
-    let place = format!(in alloc; "{:?}, {takes:?}", row.words)?;
-    ends.are(rt, row, fails, &place);
-    let mut rest = [0u8; 1024];
-    let left = source.read(&mut rest).or(Err(AllocError))?;
-    let unread = input.len().saturating_sub(row.input.len());
-    assert_eq!(rt; left, unread, "{place}");
-    Ok(())
+fn is_hindered(row: &Row, input: &str, takes: Takes, fails: bool) -> Done {
+    let mut source = Input::new(input.as_bytes(), usize::MAX, End::Told);
+    is_run(takes, row, &mut source, fails)?;
+    if source.bytes.len() == input.len().saturating_sub(row.input.len()) {
+        return Ok(());
+    }
+    compare(*row.words.allocator(), "another part is read", &row.input)
 }
 
 /// Both outputs fail behind each byte that is written, and either where it is to pass on.
-fn writes_fail(rt: &impl Abort, row: &Row) -> Done {
+fn writes_fail(row: &Row) -> Done {
     let length = row.output.len().max(row.faults.len());
     for room in 0..=length {
-        is_hindered(rt, row, &row.input, (room, 1, 1), room < length)?;
+        is_hindered(row, &row.input, (room, 1, 1), room < length)?;
     }
-    is_hindered(rt, row, &row.input, (length, 0, 1), true)?;
-    is_hindered(rt, row, &row.input, (length, 1, 0), true)
+    is_hindered(row, &row.input, (length, 0, 1), true)?;
+    is_hindered(row, &row.input, (length, 1, 0), true)
 }
 
 #[test]
 fn outputs_may_fail_at_each_byte_and_at_the_end(rt: HostRuntime) -> Result<(), Fail> {
-    writes_fail(&rt, &Row::of_lines(rt.alloc(), "", SCRIPT, usize::MAX)?)?;
-    writes_fail(&rt, &Row::of_lines(rt.alloc(), "batch", LINES, usize::MAX)?)?;
+    writes_fail(&Row::of_lines(rt.alloc(), "", SCRIPT, usize::MAX)?)?;
+    writes_fail(&Row::of_lines(rt.alloc(), "batch", LINES, usize::MAX)?)?;
     for line in WORDS.split('\n') {
-        writes_fail(&rt, &Row::read(rt.alloc(), line)?)?;
+        writes_fail(&Row::read(rt.alloc(), line)?)?;
     }
     Ok(())
 }
 
-/// The output of a shell takes so many bytes and passes on so many times. It reads the lines up to the first whose answer isn't taken or
-/// isn't passed on.
-fn shell_fails(rt: &(impl Abort + AllocGlobal), room: usize, passes: usize) -> Done {
-    let whole = Row::of_lines(rt.alloc(), "shell", LINES, usize::MAX)?;
-    let lines = LINES.split('\n').count();
-    let mut read = Row::of_lines(rt.alloc(), "shell", LINES, 0)?;
-    for count in 0..lines {
-        if count <= passes && read.output.len() <= room {
-            read = Row::of_lines(rt.alloc(), "shell", LINES, count.saturating_add(1))?;
+/// The lines of a shell up to the first one whose answer doesn't go into so many bytes, or isn't passed on, if it is so many times.
+fn lines_read(alloc: Global, room: usize, passes: usize) -> Result<Row, AllocError> {
+    let mut row = Row::of_lines(alloc, "shell", "", 0)?;
+    for (count, line) in LINES.split('\n').enumerate() {
+        if count <= passes && row.output.len() <= room {
+            row.add_lines(line, 1)?;
         }
     }
-    let fails = room < whole.output.len() || passes <= lines;
-    is_hindered(rt, &read, &whole.input, (room, passes, 1), fails)
+    Ok(row)
+}
+
+/// The output of a shell takes so many bytes and passes on so many times.
+fn shell_fails(whole: &Row, room: usize, passes: usize) -> Done {
+    let read = lines_read(*whole.words.allocator(), room, passes)?;
+    let fails = room < whole.output.len() || passes <= LINES.split('\n').count();
+    is_hindered(&read, &whole.input, (room, passes, 1), fails)
 }
 
 /// There are fewer lines than bytes of answers.
@@ -176,28 +139,28 @@ fn shell_fails(rt: &(impl Abort + AllocGlobal), room: usize, passes: usize) -> D
 fn a_shell_ends_where_its_output_fails(rt: HostRuntime) -> Result<(), Fail> {
     let whole = Row::of_lines(rt.alloc(), "shell", LINES, usize::MAX)?;
     for place in 0..=whole.output.len() {
-        shell_fails(&rt, place, usize::MAX)?;
-        shell_fails(&rt, usize::MAX, place)?;
+        shell_fails(&whole, place, usize::MAX)?;
+        shell_fails(&whole, usize::MAX, place)?;
     }
     Ok(())
 }
 
+/// The status of a script whose output is held back before it goes to a writer.
+fn held_back(row: &Row, narrow: &mut Narrow) -> io::Result<u8> {
+    let writer = BufWriter::new(*row.words.allocator(), narrow)?;
+    let mut input = Input::new(row.input.as_bytes(), usize::MAX, End::Told);
+    let mut shelf = Shelf::<MemStore>::new(&[], None);
+    let (mut output, mut faults) = (Sink::new(writer), Sink::new(io::sink()));
+    Ok(run_on(row, &mut input, &mut output, &mut faults, &mut shelf))
+}
+
 #[test]
 fn a_writer_that_holds_all_back_fails_at_the_end(rt: HostRuntime) -> Result<(), Fail> {
-    let alloc = rt.alloc();
-    let row = Row::of_lines(alloc, "", SCRIPT, usize::MAX)?;
-    let mut shelf = Shelf::<MemStore>::new(&[], None);
+    let row = Row::of_lines(rt.alloc(), "", SCRIPT, usize::MAX)?;
     for room in 0..=row.output.len() {
-        let mut narrow = Narrow::new(alloc, room, 1);
-        let mut output = Sink::new(BufWriter::new(alloc, &mut narrow)?);
-        let mut input = Slice::new(row.input.as_bytes());
-        let mut faults = Sink::new(io::sink());
-        let status = run(alloc, &[], &mut input, &mut output, &mut faults, &mut shelf);
-        let fails = room < row.output.len();
-        let wanted = if fails { FAILED } else { row.status };
-        assert_eq!(rt; status, wanted, "after {room} bytes");
-        drop(output);
-        narrow.has(&rt, &row.output, "of a script");
+        let mut ends = Ends::new(rt.alloc(), (room, 1, 1));
+        ends.status = held_back(&row, &mut ends.output)?;
+        ends.are(&row, room < row.output.len())?;
     }
     Ok(())
 }

@@ -1,6 +1,6 @@
 //! Readers that fail, or had failed: which is named, and that nothing is changed.
 
-use command_rows::stories::tell;
+use crate::stories::told;
 use std::alloc::{AllocError, AllocGlobal, Global};
 use std::test::Fail;
 use zeb_leaves::Leaves;
@@ -50,19 +50,22 @@ fn add_changes(story: &mut String, row: &str) -> Result<(), AllocError> {
 }
 
 /// Before the register is begun, before it has the database, and beside two records.
-#[test]
-fn a_reader_that_had_failed_is_named(rt: HostRuntime) -> Result<(), Fail> {
-    let mut story = String::from_str(rt.alloc(), "either books")?;
+fn add_named(story: &mut String) -> Result<(), AllocError> {
     for line in BEFORE.split('\n') {
         write!(story, "\n{line}")?;
         for row in HAD_FAILED.split('\n') {
-            add_changes(&mut story, row)?;
+            add_changes(story, row)?;
         }
     }
-    write!(story, "\n{STILL_LOADED}")?;
-    tell::<Blocks>(rt.alloc(), &story)?;
-    tell::<Leaves>(rt.alloc(), &story)?;
-    Ok(())
+    write!(story, "\n{STILL_LOADED}")
+}
+
+#[test]
+fn a_reader_that_had_failed_is_named(rt: HostRuntime) -> Result<(), Fail> {
+    let mut story = String::from_str(rt.alloc(), "either books")?;
+    add_named(&mut story)?;
+    told::<Blocks>(rt.alloc(), &story)?;
+    told::<Leaves>(rt.alloc(), &story)
 }
 
 /// Adds a row's changes, wherever the readers fail.
@@ -82,7 +85,6 @@ fn a_reader_that_fails_is_named(rt: HostRuntime) -> Result<(), Fail> {
     for row in FAIL.split('\n') {
         add_failures(rt.alloc(), &mut story, row)?;
     }
-    tell::<Blocks>(rt.alloc(), &story)?;
-    tell::<Leaves>(rt.alloc(), &story)?;
-    Ok(())
+    told::<Blocks>(rt.alloc(), &story)?;
+    told::<Leaves>(rt.alloc(), &story)
 }

@@ -1,12 +1,10 @@
 //! The program by words over the file system, one run after the other.
 
-use crate::rows::Row;
-use crate::runs::{Ends, OPEN};
-use std::process::Abort;
+use crate::rows::{Done, Row};
+use crate::runs::{End, Ends, Input, OPEN};
 use std::test::Fail;
-use std::{env, fs, process};
+use std::{env, fs, io, process};
 use worked_samples::record;
-use zeb_marc::Slice;
 use zeb_paths::Disk;
 
 /// Runs before those below: of a folder without a register, and of a register that is to be in leaves.
@@ -35,6 +33,9 @@ inserted 2 updated 0 deleted 0; hits 1; 1 a1
 -c|%/lost.cfg|init -> 3: store fault; 3: cause: no such folder; 3: register is %/none/books.db
 -c|%/none.cfg|init -> 3: cannot read %/none.cfg; 3: cause: nothing stands there";
 
+/// How each profile begins, before the path of its store.
+const BEGIN: &str = "identifier 001\natt 1016 Any\nstore ";
+
 /// Profiles: their names, and their stores and what their indexes have.
 const PROFILES: [(&str, &str); 3] = [
     ("zebra.cfg", "books.db\nmelm 245$a Any\n"),
@@ -42,52 +43,52 @@ const PROFILES: [(&str, &str); 3] = [
     ("lost.cfg", "none/books.db\nmelm 245$a Any\n"),
 ];
 
+fn write_file(rt: &HostRuntime, path: [&str; 3], bytes: &[u8]) -> io::Result<()> {
+    fs::write(rt, path.concat(rt.alloc())?.as_str(), bytes)
+}
+
 /// Writes the profiles, and two records in a folder of their own.
-fn write_files(rt: &HostRuntime, folder: &str) -> Result<(), Fail> {
-    let alloc = rt.alloc();
-    let inner = format!(in alloc; "{folder}/in")?;
-    fs::create_dir_all(rt, inner.as_str())?;
+fn write_files(rt: &HostRuntime, folder: &str) -> io::Result<()> {
+    fs::create_dir_all(rt, [folder, "/in"].concat(rt.alloc())?.as_str())?;
+    write_file(rt, [folder, "/in", "/a"], record("moby"))?;
+    write_file(rt, [folder, "/in", "/b"], record("cafe"))?;
     for (name, rest) in PROFILES {
-        let path = format!(in alloc; "{folder}/{name}")?;
-        let text = format!(in alloc; "identifier 001\natt 1016 Any\nstore {folder}/{rest}")?;
-        fs::write(rt, path.as_str(), text.as_str())?;
-    }
-    for (file, name) in [("a", "moby"), ("b", "cafe")] {
-        let path = format!(in alloc; "{inner}/{file}")?;
-        fs::write(rt, path.as_str(), record(name))?;
+        let text = [BEGIN, folder, "/", rest].concat(rt.alloc())?;
+        write_file(rt, [folder, "/", name], text.as_bytes())?;
     }
     Ok(())
 }
 
-/// A run over the folder is answered as its line says; `stop` ends the test where it isn't.
-fn is_run_in(rt: &HostRuntime, stop: &impl Abort, folder: &str, line: &str) -> Result<(), Fail> {
+/// A run over the folder is answered as its line says.
+fn is_run_in(rt: &HostRuntime, folder: &str, line: &str) -> Done {
     let row = Row::read(rt.alloc(), &line.replace(rt.alloc(), '%', folder)?)?;
-    let mut input = Slice::new(row.input.as_bytes());
-    let ends = Ends::run(OPEN, &row, &mut input, &mut Disk::new(rt));
-    ends.are(stop, &row, false, line);
+    let mut input = Input::new(row.input.as_bytes(), usize::MAX, End::Told);
+    Ends::run(OPEN, &row, &mut input, &mut Disk::new(rt)).are(&row, false)
+}
+
+/// The runs in a folder, behind this one.
+fn run_in(rt: &HostRuntime, folder: &str, first: &str) -> Result<(), Fail> {
+    write_files(rt, folder)?;
+    is_run_in(rt, folder, first)?;
+    for line in RUNS.split('\n') {
+        is_run_in(rt, folder, line)?;
+    }
+    fs::remove_dir_all(rt, folder)?;
     Ok(())
 }
 
-/// The runs in a folder of this name, behind this one.
-fn run_behind(rt: &HostRuntime, stop: &impl Abort, name: &str, first: &str) -> Result<(), Fail> {
-    let alloc = rt.alloc();
+/// The path of a folder of this name.
+fn folder_of(rt: &HostRuntime, name: &str) -> io::Result<String> {
     let (temporary, process) = (env::temp_dir(rt)?, process::id(rt.process()));
-    let folder = format!(in alloc; "{}/zebraidx-{name}-{process}", temporary.as_str())?;
-    write_files(rt, folder.as_str())?;
-    is_run_in(rt, stop, folder.as_str(), first)?;
-    for line in RUNS.split('\n') {
-        is_run_in(rt, stop, folder.as_str(), line)?;
-    }
-    fs::remove_dir_all(rt, folder.as_str())?;
-    Ok(())
+    Ok(format!(in rt.alloc(); "{}/zebraidx-{name}-{process}", temporary.as_str())?)
 }
 
 #[test]
 fn keeps_a_register_on_disk(rt: HostRuntime) -> Result<(), Fail> {
-    run_behind(&rt, &rt, "blocks", NONE)
+    run_in(&rt, &folder_of(&rt, "blocks")?, NONE)
 }
 
 #[test]
 fn keeps_a_register_in_leaves_on_disk(rt: HostRuntime) -> Result<(), Fail> {
-    run_behind(&rt, &rt, "leaves", LEAVES)
+    run_in(&rt, &folder_of(&rt, "leaves")?, LEAVES)
 }

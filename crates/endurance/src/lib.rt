@@ -24,6 +24,4 @@ mod runs;
 #[cfg(test)]
 mod stories;
 #[cfg(test)]
-mod telling;
-#[cfg(test)]
 mod words;

@@ -1,13 +1,13 @@
 //! Lists of commands: one lacks memory as a whole and has run nothing, or a command of it lacks memory and is as one that wasn't given.
 
+use crate::rows::{Done, compare};
 use command_rows::lines::command_of;
 use command_rows::sessions::{Answer, Stopped, adopted, answer, lacks_memory, prints, told};
 use sqlite::{Connection, MemStore};
-use std::alloc::{AllocError, AllocGlobal, Global};
-use std::process::Abort;
+use std::alloc::{AllocError, Global};
 use std::test::Fail;
 use tables::queries::state;
-use zeb_engine::{Command, Limits, Refusal, Session};
+use zeb_engine::{Command, Limits, Session};
 use zeb_leaves::Leaves;
 use zeb_packed::Blocks;
 use zeb_register::Layout;
@@ -36,100 +36,114 @@ upgrade -> ok
 drop a -> ok
 dump a -> 1: diagnostic 235 at 0: a";
 
-/// The commands of the list but one, if it has that.
-fn listed(alloc: Global, left_out: usize) -> Result<Vec<Command>, AllocError> {
-    let mut commands = Vec::new(alloc);
-    for (place, row) in LIST.split('\n').enumerate() {
-        let (line, _) = row.split_once(" -> ").ok_or(AllocError)?;
+/// Where no command is left out, or none lacks memory.
+const NONE: usize = usize::MAX;
+
+/// Adds the commands of the list but one, if it has that.
+fn add_commands(alloc: Global, left_out: usize, commands: &mut Vec<Command>) -> Done {
+    for (place, line) in LIST.split('\n').enumerate() {
+        let (line, _) = line.split_once(" -> ").unwrap_or((line, ""));
         if place != left_out {
             let command = command_of(alloc, line).or(Err(AllocError))?;
-            commands.push(command)?;
+            commands.push(command).or(Err(AllocError))?;
         }
     }
-    Ok(commands)
+    Ok(())
 }
 
-/// A session over a new register in memory.
-fn begun<L: Layout>(alloc: Global) -> Result<Session<MemStore, L>, AllocError> {
-    let new = Connection::open_in_memory(alloc).or(Err(AllocError))?;
-    adopted::<MemStore, L>(alloc, new, "books", Limits::GREATEST).or(Err(AllocError))
-}
-
-/// The answers to these. A list that lacks memory as a whole has run nothing, and is run again.
-fn answers_to<H: Abort + AllocGlobal, L: Layout>(
-    rt: &H,
+/// The answers to commands. A list that lacks memory as a whole has run nothing, and is run again.
+fn answers_to<L: Layout>(
+    alloc: Global,
     session: &mut Session<MemStore, L>,
     commands: &[Command],
 ) -> Result<Vec<Answer>, Stopped> {
-    match session.run_all(commands) {
-        Ok(answers) => Ok(answers),
-        Err(refusal) => {
-            assert!(rt; matches!(refusal, Refusal::Memory));
-            let check = answer(rt.alloc(), session, "check");
-            prints(rt.alloc(), &check, "check", "1: register not initialised")?;
-            Ok(session.run_all(commands).or(Err(AllocError))?)
+    for _ in 0..2 {
+        match session.run_all(commands) {
+            Ok(answers) => return Ok(answers),
+            Err(refusal) => prints(alloc, &Err(refusal), "a list", "3: out of memory")?,
         }
+        let check = answer(alloc, session, "check");
+        prints(alloc, &check, "check", "1: register not initialised")?;
     }
+    Err(Stopped::Memory)
 }
 
-/// The answers to the list but one of its commands over a new register, and all rows behind them.
-fn ran<H: Abort + AllocGlobal, L: Layout>(
-    rt: &H,
-    left_out: usize,
-) -> Result<(Vec<Answer>, String), Stopped> {
-    let commands = listed(rt.alloc(), left_out)?;
-    let mut session = begun::<L>(rt.alloc())?;
-    let answers = answers_to(rt, &mut session, &commands)?;
-    assert_eq!(rt; answers.len(), commands.len());
-    let rows = state(rt.alloc(), &mut session.release()).or(Err(AllocError))?;
-    Ok((answers, rows))
-}
-
-/// The commands behind a place got the same answers, and all rows are the same, as where the one at it isn't given.
-fn is_without<H: Abort + AllocGlobal, L: Layout>(
-    rt: &H,
+/// Adds what is printed for each answer but for one that lacks memory, whose place is given. Up to that the whole list is answered as it says.
+fn add_answers(
+    alloc: Global,
     answers: &[Answer],
-    rows: &str,
-    place: usize,
-) -> Result<(), Stopped> {
-    let (without, wanted) = ran::<H, L>(rt, place)?;
-    assert_eq!(rt; rows, wanted.as_str(), "{place}");
-    let behind = answers.iter().skip(place.saturating_add(1));
-    for (answer, wanted) in behind.zip(without.iter().skip(place)) {
-        let (text, wanted) = (told(rt.alloc(), answer)?, told(rt.alloc(), wanted)?);
-        assert_eq!(rt; text.as_str(), wanted.as_str(), "{place}");
+    is_whole: bool,
+    printed: &mut String,
+) -> Result<usize, Stopped> {
+    let mut lacking = NONE;
+    for (place, (answer, line)) in answers.iter().zip(LIST.split('\n')).enumerate() {
+        let (line, wanted) = line.split_once(" -> ").unwrap_or((line, ""));
+        if lacks_memory(answer) {
+            lacking = place;
+            continue;
+        }
+        if is_whole && lacking == NONE {
+            prints(alloc, answer, line, wanted)?;
+        }
+        writeln!(printed, "{}", told(alloc, answer)?)?;
     }
-    Ok(())
+    Ok(lacking)
 }
 
-/// Runs the list: it is answered, or one of its commands lacks memory.
-fn run_list<H: Abort + AllocGlobal, L: Layout>(rt: &H) -> Result<(), Stopped> {
-    let (answers, rows) = ran::<H, L>(rt, usize::MAX)?;
-    for (place, (answer, line)) in answers.iter().zip(LIST.split('\n')).enumerate() {
-        if lacks_memory(answer) {
-            return is_without::<H, L>(rt, &answers, &rows, place);
-        }
-        let (line, wanted) = line.split_once(" -> ").ok_or(AllocError)?;
-        prints(rt.alloc(), answer, line, wanted)?;
+/// The same for commands that are given to a session.
+fn add_run<L: Layout>(
+    alloc: Global,
+    session: &mut Session<MemStore, L>,
+    commands: &[Command],
+    is_whole: bool,
+    printed: &mut String,
+) -> Result<usize, Stopped> {
+    let answers = answers_to(alloc, session, commands)?;
+    if answers.len() == commands.len() {
+        return add_answers(alloc, &answers, is_whole, printed);
     }
-    Ok(())
+    Err(Stopped::Otherwise(String::from_str(alloc, "other answers")?))
+}
+
+/// Runs the list but one of its commands over a new register. Adds what is printed, and all rows behind it.
+fn ran<L: Layout>(alloc: Global, left_out: usize, printed: &mut String) -> Result<usize, Stopped> {
+    let mut commands = Vec::new(alloc);
+    add_commands(alloc, left_out, &mut commands)?;
+    let new = Connection::open_in_memory(alloc).or(Err(AllocError))?;
+    let limits = Limits::GREATEST;
+    let mut session = adopted::<MemStore, L>(alloc, new, "books", limits).or(Err(AllocError))?;
+    let lacking = add_run(alloc, &mut session, &commands, left_out == NONE, printed)?;
+    let rows = state(alloc, &mut session.release()).or(Err(AllocError))?;
+    printed.push_str(&rows)?;
+    Ok(lacking)
+}
+
+/// The list is answered, or one of its commands lacks memory: then the same is printed, and all rows are the same, as where that isn't given.
+fn is_answered<L: Layout>(alloc: Global) -> Done {
+    let mut printed = String::new(alloc);
+    let lacking = ran::<L>(alloc, NONE, &mut printed)?;
+    if lacking == NONE {
+        return Ok(());
+    }
+    let mut wanted = String::new(alloc);
+    ran::<L>(alloc, lacking, &mut wanted)?;
+    compare(alloc, &printed, &wanted)
 }
 
 /// The same, again where memory was refused beside the commands.
-fn is_run<H: Abort + AllocGlobal, L: Layout>(rt: &H) -> Result<(), Fail> {
-    let mut outcome = run_list::<H, L>(rt);
-    if matches!(outcome, Err(Stopped::Memory)) {
-        outcome = run_list::<H, L>(rt);
+fn is_run<L: Layout>(alloc: Global) -> Result<(), Fail> {
+    match is_answered::<L>(alloc) {
+        Err(Stopped::Memory) => Ok(is_answered::<L>(alloc)?),
+        outcome => Ok(outcome?),
     }
-    Ok(outcome?)
 }
 
 #[test]
 fn a_list_lacks_memory_or_one_command_does(rt: HostRuntime) -> Result<(), Fail> {
-    is_run::<HostRuntime, Blocks>(&rt)
+    is_run::<Blocks>(rt.alloc())
 }
 
 #[test]
 fn a_list_in_leaves_lacks_memory_or_one_command_does(rt: HostRuntime) -> Result<(), Fail> {
-    is_run::<HostRuntime, Leaves>(&rt)
+    is_run::<Leaves>(rt.alloc())
 }

@@ -1,13 +1,12 @@
 //! The program while memory is refused. Whichever allocation is refused (tests/each_allocation.py of the repository refuses each in
 //! turn), a run writes its ordinary answer, or ends in status 3; and run again it writes its ordinary answer.
 
-use crate::rows::Row;
-use crate::runs::{Ends, FAILED, OPEN};
-use std::alloc::{AllocError, AllocGlobal};
-use std::process::Abort;
+use crate::rows::{Done, Row};
+use crate::runs::{End, Ends, FAILED, Input, OPEN};
+use command_rows::sessions::Stopped;
+use std::alloc::Global;
 use std::test::Fail;
 use zeb_leaves::Leaves;
-use zeb_marc::Slice;
 use zeb_packed::Blocks;
 use zeb_register::Layout;
 
@@ -22,8 +21,8 @@ delete|a.mrc -> inserted 0 updated 0 deleted 1
 Title:w 3 2 the; Title:w 3 3 whale; Title:p 2 1 moby dick; Date:n 4 1 1851; Any:w 4 1 c1851; \
 Any:w 2 2 dick; Any:w 2 1 moby; Any:w 3 1 or; Any:w 3 2 the; Any:w 3 3 whale
 batch < update Default in; find Default dock -> inserted 1 updated 1 deleted 0; hits 1; 1 a1
-shell < delete Default hex:<A>; find Default moby -> inserted 0 updated 0 deleted 1; hits 0
- < store x; identifier 001; att 4 Title; melm 245 Title; .; init; update Default hex:<B>; \
+shell < delete Default hex:moby; find Default moby -> inserted 0 updated 0 deleted 1; hits 0
+ < store x; identifier 001; att 4 Title; melm 245 Title; .; init; update Default hex:cafe; \
 find Default @attr 1=4 cafe -> ok; inserted 1 updated 0 deleted 0; hits 1; 1 b2";
 
 /// What a run may write whose memory, or whose store for want of it, failed.
@@ -38,24 +37,23 @@ fn is_failure(row: &Row, ends: &Ends) -> bool {
     is_named || row.output.as_str().starts_with(output) && faults.is_empty()
 }
 
-/// Whether a run gives its ordinary answer. Any other is a failure.
-fn is_answered<H: Abort + AllocGlobal, L: Layout>(rt: &H, line: &str) -> Result<bool, AllocError> {
-    let row = Row::read(rt.alloc(), line)?;
-    let mut input = Slice::new(row.input.as_bytes());
-    let ends = Ends::run_loaded::<Slice<'_>, L>(OPEN, &row, &mut input)?;
-    if ends.status == FAILED {
-        assert!(rt; is_failure(&row, &ends), "{line}");
-        return Ok(false);
+/// A run gives its ordinary answer. One that fails counts as one without memory.
+fn is_answered<L: Layout>(alloc: Global, line: &str) -> Done {
+    let row = Row::read(alloc, line)?;
+    let mut input = Input::new(row.input.as_bytes(), usize::MAX, End::Told);
+    let ends = Ends::run_loaded::<L>(OPEN, &row, &mut input)?;
+    if ends.status == FAILED && is_failure(&row, &ends) {
+        return Err(Stopped::Memory);
     }
-    ends.are(rt, &row, false, line);
-    Ok(true)
+    ends.are(&row, false)
 }
 
 /// Each run over a register of a layout, again where it failed.
-fn are_answered<H: Abort + AllocGlobal, L: Layout>(rt: &H) -> Result<(), Fail> {
+fn are_answered<L: Layout>(alloc: Global) -> Result<(), Fail> {
     for line in RUNS.split('\n') {
-        if !matches!(is_answered::<H, L>(rt, line), Ok(true)) {
-            assert!(rt; is_answered::<H, L>(rt, line)?, "{line}");
+        match is_answered::<L>(alloc, line) {
+            Err(Stopped::Memory) => is_answered::<L>(alloc, line)?,
+            outcome => outcome?,
         }
     }
     Ok(())
@@ -63,10 +61,10 @@ fn are_answered<H: Abort + AllocGlobal, L: Layout>(rt: &H) -> Result<(), Fail> {
 
 #[test]
 fn memory_or_the_ordinary_answer(rt: HostRuntime) -> Result<(), Fail> {
-    are_answered::<HostRuntime, Blocks>(&rt)
+    are_answered::<Blocks>(rt.alloc())
 }
 
 #[test]
 fn memory_or_the_ordinary_answer_in_leaves(rt: HostRuntime) -> Result<(), Fail> {
-    are_answered::<HostRuntime, Leaves>(&rt)
+    are_answered::<Leaves>(rt.alloc())
 }

@@ -1,24 +1,21 @@
 //! Runs of the program over outputs that may fail.
 
-ghost use Rattle.std.specs.Prelude.{◌≡◌, [], false};
+ghost use Rattle.std.specs.Prelude.{[]};
 
-use crate::rows::Row;
+use crate::rows::{Done, Row, compare};
 use command_rows::sessions::ask;
 use sqlite::{Connection, MemStore};
 use std::alloc::{AllocError, Global};
-use std::io::{ErrorKind, Write};
-use std::process::Abort;
+use std::io::{ErrorKind, Read, Write};
 use std::{io, str};
 use worked_samples::{profile, record};
-use zeb_marc::Source;
+use zeb_marc::FromRead;
 use zeb_paths::{Paths, Shelf, Shelved};
 use zeb_program::{Output, Sink, run};
 use zeb_register::Layout;
 
 /// The status of a run in which something failed.
 pub const FAILED: u8 = 3;
-
-pub type Done = Result<(), AllocError>;
 
 /// A writer that takes a byte at a time, so many in all, and passes on so many times; then each call fails.
 #[derive(Drop)]
@@ -29,7 +26,7 @@ pub struct Narrow {
 }
 
 impl Narrow {
-    pub fn new(alloc: Global, room: usize, passes: usize) -> Narrow {
+    fn new(alloc: Global, room: usize, passes: usize) -> Narrow {
         Narrow {
             room,
             passes,
@@ -42,9 +39,9 @@ impl Narrow {
     }
 
     /// It has as much of a text as it takes.
-    pub fn has(&self, rt: &impl Abort, text: &str, place: &str) {
+    fn has(&self, text: &str) -> Done {
         let wanted = text.get(..self.room).unwrap_or(text);
-        assert_eq!(rt; self.text(), wanted, "{place}");
+        compare(*self.written.allocator(), self.text(), wanted)
     }
 }
 
@@ -83,6 +80,59 @@ pub type Takes = (usize, usize, usize);
 /// Outputs that take all.
 pub const OPEN: Takes = (usize::MAX, usize::MAX, usize::MAX);
 
+/// How an input ends: it says so, each read fails, or LF comes without end.
+#[derive(Clone, Copy)]
+pub enum End {
+    Told,
+    Failure,
+    Never,
+}
+
+/// An input of some bytes, of which at most so many are given at a time, before it ends.
+#[derive(Drop)]
+pub struct Input<'a> {
+    pub bytes: &'a [u8],
+    most: usize,
+    end: End,
+}
+
+impl<'a> Input<'a> {
+    pub fn new(bytes: &'a [u8], most: usize, end: End) -> Input<'a> {
+        Input { bytes, most, end }
+    }
+}
+
+impl Read for Input<'_> {
+    fn read(&mut self, buffer: &mut [u8]) -> io::Result<usize> {
+        if !self.bytes.is_empty() {
+            let count = self.bytes.len().min(buffer.len()).min(self.most);
+            let (now, later) = self.bytes.split_at(count);
+            buffer[..count].copy_from_slice(now);
+            self.bytes = later;
+            return Ok(count);
+        }
+        match self.end {
+            End::Told => return Ok(0),
+            End::Failure => return Err(io::Error::from(ErrorKind::TimedOut)),
+            End::Never => buffer.fill(b'\n'),
+        }
+        Ok(buffer.len())
+    }
+}
+
+/// Runs the program on a row's words and an input. No clause is stated here, so that a test holds no more than what is written.
+pub fn run_on<W: Output, V: Output, P: Paths>(
+    row: &Row,
+    input: &mut Input<'_>,
+    output: &mut Sink<W>,
+    faults: &mut Sink<V>,
+    paths: &mut P,
+) -> u8 {
+    let alloc = *row.words.allocator();
+    let mut input = FromRead::new(input);
+    run(alloc, &row.words, &mut input, output, faults, paths)
+}
+
 /// The outputs of a run, and its status.
 #[derive(Drop)]
 pub struct Ends {
@@ -92,37 +142,31 @@ pub struct Ends {
 }
 
 impl Ends {
-    /// Runs the program on a row's words and an input.
-    pub fn run<R: Source, P: Paths>(takes: Takes, row: &Row, input: &mut R, paths: &mut P) -> Ends
-        requires { R.has_failed input.old ≡ false }
-    {
-        let alloc = *row.words.allocator();
+    /// Outputs that take so much, to which nothing is written yet.
+    pub fn new(alloc: Global, takes: Takes) -> Ends {
         let (room, passes, fault_passes) = takes;
-        let mut output = Narrow::new(alloc, room, passes);
-        let mut faults = Narrow::new(alloc, room, fault_passes);
-        let status = run(
-            alloc,
-            &row.words,
-            input,
-            &mut Sink::new(&mut output),
-            &mut Sink::new(&mut faults),
-            paths,
-        );
         Ends {
-            output,
-            faults,
-            status,
+            output: Narrow::new(alloc, room, passes),
+            faults: Narrow::new(alloc, room, fault_passes),
+            status: 0,
         }
     }
 
+    /// Runs the program on a row's words and an input.
+    pub fn run<P: Paths>(takes: Takes, row: &Row, input: &mut Input<'_>, paths: &mut P) -> Ends {
+        let mut ends = Ends::new(*row.words.allocator(), takes);
+        let mut output = Sink::new(&mut ends.output);
+        let mut faults = Sink::new(&mut ends.faults);
+        ends.status = run_on(row, input, &mut output, &mut faults, paths);
+        ends
+    }
+
     /// The same over some files and a register of the layout `L` that holds Moby Dick.
-    pub fn run_loaded<R: Source, L: Layout>(
+    pub fn run_loaded<L: Layout>(
         takes: Takes,
         row: &Row,
-        input: &mut R,
-    ) -> Result<Ends, AllocError>
-        requires { R.has_failed input.old ≡ false }
-    {
+        input: &mut Input<'_>,
+    ) -> Result<Ends, AllocError> {
         let files = [
             filed("zebra.cfg", profile("books").as_bytes()),
             filed("a.mrc", record("moby")),
@@ -135,11 +179,13 @@ impl Ends {
     }
 
     /// What the row says was written, as far as it went in, and the status is its own, or `FAILED` where the run failed.
-    pub fn are(&self, rt: &impl Abort, row: &Row, has_failed: bool, place: &str) {
-        self.output.has(rt, &row.output, place);
-        self.faults.has(rt, &row.faults, place);
-        let status = if has_failed { FAILED } else { row.status };
-        assert_eq!(rt; self.status, status, "{place}");
+    pub fn are(&self, row: &Row, has_failed: bool) -> Done {
+        self.output.has(&row.output)?;
+        self.faults.has(&row.faults)?;
+        let wanted = if has_failed { FAILED } else { row.status };
+        let alloc = *row.words.allocator();
+        let found = self.status.to_string(alloc)?;
+        compare(alloc, &found, &wanted.to_string(alloc)?)
     }
 }
 
@@ -150,13 +196,11 @@ fn filed<'a>(path: &'a str, bytes: &'a [u8]) -> Shelved<'a> {
 
 /// A store in memory whose register, of the layout `L`, holds Moby Dick in the database `Default`.
 fn loaded<L: Layout>(alloc: Global) -> Result<Connection<MemStore>, AllocError> {
-    let mut store = Connection::open_in_memory(alloc)?;
-    for line in ["init", "update Default moby"] {
-        let (left, answer) = ask::<MemStore, L>(alloc, store, "either books", line);
-        store = left;
-        if answer.is_err() {
-            return Err(AllocError);
-        }
+    let new = Connection::open_in_memory(alloc)?;
+    let (begun, _) = ask::<MemStore, L>(alloc, new, "either books", "init");
+    let (store, answer) = ask::<MemStore, L>(alloc, begun, "either books", "update Default moby");
+    match answer {
+        Ok(_) => Ok(store),
+        Err(_) => Err(AllocError),
     }
-    Ok(store)
 }

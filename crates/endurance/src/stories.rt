@@ -1,10 +1,43 @@
 //! Commands that are accepted, and commands that are refused, over packed blocks and over leaves.
 
-use crate::telling::told;
+use crate::rows::Done;
+use command_rows::sessions::Stopped;
+use command_rows::stories::tell;
+use std::alloc::{AllocError, Global};
 use std::test::Fail;
 use zeb_engine::Limits;
 use zeb_leaves::Leaves;
 use zeb_packed::Blocks;
+use zeb_register::Layout;
+
+/// Adds a text with `ababab` in place of `<3 ab>`.
+fn expand(whole: &mut String, text: &str) -> Result<(), AllocError> {
+    let (before, _) = text.split_once('<').unwrap_or((text, ""));
+    whole.push_str(before)?;
+    for part in text.split('<').skip(1) {
+        let (times, behind) = part.split_once('>').unwrap_or((part, ""));
+        let (count, repeated) = times.split_once(' ').unwrap_or((times, ""));
+        for _ in 0..count.parse::<usize>().unwrap_or(0) {
+            whole.push_str(repeated)?;
+        }
+        whole.push_str(behind)?;
+    }
+    Ok(())
+}
+
+fn tell_once<L: Layout>(alloc: Global, story: &str) -> Done {
+    let mut whole = String::new(alloc);
+    expand(&mut whole, story)?;
+    tell::<L>(alloc, &whole)
+}
+
+/// Takes a new store through a story over a layout, again where memory was refused beside its commands: one request at most is refused in a run.
+pub fn told<L: Layout>(alloc: Global, story: &str) -> Result<(), Fail> {
+    match tell_once::<L>(alloc, story) {
+        Err(Stopped::Memory) => Ok(tell_once::<L>(alloc, story)?),
+        outcome => Ok(outcome?),
+    }
+}
 
 /// Each command. Then a plain register is made anew under another profile, upgraded, and made anew under the first profile.
 static ACCEPTED: &str = "\

@@ -1,7 +1,9 @@
 //! Words, and what is read of them.
 
-use std::alloc::{AllocError, AllocGlobal};
-use std::process::Abort;
+use crate::rows::{Done, compare, words_of};
+use command_rows::sessions::Stopped;
+use std::alloc::{AllocError, Global};
+use std::test::Fail;
 use zeb_words::{Usage, Words, read_words};
 
 /// Words with one space between, and what is read: the profile's file, the database and the command, or why there is none.
@@ -64,67 +66,53 @@ find --help -> help
 --version -> version
 -d Books --version find -> version"#;
 
-/// What the words of a line are read as.
-fn read(rt: &impl AllocGlobal, line: &str) -> Result<Words, Usage> {
-    let mut words = Vec::new(rt.alloc());
-    for word in line.split(' ') {
-        words
-            .push(String::from_str(rt.alloc(), word)?)
-            .map_err(|_error| Usage::Memory)?;
-    }
-    read_words(rt.alloc(), words.as_slice())
+fn words_line(alloc: Global, words: &Words) -> Result<String, AllocError> {
+    let (config, database) = (words.config.as_str(), words.database.as_str());
+    format!(in alloc; "{config} {database} {:?}", words.act)
 }
 
-/// The same as a text.
-fn shown(rt: &impl AllocGlobal, line: &str) -> Result<String, AllocError> {
-    match read(rt, line) {
-        Ok(words) => format!(in rt.alloc();
-            "{} {} {:?}",
-            words.config,
-            words.database.as_str(),
-            words.act
-        ),
-        Err(Usage::BadUsage(why)) => format!(in rt.alloc(); "bad usage: {why:?}"),
-        Err(Usage::Refused(text)) => refused(rt, text),
-        Err(Usage::Help(text)) => help_or_version(rt, text),
-        Err(Usage::Memory) => Err(AllocError),
+/// Where the parser's advice is in its text it is shown.
+fn usage_line(alloc: Global, usage: &Usage) -> Result<String, AllocError> {
+    match usage {
+        Usage::BadUsage(why) => format!(in alloc; "bad usage: {why:?}"),
+        Usage::Refused(text) if text.as_str().contains("tip:") => text.clone(),
+        Usage::Refused(_) => String::from_str(alloc, "refused"),
+        Usage::Help(text) => String::from_str(alloc, help_or_version(text.as_str())),
+        Usage::Memory => Err(AllocError),
     }
-}
-
-/// That it is refused, or the text itself where the parser's advice is in it.
-fn refused(rt: &impl AllocGlobal, text: String) -> Result<String, AllocError> {
-    if text.as_str().contains("tip:") {
-        return Ok(text);
-    }
-    String::from_str(rt.alloc(), "refused")
 }
 
 /// That it is help or the version, or else the text itself.
-fn help_or_version(rt: &impl AllocGlobal, text: String) -> Result<String, AllocError> {
-    if text.as_str() == "zebraidx 0.1.0\n" {
-        return String::from_str(rt.alloc(), "version");
+fn help_or_version(text: &str) -> &str {
+    if text == "zebraidx 0.1.0\n" {
+        return "version";
     }
-    if text.as_str().contains("Usage: ") {
-        return String::from_str(rt.alloc(), "help");
+    if text.contains("Usage: ") {
+        return "help";
     }
-    Ok(text)
+    text
 }
 
-/// A line is read as it says. One that is refused memory is read once more: so the test passes with any one allocation refused, and
-/// doesn't where want of memory is answered without need.
-fn is_read(rt: &(impl Abort + AllocGlobal), row: &str) {
+/// A line is read as it says.
+fn is_read(alloc: Global, row: &str) -> Done {
     let (line, wanted) = row.split_once(" -> ").unwrap_or((row, "an arrow"));
-    let mut text = shown(rt, line);
-    if text.is_err() {
-        text = shown(rt, line);
-    }
-    let text = text.expect(rt, "a text");
-    assert!(rt; text.as_str() == wanted, "{row}: {text}");
+    let words = words_of(alloc, line, ' ')?;
+    let text = match read_words(alloc, &words) {
+        Ok(words) => words_line(alloc, &words),
+        Err(usage) => usage_line(alloc, &usage),
+    };
+    compare(alloc, &text?, wanted)
 }
 
+/// One that is refused memory is read once more: so the test passes with any one allocation refused, and doesn't where want of memory is
+/// answered without need.
 #[test]
-fn each_line_is_read(rt: HostRuntime) {
+fn each_line_is_read(rt: HostRuntime) -> Result<(), Fail> {
     for row in ROWS.split('\n').filter(|row| !row.starts_with('#')) {
-        is_read(&rt, row);
+        match is_read(rt.alloc(), row) {
+            Err(Stopped::Memory) => is_read(rt.alloc(), row)?,
+            outcome => outcome?,
+        }
     }
+    Ok(())
 }
