@@ -17,3 +17,6 @@ pub mod Members
 pub mod MergedLists
 pub mod MovedLists
 pub mod CutLists
+pub mod CopiedTexts
+pub mod ShortParts
+pub mod Boundaries

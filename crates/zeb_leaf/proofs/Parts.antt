@@ -1,5 +1,5 @@
 -- Bytes tell what they begin with: bytes behind how many they are, and the parts of an entry.
-use Rattle.zeb_leaf.proofs.Cited.{◌≡◌, ◌≢◌, ℕ, ◌^◌, ◌<◌, List, [], ◌++◌, length, take, drop, refl, sym, ◌∙◌, ap, arith, Some, None, Ok, Err, append_assoc, length-append, take-append-drop, take-append_seam, drop-append_seam, Parts, AreSmall, Option, Result, MatchOption, OnOk, is_ok, cond, begins_none}
+use Rattle.zeb_leaf.proofs.Cited.{◌≡◌, ◌≢◌, ℕ, ◌^◌, ◌<◌, List, [], ◌++◌, length, take, drop, refl, sym, ◌∙◌, ap, arith, Ok, Err, append_assoc, length-append, take-append-drop, take-append_seam, drop-append_seam, Parts, AreSmall, Result, OnOk, is_ok, cond, begins_none}
 use Rattle.zeb_blocks.specs.Numbers.{uleb}
 use Rattle.zeb_blocks.proofs.Front.{same_number, same_behind}
 use Rattle.zeb_leaf.specs.Leaves.{counted}
@@ -91,8 +91,3 @@ pub counted_put : {T E : Type 0} (r : Result T E) (old mid new bytes : List ℕ)
 unfolding counted
 counted_put (Ok x) old mid new bytes is put = put ∙ ap (λ (b : List ℕ). b ++ bytes) is ∙ append_assoc old (uleb (length bytes)) bytes
 counted_put (Err e) old mid new bytes is put = tt
-
--- what holds of an option, from what holds of it
-pub option_weaker : {X P R : Type 0} {Q S : X → Type 0} (o : Option X) → (P → R) → ((x : X) → Q x → S x) → MatchOption o P Q → MatchOption o R S
-option_weaker None none some holds = none holds
-option_weaker (Some x) none some holds = some x holds

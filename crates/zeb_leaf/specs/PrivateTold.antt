@@ -8,12 +8,13 @@ use Rattle.zeb_blocks.specs.Numbers.{uleb}
 use Rattle.zeb_leaf.specs.Spans.{IsInSpan, key_cmp}
 use Rattle.zeb_leaf.specs.Answers.{entry_of}
 use Rattle.zeb_leaf.specs.Leaves.{counted, shared_of}
-use Rattle.zeb_leaf.specs.Walks.{Place}
+use Rattle.zeb_leaf.specs.Walks.{Place, Steps, Walk}
 use Rattle.zeb_leaf.specs.declared.entries.Entry.{Entry}
 use Rattle.zeb_leaf.specs.declared.entries.Held.{Held}
 use Rattle.zeb_leaf.specs.declared.spans.Side.{Side}
 use Rattle.zeb_leaf.specs.declared.spans.Side.TheVariants.{Below, Near, Past}
 use Rattle.zeb_leaf.specs.declared.telling.Told.{Told}
+use Rattle.zeb_leaf.specs.declared.walking.Step.{Step}
 
 -- the parts of an entry
 pub record Parts : Type 0 where
@@ -59,6 +60,10 @@ pub record Fit (place : Place) (p : Parts) : Type 0 where
 -- the entry that they tell behind a term
 abbrev pub entry_told : List ℕ → Parts → Entry
 entry_told before p = record { term = take p.shared before ++ p.suffix; block = p.block; records = p.records; bytes = p.bytes }
+
+-- a step of a walk over an entry, whose term shares so many bytes with the one before it
+abbrev pub StepsBy : Walk → Step → Walk → Type 0
+StepsBy old step new = Steps old (entry_of new.place.term step.held) new × (step.shared ≡ shared_of old.place.term new.place.term)
 
 -- ---- entries that are chosen
 

@@ -11,6 +11,7 @@ mod parting;
 mod reading;
 mod spans;
 mod telling;
+mod texts;
 mod walking;
 mod writing;
 

@@ -1,20 +1,20 @@
 //! A walk over a leaf, entry by entry.
-ghost use Rattle.std.specs.Prelude.{◌≡◌, ◌≤◌, ◌++◌, ◌↔◌, [], IsTrue, IsUtf8, OnErr, OnOk, MatchOption, length, take};
-ghost use Rattle.std.specs.Str.{IsCharBoundary};
+ghost use Rattle.std.specs.Prelude.{◌≡◌, ◌+◌, ◌^◌, ◌<◌, ◌≤◌, ◌++◌, ◌↔◌, [], ℕ, IsTrue, IsUtf8, OnErr, OnOk, MatchOption, length, take};
+ghost use Rattle.std.specs.Str.{IsAscii, IsCharBoundary};
 ghost use Rattle.zeb_leaf.specs.Answers.{Answers, entry_of};
-ghost use Rattle.zeb_leaf.specs.Leaves.{shared_of};
+ghost use Rattle.zeb_leaf.specs.PrivateTold.{AreSmall, Fit, StepsBy, parts_bytes, parts_told};
 ghost use Rattle.zeb_leaf.specs.Walks.{Steps, IsStuck, first_place};
 
 use crate::entries::{Held, LeafFault};
 use crate::telling::Told;
+use crate::texts::Text;
 use std::alloc::{AllocError, Global};
 use std::marker::Model;
-use std::mem;
 
 /// A reader of a leaf: contracts see the place that it came to, and the bytes that are left.
 #[derive(Debug, Drop)]
 pub struct LeafReader<'a> {
-    term: Vec<u8>,
+    term: Text,
     least: u64,
     left: &'a [u8],
     /// Where a term is put together that shares a part of a character: only once it is known to be text, it takes the place of the one before it.
@@ -28,11 +28,11 @@ impl<'a> Model for LeafReader<'a> {
     ghost Value = { Walk };
 
     ghost view = { λ r. record {
-      place = record { term = r.term.items; least = r.least };
+      place = record { term = r.term; least = r.least };
       left = r.left.now;
     } };
 
-    ghost invariant = { λ r. IsUtf8 r.term.items };
+    ghost invariant = { λ r. IsUtf8 r.term };
 }
 
 /// An entry that a walk came over.
@@ -52,9 +52,10 @@ fn set_joined(bytes: &mut Vec<u8>, front: &[u8], back: &[u8]) -> Result<(), Allo
     bytes.extend_from_slice(back)
 }
 
-/// Whether all bytes are those of ASCII, which is UTF-8.
+/// Whether all bytes are those of ASCII. Few bytes are told soonest one by one.
+#[inline(always)]
 fn is_ascii(bytes: &[u8]) -> bool
-    ensures { IsTrue result → IsUtf8 bytes.now }
+    ensures { IsTrue result → IsAscii bytes.now }
 {
     for byte in bytes {
         if *byte >= 0x80 {
@@ -64,11 +65,11 @@ fn is_ascii(bytes: &[u8]) -> bool
     true
 }
 
-/// Whether bytes are UTF-8. The few bytes that most terms have of their own are ASCII, and that is seen soonest one by one.
+/// Whether bytes are UTF-8.
 fn is_text(bytes: &[u8]) -> bool
     ensures { IsTrue result ↔ IsUtf8 bytes.now }
 {
-    is_ascii(bytes) || str::from_utf8(bytes).is_ok()
+    str::from_utf8(bytes).is_ok()
 }
 
 /// Whether no byte within a character stands at this place.
@@ -82,71 +83,68 @@ fn is_between_characters(bytes: &[u8], place: usize) -> bool
     }
 }
 
-/// Cuts bytes at the place, and puts others behind. Where memory ran out, they stay as they were.
-fn set_behind(bytes: &mut Vec<u8>, place: usize, back: &[u8]) -> Result<(), AllocError>
-    ensures ok { OnOk result (bytes.new.items ≡ take place bytes.old.items ++ back.now) }
-    ensures err { OnErr result (bytes.new.items ≡ bytes.old.items) }
-{
-    bytes.reserve(back.len())?;
-    bytes.truncate(place);
-    bytes.extend_from_slice(back)
-}
-
 /// Makes a text another one, which shares so many bytes at its front: it is put together in other bytes first. `Malformed` just where
-/// that is no text. At a refusal the text stays. Few terms need it, so it isn't part of a walk's loop.
-#[inline(never)]
+/// that is no text. At a refusal the text stays.
 fn set_tried(
-    text: &mut Vec<u8>,
+    text: &mut Text,
     tried: &mut Vec<u8>,
     shared: usize,
     suffix: &[u8],
 ) -> Result<(), LeafFault>
-    requires { shared ≤ length text.old.items }
-    ensures told { Answers (¬ IsUtf8 (take shared text.old.items ++ suffix.now))
-        (λ _. (text.new.items ≡ take shared text.old.items ++ suffix.now)
-        × IsUtf8 text.new.items) result }
-    ensures stays { OnErr result (text.new.items ≡ text.old.items) }
+    requires shared { shared ≤ length text.old }
+    requires fits { shared + length suffix.now < 2 ^ 64 }
+    ensures told { Answers (¬ IsUtf8 (take shared text.old ++ suffix.now))
+        (λ _. (text.new ≡ take shared text.old ++ suffix.now) × IsUtf8 text.new) result }
+    ensures stays { OnErr result (text.new ≡ text.old) }
 {
     let (front, _) = text.as_slice().split_at(shared);
     set_joined(tried, front, suffix)?;
     if !is_text(tried.as_slice()) {
         return Err(LeafFault::Malformed);
     }
-    mem::swap(text, tried);
+    text.set_behind(shared, suffix)?;
     Ok(())
 }
 
-/// Whether a text that shares so many bytes with this one, and has these behind them, is this one.
-fn is_same(text: &[u8], shared: usize, suffix: &[u8]) -> bool
-    ensures { IsTrue result → take shared text.now ++ suffix.now ≡ text.now }
-{
-    suffix.is_empty() && shared == text.len()
-}
-
 /// Makes a text another one, which shares so many bytes at its front. `Malformed` just where that is no text. At a refusal the text stays;
-/// what is tried stands in other bytes.
-fn set_text(
-    text: &mut Vec<u8>,
+/// what is tried stands in other bytes. Few terms need it, so it isn't part of a walk's loop.
+#[inline(never)]
+fn set_any(
+    text: &mut Text,
     tried: &mut Vec<u8>,
     shared: usize,
     suffix: &[u8],
 ) -> Result<(), LeafFault>
-    requires { (shared ≤ length text.old.items) × IsUtf8 text.old.items }
-    ensures told { Answers (¬ IsUtf8 (take shared text.old.items ++ suffix.now))
-        (λ _. (text.new.items ≡ take shared text.old.items ++ suffix.now)
-        × IsUtf8 text.new.items) result }
-    ensures stays { OnErr result (text.new.items ≡ text.old.items) }
+    requires text { (shared ≤ length text.old) × IsUtf8 text.old }
+    requires fits { shared + length suffix.now < 2 ^ 64 }
+    ensures told { Answers (¬ IsUtf8 (take shared text.old ++ suffix.now))
+        (λ _. (text.new ≡ take shared text.old ++ suffix.now) × IsUtf8 text.new) result }
+    ensures stays { OnErr result (text.new ≡ text.old) }
 {
-    // The term of the entry before, in its next block.
-    if is_same(text.as_slice(), shared, suffix) {
-        return Ok(());
-    }
     // A text that is cut between characters, and a text behind it.
     if is_between_characters(text.as_slice(), shared) && is_text(suffix) {
-        set_behind(text, shared, suffix)?;
+        text.set_behind(shared, suffix)?;
         return Ok(());
     }
     set_tried(text, tried, shared, suffix)
+}
+
+/// Makes a text the one that is told behind it. `Malformed` just where that is no text. At a refusal the text stays.
+#[inline(always)]
+fn set_text(text: &mut Text, tried: &mut Vec<u8>, told: Told) -> Result<(), LeafFault>
+    requires text { IsUtf8 text.old }
+    requires fits { (least : ℕ) × Fit (record { term = text.old; least = least }) (parts_told told) }
+    ensures told { Answers (¬ IsUtf8 (take told.entry.shared text.old ++ told.entry.suffix.now))
+        (λ _. (text.new ≡ take told.entry.shared text.old ++ told.entry.suffix.now)
+        × IsUtf8 text.new) result }
+    ensures stays { OnErr result (text.new ≡ text.old) }
+{
+    // What stands at the cut is below a byte of ASCII, or nothing does: so it isn't within a character.
+    if is_ascii(told.suffix) {
+        text.set_front(told.shared, told.suffix, told.onward)?;
+        return Ok(());
+    }
+    set_any(text, tried, told.shared, told.suffix)
 }
 
 impl<'a> LeafReader<'a> {
@@ -155,7 +153,7 @@ impl<'a> LeafReader<'a> {
         ensures { result ≡ record { place = first_place; left = bytes.now } }
     {
         LeafReader {
-            term: Vec::new(alloc),
+            term: Text::new(alloc),
             least: 0,
             left: bytes,
             tried: Vec::new(alloc),
@@ -169,36 +167,63 @@ impl<'a> LeafReader<'a> {
         self.term.as_slice()
     }
 
-    /// The next entry, as of [`LeafReader::next`], and how many bytes its term shares with the one before it. A leaf has a hundred
-    /// entries: the hint saves a call for each.
+    /// Goes over an entry that these parts tell, if one may come here.
     #[inline(always)]
-    pub(crate) fn step(&mut self) -> Result<Option<Step<'a>>, LeafFault>
-        ensures answers { Answers (IsStuck self.old) (λ found. MatchOption found
-            ((self.old.left ≡ []) × (self.new ≡ self.old))
-            (λ step. Steps self.old (entry_of self.new.place.term step.held) self.new
-            × (step.shared ≡ shared_of self.old.place.term self.new.place.term))) result }
+    fn go_over(&mut self, told: Told<'a>, left: &'a [u8]) -> Result<Step<'a>, LeafFault>
+        requires small { AreSmall (parts_told told) }
+        requires spelled { self.old.left ≡ parts_bytes (parts_told told) ++ left.now }
+        ensures answers { Answers (IsStuck self.old)
+            (λ step. StepsBy self.old step self.new) result }
         ensures stays { OnErr result (self.new ≡ self.old) }
     {
-        if self.left.is_empty() {
-            return Ok(None);
-        }
-        let Some((told, left)) = Told::read(self.left) else {
-            return Err(LeafFault::Malformed);
-        };
         if !told.fits(self.term.as_slice(), self.least) {
             return Err(LeafFault::Malformed);
         }
-        set_text(&mut self.term, &mut self.tried, told.shared, told.suffix)?;
+        set_text(&mut self.term, &mut self.tried, told)?;
         self.least = told.block + 1;
         self.left = left;
-        Ok(Some(Step {
+        Ok(Step {
             shared: told.shared,
             held: Held {
                 block: told.block,
                 records: told.records,
                 bytes: told.bytes,
             },
-        }))
+        })
+    }
+
+    /// Goes over the entry that comes next, whatever its numbers are.
+    #[inline(always)]
+    fn go_over_any(&mut self) -> Result<Step<'a>, LeafFault>
+        requires { ¬ (self.old.left ≡ []) }
+        ensures answers { Answers (IsStuck self.old)
+            (λ step. StepsBy self.old step self.new) result }
+        ensures stays { OnErr result (self.new ≡ self.old) }
+    {
+        let Some((told, left)) = Told::read(self.left) else {
+            return Err(LeafFault::Malformed);
+        };
+        self.go_over(told, left)
+    }
+
+    /// The next entry, as of [`LeafReader::next`], and how many bytes its term shares with the one before it. A leaf has a hundred
+    /// entries: the hint saves a call for each.
+    #[inline(always)]
+    pub(crate) fn step(&mut self) -> Result<Option<Step<'a>>, LeafFault>
+        ensures answers { Answers (IsStuck self.old) (λ found. MatchOption found
+            ((self.old.left ≡ []) × (self.new ≡ self.old))
+            (λ step. StepsBy self.old step self.new)) result }
+        ensures stays { OnErr result (self.new ≡ self.old) }
+    {
+        if self.left.is_empty() {
+            return Ok(None);
+        }
+        if let Some((told, left)) = Told::read_short(self.left) {
+            let step = self.go_over(told, left)?;
+            return Ok(Some(step));
+        }
+        let step = self.go_over_any()?;
+        Ok(Some(step))
     }
 
     /// The next entry: its term is then [`LeafReader::term`]. `None` at the end of the bytes.

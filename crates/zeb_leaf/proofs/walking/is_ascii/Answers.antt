@@ -1,5 +1,5 @@
--- Where no byte is above those of ASCII, they are a text.
-use Rattle.zeb_leaf.proofs.Cited.{ℕ, ◌<◌, List, length, inl, inr, arith, cases_lt, get_or_past, IsUtf8-from_ascii, slice_index, IsAscii}
+-- Where no byte so far is above those of ASCII, none is.
+use Rattle.zeb_leaf.proofs.Cited.{ℕ, ◌<◌, List, length, inl, inr, arith, cases_lt, get_or_past, slice_index, IsAscii}
 use borrow.Author.Count.{below_more}
 use Rattle.zeb_leaf.proofs.walking.is_ascii.Goals as goal
 
@@ -13,4 +13,4 @@ pub loop-byte-preserved : goal.loop-byte-preserved
 loop-byte-preserved c = below_more (λ (k : ℕ). slice_index c.args.bytes.now k < 128) c.loop-byte.byte-index c.loop-byte.invariant c.if-byte-ge128.false
 
 pub returns : goal.returns
-returns c = λ yes. IsUtf8-from_ascii c.args.bytes.now (all_ascii c.args.bytes.now (λ k inside. c.loop-byte.invariant k (omega arith)))
+returns c = λ yes. all_ascii c.args.bytes.now (λ k inside. c.loop-byte.invariant k (omega arith))

@@ -1,13 +1,11 @@
--- A text cut between characters, with a text behind it, is a text; any other is tried as a whole.
-use Rattle.zeb_leaf.proofs.Cited.{◌++◌, ℕ, List, take, sym, subst, IsUtf8, IsUtf8-append, IsUtf8-take, IsCharBoundary}
+-- A text cut before what rises above ASCII, with ASCII behind it, is a text.
+use Rattle.zeb_leaf.proofs.Cited.{sym, subst, IsUtf8}
+use Rattle.zeb_leaf.proofs.Boundaries.{text_below}
 use Rattle.zeb_leaf.proofs.walking.set_text.Goals as goal
 
-joined : (text suffix : List ℕ) (shared : ℕ) → IsUtf8 text → IsCharBoundary text shared → IsUtf8 suffix → IsUtf8 (take shared text ++ suffix)
-joined text suffix shared is cut more = IsUtf8-append (take shared text) suffix (IsUtf8-take text shared is cut) more
-
-pub returns-then-is_text-clause-told : goal.returns-then-is_text-clause-told
-returns-then-is_text-clause-told c =
-    let text = c.args.text.now.items in
-    let put = c.in_ok-set_behind.ensures.ok in
-    let cut = subst (λ (t : List ℕ). IsCharBoundary t c.args.shared) c.as_slice-2.ensures.value (c.is_between_characters.ensures c.if-is_between_characters.true) in
-    (put, subst IsUtf8 (sym put) (joined text c.args.suffix.now c.args.shared c.requires.1 cut (c.is_text.ensures.0 c.if-is_text.true)))
+pub returns-then-is_ascii-clause-told : goal.returns-then-is_ascii-clause-told
+returns-then-is_ascii-clause-told c =
+    let put = c.in_ok-set_front.ensures.ok in
+    let fit = c.requires.fits.1 in
+    let told = c.args.told in
+    (put, subst IsUtf8 (sym put) (text_below c.args.text.now told.suffix.now told.shared c.requires.fits.0 told.block c.requires.text fit.shared fit.rises (c.is_ascii.ensures c.if-is_ascii.true)))
