@@ -6,6 +6,7 @@ pub mod CheckedTables
 pub mod ExpectedTables
 pub mod Ids
 pub mod ImageTables
+pub mod LookLemmas
 pub mod NameTexts
 pub mod OneText
 pub mod OrderedPostings

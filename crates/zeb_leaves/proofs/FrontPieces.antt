@@ -1,5 +1,5 @@
 -- The pieces at the front of all: so many as one leaf covers, or as begin a register.
-use Rattle.zeb_leaves.proofs.Cited.{Row, State, Has, ◌≡◌, ◌≢◌, ◌∙◌, ◌+◌, ◌≤◌, ◌∷◌, ℕ, ℤ, suc, List, [], Some, None, Option, length, drop, refl, sym, ap, subst, inl, inr, Less, Greater, arith, AllByRecursion, all_has, Trees, Entry, Covers, IsLeafIn, IsNextBehind, IsPartMalformed, IsStore, IsUncovered, Key, blocks_tree, key_in, leaf_key, own_key, ◌-◌, true, false, get_or, take, take-append-drop, take_rest, AreMerged, key_cmp, BlockChange, IfToldPutsEntries, IsEndAt, ArePieces, LackTurn, TurnAllEntries, block_of, piece_cmp, ArePiecesIn, EndsLeaf, IsCovered, ShowsKey, ShowsNone, End, ShowsOwn, packed_leaves, LacksLeave, PutsKeys, Changes, KeyChanges, RegisterOf}
+use Rattle.zeb_leaves.proofs.Cited.{Row, State, Has, ◌≡◌, ◌≢◌, ◌∙◌, ◌+◌, ◌≤◌, ◌∷◌, ℕ, ℤ, suc, List, [], Some, None, Option, length, drop, refl, sym, ap, subst, inl, inr, Less, Greater, arith, AllByRecursion, all_has, Trees, Entry, Covers, IsLeafIn, IsNextBehind, IsPartMalformed, IsStore, IsUncovered, Key, blocks_tree, key_in, leaf_key, own_key, ◌-◌, true, false, get_or, take, take-append-drop, take_rest, key_cmp, IfToldPutsEntries, IsEndAt, ArePieces, LackTurn, block_of, piece_cmp, ArePiecesIn, EndsLeaf, IsCovered, ShowsKey, ShowsNone, End, ShowsOwn, packed_leaves, LacksLeave, PutsKeys, Changes, KeyChanges, RegisterOf, OwnsEntries}
 use Rattle.std.specs.List.Sorted.{IsStrictlySortedBy}
 use Rattle.zeb_register.proofs.KeyOrder.{key_order}
 use Rattle.zeb_register.proofs.TermLists.{has_taken}
@@ -13,6 +13,7 @@ use Rattle.zeb_leaves.proofs.PiecesPut.{first_pieces_lack, leaf_pieces_lack, mal
 use Rattle.zeb_leaves.proofs.PiecesWritten.{first_written, leaf_written, store_distinct}
 use Rattle.zeb_leaves.proofs.SpanRuns.{below_or, up_not_less}
 use Rattle.zeb_leaves.specs.PrivateTurning.{CoversFirst, IsBelow, IsTextOf}
+use Rattle.zeb_leaves.specs.PrivateTurnedLeaves.{AreOfOne, LeafLacksTurn, TurnsInto, TurnsLeaf}
 
 -- ---- where what a leaf covers ends
 
@@ -97,9 +98,12 @@ module _ (at : RegisterOf) (p : KeyChanges) (ps : List KeyChanges) (more : ℕ) 
       malformed_lacks at.db.0 (p ∷ ps) trees p (inl refl) front.are.each.0
       (subst (λ (f : Row). IsPartMalformed (In f trees) p.key.now.term (block_of p.changes.now)) (front_so at.db.0 (one_key at) at.db.0 p.key.now refl here.0 here.1) bad)
 
-pub front_anywhere : (at : RegisterOf) (pieces : List KeyChanges) (more : ℕ) → AreAtFront at pieces more → ArePiecesIn (one_key at) (λ term block. Unit {0}) (take (1 + more) pieces)
+front_anywhere : (at : RegisterOf) (pieces : List KeyChanges) (more : ℕ) → AreAtFront at pieces more → ArePiecesIn (one_key at) (λ term block. Unit {0}) (take (1 + more) pieces)
 front_anywhere at [] more front = absurd (front.some refl)
 front_anywhere at (p ∷ ps) more front = front_in at p ps more front (λ term block. Unit {0}) (λ q here. tt)
+
+pub front_of_one : (at : RegisterOf) (pieces : List KeyChanges) (more : ℕ) → AreAtFront at pieces more → AreOfOne (take (1 + more) pieces)
+front_of_one at pieces more front = (one_key at, front_anywhere at pieces more front)
 
 -- what one of the first of them lacks, one of them lacks
 lacks_more : (db : ℤ) (n : ℕ) (pieces : List KeyChanges) (trees : Trees) → LacksLeave packed_leaves db (take n pieces) trees → LacksLeave packed_leaves db pieces trees
@@ -118,6 +122,9 @@ module _ (pieces : List KeyChanges) (some : pieces ≢ []) (p : KeyChanges) (is 
   module _ (term : List ℕ) (block : ℕ) (term_is : term ≡ p.key.now.term) (block_is : block ≡ block_of p.changes.now) where
     key_read : leaf_key term block ≡ piece_key p
     key_read i = leaf_key (term_is i) (block_is i)
+
+    pub covers_first : (Leaves : Row → Type 0) (leaf : Row) → CoversFirst Leaves leaf pieces → Covers Leaves (leaf_key term block) leaf
+    covers_first Leaves leaf covers = subst (λ (k : Row). Covers Leaves k leaf) (sym key_read) (subst (CoversFirst Leaves leaf) whole_is.1 covers)
 
     pub covers_read : (Leaves : Row → Type 0) (leaf : Row) → Covers Leaves (leaf_key term block) leaf → CoversFirst Leaves leaf pieces
     covers_read Leaves leaf covers = subst (CoversFirst Leaves leaf) (sym whole_is.1) (subst (λ (k : Row). Covers Leaves k leaf) key_read covers)
@@ -151,7 +158,7 @@ covering_there Leaves leaf [] some covers = absurd (some refl)
 covering_there Leaves leaf (p ∷ ps) some covers = covers.is
 
 -- and shows no entries, so that the first lacks leave
-pub hidden_lacks : (trees : Trees) (at : RegisterOf) (leaf : Row) (pieces : List KeyChanges) (more : ℕ) → AreAtFront at pieces more → CoversFirst (IsLeafIn trees at) leaf pieces → ShowsNone leaf → LacksLeave packed_leaves at.db.0 pieces trees
+hidden_lacks : (trees : Trees) (at : RegisterOf) (leaf : Row) (pieces : List KeyChanges) (more : ℕ) → AreAtFront at pieces more → CoversFirst (IsLeafIn trees at) leaf pieces → ShowsNone leaf → LacksLeave packed_leaves at.db.0 pieces trees
 hidden_lacks trees at leaf [] more front covers none = absurd (front.some refl)
 hidden_lacks trees at leaf (p ∷ ps) more front covers none = first_lacks at p ps more front trees (inl (inl (leaf, covers, none)))
 
@@ -175,30 +182,33 @@ module _ (s : State) (store : IsStore s) (at : RegisterOf) (pieces : List KeyCha
   key_shown leaf some covers hides = let it = (store_distinct s store at.db.0 (one_key at)).shaped leaf (covering_there Leaves leaf pieces some covers) in hides it.0 it.1 (ap own_key it.3)
 
   module _ (more : ℕ) (front : AreAtFront at pieces more) where
-    module _ (leaf : Row) (term : List ℕ) (block : ℕ) (end : End) (own : List Entry) (key_is : ShowsKey leaf term block) (shows : ShowsOwn term block end leaf own) (below : AllByRecursion (IsBelow end) (take more (drop 1 pieces)))
+    module _ (leaf : Row) (term : List ℕ) (block : ℕ) (end : End) (key_is : ShowsKey leaf term block) (below : AllByRecursion (IsBelow end) (take more (drop 1 pieces)))
         (ends : EndsLeaf Leaves leaf end) (covers : CoversFirst Leaves leaf pieces) where
       there : Leaves leaf
       there = covering_there Leaves leaf pieces front.some covers
 
-      pub leaf_front_lacks : LackTurn own (take (1 + more) pieces) → LacksLeave packed_leaves at.db.0 pieces s.now.trees
-      leaf_front_lacks lacks = lacks_more at.db.0 (1 + more) pieces s.now.trees
-          (leaf_pieces_lack s.now.trees at.db.0 (one_key at) leaf (take (1 + more) pieces) own (store_distinct s store at.db.0 (one_key at))
-          (front_covered s.now.trees at leaf term block end pieces more key_is front below ends covers) (owns_shown Leaves leaf there term block key_is end ends own shows) lacks)
+      owned : (own : List Entry) → ShowsOwn term block end leaf own → OwnsEntries Leaves leaf own
+      owned own shows = owns_shown Leaves leaf there term block key_is end ends own shows
 
-      pub leaf_front_put : (t : State) (changes : List BlockChange) (news : List Entry) → TurnAllEntries own (take (1 + more) pieces) changes → AreMerged changes own news → Changes blocks_tree (IfToldPutsEntries true at term block news) s t
+      covered : ArePiecesIn (one_key at) (IsCovered s.now.trees at.db.0 (one_key at) leaf) (take (1 + more) pieces)
+      covered = front_covered s.now.trees at leaf term block end pieces more key_is front below ends covers
+
+      pub leaf_front_lacks : LeafLacksTurn term block end leaf (take (1 + more) pieces) → LacksLeave packed_leaves at.db.0 pieces s.now.trees
+      leaf_front_lacks (inl none) = hidden_lacks s.now.trees at leaf pieces more front covers none
+      leaf_front_lacks (inr it) = lacks_more at.db.0 (1 + more) pieces s.now.trees
+          (leaf_pieces_lack s.now.trees at.db.0 (one_key at) leaf (take (1 + more) pieces) it.0 (store_distinct s store at.db.0 (one_key at)) covered (owned it.0 it.1) it.2)
+
+      pub leaf_front_put : (t : State) (news : List Entry) → TurnsLeaf term block end leaf (take (1 + more) pieces) news → Changes blocks_tree (IfToldPutsEntries true at term block news) s t
           → IsStore t × PutsKeys packed_leaves at.db.0 (take (1 + more) pieces) s.now.trees t.now.trees
-      leaf_front_put t changes news turned merged done = (
-        done.layout,
-        leaf_written at s t store done.layout (take (1 + more) pieces) changes own news turned merged term block leaf there key_is
-            (front_covered s.now.trees at leaf term block end pieces more key_is front below ends covers) (owns_shown Leaves leaf there term block key_is end ends own shows) done,
-      )
+      leaf_front_put t news it done =
+          (done.layout, leaf_written at s t store done.layout (take (1 + more) pieces) it.2.changes it.0 news it.2.turned it.2.merged term block leaf there key_is covered (owned it.0 it.1) done)
 
     module _ (none : (leaf : Row) → ¬ Leaves leaf) where
       pub first_front_lacks : LackTurn [] (take (1 + more) pieces) → LacksLeave packed_leaves at.db.0 pieces s.now.trees
       first_front_lacks lacks = lacks_more at.db.0 (1 + more) pieces s.now.trees
           (first_pieces_lack s.now.trees at.db.0 (one_key at) (take (1 + more) pieces) none (front_anywhere at pieces more front) lacks)
 
-      pub first_front_put : (t : State) (changes : List BlockChange) (news : List Entry) → TurnAllEntries [] (take (1 + more) pieces) changes → AreMerged changes [] news → Changes blocks_tree (IfToldPutsEntries false at [] 0 news) s t
+      pub first_front_put : (t : State) (news : List Entry) → TurnsInto [] (take (1 + more) pieces) news → Changes blocks_tree (IfToldPutsEntries false at [] 0 news) s t
           → IsStore t × PutsKeys packed_leaves at.db.0 (take (1 + more) pieces) s.now.trees t.now.trees
-      first_front_put t changes news turned merged done =
-          (done.layout, first_written at s t store done.layout (take (1 + more) pieces) changes [] news turned merged none (front_anywhere at pieces more front) refl done)
+      first_front_put t news it done =
+          (done.layout, first_written at s t store done.layout (take (1 + more) pieces) it.changes [] news it.turned it.merged none (front_anywhere at pieces more front) refl done)

@@ -56,6 +56,7 @@ pub mod PiecesWritten
 pub mod OwnedEntries
 pub mod FrontPieces
 pub mod PiecesLeft
+pub mod HandedOn
 pub mod TurningCalls
 pub mod OneKey
 pub mod CountedLeaves
@@ -65,6 +66,7 @@ pub mod WalkedHold
 pub mod GatheredPostings
 pub mod HeldWalk
 pub mod AgreeingEnds
+pub mod RowWalks
 pub mod WalkCalls
 pub mod OwnKeys
 pub mod ExpectedLeaves

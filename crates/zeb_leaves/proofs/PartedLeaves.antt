@@ -65,6 +65,39 @@ parts_from key leaf leaves entries parts from other here = elim (parts_keys key 
   | inr it ↦ subst (λ (k : Row). row_cmp key k ≢ Greater) (sym it.2) (from it.0 it.1)
 ]
 
+-- what the first of several leaves has, and what those behind it have
+record Parting (first leaf next : Row) (leaves : List Row) (entries : List Entry) : Type 0 where
+  own : List Entry
+  e : Entry
+  rest : List Entry
+  is : entries ≡ own ++ e ∷ rest
+  part : IsPart first leaf own
+  behind : ArePartedFrom (key_at e) next leaves (e ∷ rest)
+  whole_up : IsStrictlySortedBy entry_cmp (own ++ e ∷ rest)
+  rest_up : IsStrictlySortedBy entry_cmp (e ∷ rest)
+  of_entries : (d : Entry) → Has (own ++ e ∷ rest) d → Has entries d
+  over : (other : Row) → Has (next ∷ leaves) other → row_cmp (key_at e) (own_key other) ≢ Greater
+
+parting : (first leaf next : Row) (leaves : List Row) (entries : List Entry) → ArePartedFrom first leaf (next ∷ leaves) entries → IsStrictlySortedBy entry_cmp entries → Parting first leaf next leaves entries
+parting first leaf next leaves entries parts up =
+    let own = parts.0 in
+    let e = parts.1 in
+    let rest = parts.2 in
+    let whole_up = subst (λ (l : List Entry). IsStrictlySortedBy entry_cmp l) parts.3 up in
+    let rest_up = behind_rises own (e ∷ rest) whole_up in
+    record {
+      own = own;
+      e = e;
+      rest = rest;
+      is = parts.3;
+      part = parts.4;
+      behind = parts.5;
+      whole_up = whole_up;
+      rest_up = rest_up;
+      of_entries = λ d here. subst (λ (l : List Entry). Has l d) (sym parts.3) here;
+      over = parts_from (key_at e) next leaves (e ∷ rest) parts.5 (rest_from e rest rest_up);
+    }
+
 -- the one of them that is the greatest up to a key, and what it has of the key
 pub record Found (key : Row) (leaves : List Row) (entries : List Entry) : Type 0 where
   pub leaf : Row
@@ -88,68 +121,50 @@ find key first leaf [] entries parts up from low = record {
   from = λ e here. here;
 }
 find key first leaf (next ∷ leaves) entries parts up from low =
-    elim (below_or key (key_at e)) [
+    elim (below_or key (key_at p.e)) [
       | inl below ↦ here below
-      | inr high ↦ there high (find key (key_at e) next leaves (e ∷ rest) parts.5 rest_up (rest_from e rest rest_up) high)
+      | inr high ↦ there high (find key (key_at p.e) next leaves (p.e ∷ p.rest) p.behind p.rest_up (rest_from p.e p.rest p.rest_up) high)
     ]
   where
-    own : List Entry
-    own = parts.0
+    p : Parting first leaf next leaves entries
+    p = parting first leaf next leaves entries parts up
 
-    e : Entry
-    e = parts.1
-
-    rest : List Entry
-    rest = parts.2
-
-    whole_up : IsStrictlySortedBy entry_cmp (own ++ e ∷ rest)
-    whole_up = subst (λ (l : List Entry). IsStrictlySortedBy entry_cmp l) parts.3 up
-
-    rest_up : IsStrictlySortedBy entry_cmp (e ∷ rest)
-    rest_up = behind_rises own (e ∷ rest) whole_up
-
-    of_entries : (d : Entry) → Has (own ++ e ∷ rest) d → Has entries d
-    of_entries d here = subst (λ (l : List Entry). Has l d) (sym parts.3) here
-
-    here : row_cmp key (key_at e) ≡ Less → Found key (leaf ∷ next ∷ leaves) entries
+    here : row_cmp key (key_at p.e) ≡ Less → Found key (leaf ∷ next ∷ leaves) entries
     here below = record {
       leaf = leaf;
-      own = own;
+      own = p.own;
       is = inl refl;
-      up_to = subst (λ (k : Row). row_cmp k key ≢ Greater) (sym parts.4.own_is) low;
+      up_to = subst (λ (k : Row). row_cmp k key ≢ Greater) (sym p.part.own_is) low;
       greatest = λ other has up_to. elim has [
         | inl same ↦ subst (λ (r : Row). IsUpTo (own_key leaf) r) (sym same) (up_itself (own_key leaf))
-        | inr later ↦
-            let over = parts_from (key_at e) next leaves (e ∷ rest) parts.5 (rest_from e rest rest_up) other later in
-            absurd (not_up key (own_key other) (less_up key (key_at e) (own_key other) below over) up_to)
+        | inr later ↦ absurd (not_up key (own_key other) (less_up key (key_at p.e) (own_key other) below (p.over other later)) up_to)
       ];
-      shown = parts.4.shown;
-      has = λ d is has. elim (has_either own (e ∷ rest) d (subst (λ (l : List Entry). Has l d) parts.3 has)) [
+      shown = p.part.shown;
+      has = λ d is has. elim (has_either p.own (p.e ∷ p.rest) d (subst (λ (l : List Entry). Has l d) p.is has)) [
         | inl mine ↦ mine
-        | inr later ↦ absurd (not_up key (key_at e) below (subst (λ (k : Row). row_cmp (key_at e) k ≢ Greater) is (rest_from e rest rest_up d later)))
+        | inr later ↦ absurd (not_up key (key_at p.e) below (subst (λ (k : Row). row_cmp (key_at p.e) k ≢ Greater) is (rest_from p.e p.rest p.rest_up d later)))
       ];
-      from = λ d mine. of_entries d (has_left own (e ∷ rest) d mine);
+      from = λ d mine. p.of_entries d (has_left p.own (p.e ∷ p.rest) d mine);
     }
 
-    there : row_cmp (key_at e) key ≢ Greater → Found key (next ∷ leaves) (e ∷ rest) → Found key (leaf ∷ next ∷ leaves) entries
+    there : row_cmp (key_at p.e) key ≢ Greater → Found key (next ∷ leaves) (p.e ∷ p.rest) → Found key (leaf ∷ next ∷ leaves) entries
     there high it =
-        let over = parts_from (key_at e) next leaves (e ∷ rest) parts.5 (rest_from e rest rest_up) it.leaf it.is in
         record {
           leaf = it.leaf;
           own = it.own;
           is = inr it.is;
           up_to = it.up_to;
           greatest = λ other has up_to. elim has [
-            | inl same ↦ subst (λ (k : Row). row_cmp k (own_key it.leaf) ≢ Greater) (sym (ap own_key same ∙ parts.4.own_is))
-                (up_to_then first (key_at e) (own_key it.leaf) (from e (of_entries e (has_right own (e ∷ rest) e (inl refl)))) over)
+            | inl same ↦ subst (λ (k : Row). row_cmp k (own_key it.leaf) ≢ Greater) (sym (ap own_key same ∙ p.part.own_is))
+                (up_to_then first (key_at p.e) (own_key it.leaf) (from p.e (p.of_entries p.e (has_right p.own (p.e ∷ p.rest) p.e (inl refl)))) (p.over it.leaf it.is))
             | inr later ↦ it.greatest other later up_to
           ];
           shown = it.shown;
-          has = λ d is has. elim (has_either own (e ∷ rest) d (subst (λ (l : List Entry). Has l d) parts.3 has)) [
-            | inl mine ↦ absurd (not_up (key_at d) (key_at e) (less_key d e (apart own (e ∷ rest) whole_up d e mine (inl refl))) (subst (λ (k : Row). row_cmp (key_at e) k ≢ Greater) (sym is) high))
+          has = λ d is has. elim (has_either p.own (p.e ∷ p.rest) d (subst (λ (l : List Entry). Has l d) p.is has)) [
+            | inl mine ↦ absurd (not_up (key_at d) (key_at p.e) (less_key d p.e (apart p.own (p.e ∷ p.rest) p.whole_up d p.e mine (inl refl))) (subst (λ (k : Row). row_cmp (key_at p.e) k ≢ Greater) (sym is) high))
             | inr later ↦ it.has d is later
           ];
-          from = λ d mine. of_entries d (has_right own (e ∷ rest) d (it.from d mine));
+          from = λ d mine. p.of_entries d (has_right p.own (p.e ∷ p.rest) d (it.from d mine));
         }
 
 -- each of them covers its entries, as far as they go
@@ -173,56 +188,38 @@ owns first leaf [] entries parts up from one (inl same) = subst (Owns (leaf ∷ 
 }
 owns first leaf (next ∷ leaves) entries parts up from one has = elim has [
   | inl same ↦ subst (Owns (leaf ∷ next ∷ leaves) entries) (sym same) mine
-  | inr later ↦ theirs later (owns (key_at e) next leaves (e ∷ rest) parts.5 rest_up (rest_from e rest rest_up) one later)
+  | inr later ↦ theirs later (owns (key_at p.e) next leaves (p.e ∷ p.rest) p.behind p.rest_up (rest_from p.e p.rest p.rest_up) one later)
 ]
   where
-    own : List Entry
-    own = parts.0
-
-    e : Entry
-    e = parts.1
-
-    rest : List Entry
-    rest = parts.2
-
-    whole_up : IsStrictlySortedBy entry_cmp (own ++ e ∷ rest)
-    whole_up = subst (λ (l : List Entry). IsStrictlySortedBy entry_cmp l) parts.3 up
-
-    rest_up : IsStrictlySortedBy entry_cmp (e ∷ rest)
-    rest_up = behind_rises own (e ∷ rest) whole_up
-
-    of_entries : (d : Entry) → Has (own ++ e ∷ rest) d → Has entries d
-    of_entries d here = subst (λ (l : List Entry). Has l d) (sym parts.3) here
-
-    over : (other : Row) → Has (next ∷ leaves) other → row_cmp (key_at e) (own_key other) ≢ Greater
-    over = parts_from (key_at e) next leaves (e ∷ rest) parts.5 (rest_from e rest rest_up)
+    p : Parting first leaf next leaves entries
+    p = parting first leaf next leaves entries parts up
 
     mine : Owns (leaf ∷ next ∷ leaves) entries leaf
     mine = record {
       key = first;
-      own = own;
-      part = parts.4;
-      from = λ d here. of_entries d (has_left own (e ∷ rest) d here);
-      up_to = λ d here. subst (λ (k : Row). row_cmp k (key_at d) ≢ Greater) (sym parts.4.own_is) (from d (of_entries d (has_left own (e ∷ rest) d here)));
+      own = p.own;
+      part = p.part;
+      from = λ d here. p.of_entries d (has_left p.own (p.e ∷ p.rest) d here);
+      up_to = λ d here. subst (λ (k : Row). row_cmp k (key_at d) ≢ Greater) (sym p.part.own_is) (from d (p.of_entries d (has_left p.own (p.e ∷ p.rest) d here)));
       greatest = λ d here other has up_to. elim has [
         | inl same ↦ subst (λ (r : Row). IsUpTo (own_key leaf) r) (sym same) (up_itself (own_key leaf))
         | inr later ↦
-            let less = less_key d e (apart own (e ∷ rest) whole_up d e here (inl refl)) in
-            absurd (not_up (key_at d) (own_key other) (less_up (key_at d) (key_at e) (own_key other) less (over other later)) up_to)
+            let less = less_key d p.e (apart p.own (p.e ∷ p.rest) p.whole_up d p.e here (inl refl)) in
+            absurd (not_up (key_at d) (own_key other) (less_up (key_at d) (key_at p.e) (own_key other) less (p.over other later)) up_to)
       ];
     }
 
-    theirs : Has (next ∷ leaves) one → Owns (next ∷ leaves) (e ∷ rest) one → Owns (leaf ∷ next ∷ leaves) entries one
+    theirs : Has (next ∷ leaves) one → Owns (next ∷ leaves) (p.e ∷ p.rest) one → Owns (leaf ∷ next ∷ leaves) entries one
     theirs later it =
         record {
           key = it.key;
           own = it.own;
           part = it.part;
-          from = λ d here. of_entries d (has_right own (e ∷ rest) d (it.from d here));
+          from = λ d here. p.of_entries d (has_right p.own (p.e ∷ p.rest) d (it.from d here));
           up_to = it.up_to;
           greatest = λ d here other has up_to. elim has [
-            | inl same ↦ subst (λ (k : Row). row_cmp k (own_key one) ≢ Greater) (sym (ap own_key same ∙ parts.4.own_is))
-                (up_to_then first (key_at e) (own_key one) (from e (of_entries e (has_right own (e ∷ rest) e (inl refl)))) (over one later))
+            | inl same ↦ subst (λ (k : Row). row_cmp k (own_key one) ≢ Greater) (sym (ap own_key same ∙ p.part.own_is))
+                (up_to_then first (key_at p.e) (own_key one) (from p.e (p.of_entries p.e (has_right p.own (p.e ∷ p.rest) p.e (inl refl)))) (p.over one later))
             | inr also ↦ it.greatest d here other also up_to
           ];
         }

@@ -48,6 +48,17 @@ walk_further postings given row before leaf left rest so takes more =
       λ h. subst (λ (l : List Row). AreWalked None l postings) (sym joined) ((so (row ∷ more)).1 (one.1 h)),
     )
 
+-- no walk begins with these rows
+abbrev pub Breaks : List KeyPosting → List Row → Type 0
+Breaks postings given = (more : List Row) → ¬ AreWalked None (given ++ more) postings
+
+-- as where a row was read that isn't the next
+pub walk_breaks : (postings : List KeyPosting) (given : List Row) (row : Row) (before : Option Leaf) (left : List KeyPosting) → GoesOn postings given before left → ((leaf : Leaf) (rest : List KeyPosting) → ¬ TakesLeaf before row leaf left rest)
+    → Breaks postings (given ++ row ∷ [])
+walk_breaks postings given row before left so none more walked =
+    let it = (so (row ∷ more)).0 (subst (λ (l : List Row). AreWalked None l postings) (append_assoc given (row ∷ []) more) walked) in
+    none it.0 it.1 it.2
+
 -- ---- what the answer tells
 
 module _ {S : Type 0} (g : store.Ghosts S) (postings : List KeyPosting) (id : ℤ) (old : State) (is_store : IsStore old) (now : Held S) (same : IsUnchanged old (state g now)) where
@@ -67,17 +78,8 @@ module _ {S : Type 0} (g : store.Ghosts S) (postings : List KeyPosting) (id : �
         told_so (left ≡ []) (AreWalked None given postings) answer (whole.1, whole.0) is,
   )
 
-  -- a row was read that isn't the next
-  pub walk_broken : (given : List Row) (row : Row) (before : Option Leaf) (left : List KeyPosting) → HasGiven g text (Int id ∷ []) now (given ++ row ∷ []) → GoesOn postings given before left → ((leaf : Leaf) (rest : List KeyPosting) → ¬ TakesLeaf before row leaf left rest) → Tells false
-  walk_broken given row before left it so none =
-      let all = stopped g text (Int id ∷ []) _ _ (blocks_query (pos 0)).is now (given ++ row ∷ []) (store_same old (state g now) same.0.now_is is_store) same.0.is_open it in
-      let rows : List Row = (given ++ row ∷ []) ++ all.0 in (
-        rows,
-        listed (state g now) rows all.1,
-        (
-          λ h. absurd (let e : false ≡ true = h in cc),
-          λ walked.
-              let it = (so (row ∷ all.0)).0 (subst (λ (l : List Row). AreWalked None l postings) (append_assoc given (row ∷ []) all.0) walked) in
-              absurd (none it.0 it.1 it.2),
-        ),
-      )
+  -- no walk begins with those that were read
+  pub walk_broken : (given : List Row) → HasGiven g text (Int id ∷ []) now given → Breaks postings given → Tells false
+  walk_broken given it breaks =
+      let all = stopped g text (Int id ∷ []) _ _ (blocks_query (pos 0)).is now given (store_same old (state g now) same.0.now_is is_store) same.0.is_open it in
+      (given ++ all.0, listed (state g now) (given ++ all.0) all.1, (λ h. absurd (let e : false ≡ true = h in cc), λ walked. absurd (breaks all.0 walked)))

@@ -12,4 +12,5 @@ pub mod PrivateLeafWrites
 pub mod PrivatePieces
 pub mod PrivatePutPieces
 pub mod PrivateTurning
+pub mod PrivateTurnedLeaves
 pub mod PrivateAgreeing

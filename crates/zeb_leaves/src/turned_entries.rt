@@ -1,14 +1,17 @@
 //! What becomes of the entries of a leaf where pieces of a run are changed: each piece's entry is read, turned and spelled anew.
 
 ghost use Rattle.std.specs.Prelude.{◌≡◌, List, IfOk, MatchOption};
+ghost use Rattle.std.specs.Option.{option_map};
 ghost use Rattle.std.specs.List.{AllByRecursion};
 ghost use Rattle.std.specs.List.Sorted.{IsStrictlySortedBy};
 ghost use Rattle.sqlite_rules.specs.Lists.{Has};
 ghost use Rattle.zeb_blocks.specs.Blocks.{LiesIn};
-ghost use Rattle.zeb_leaf.specs.Order.{entry_cmp};
+ghost use Rattle.zeb_leaf.specs.Order.{IsEntry, entry_cmp};
 ghost use Rattle.zeb_leaf.specs.Spans.{key_cmp};
 ghost use Rattle.zeb_leaf.specs.declared.entries.Entry.{Entry};
+ghost use Rattle.zeb_leaf.specs.declared.spans.BlockKey.{BlockKey as KeyOfBlock};
 ghost use Rattle.zeb_leaves.specs.PrivatePieces.{HasPostings, IsPiece, LackTurn, LacksTurn, TurnAllEntries, TurnsEntries, block_of};
+ghost use Rattle.zeb_leaves.specs.PrivateTurnedLeaves.{AreOfOne, LeafLacksTurn, TurnsInto, TurnsLeaf};
 ghost use Rattle.zeb_register.specs.Answers.{Answers, IfRowDamaged};
 ghost use Rattle.zeb_register.specs.Formats.{packed_leaves};
 ghost use Rattle.zeb_register.specs.PrivatePackedRows.{IsInBlock};
@@ -16,12 +19,14 @@ ghost use Rattle.zeb_register.specs.PrivateUnits.{units_of};
 ghost use Rattle.zeb_register.specs.Readings.{IsAt, SayPart};
 ghost use Rattle.zeb_register.specs.UnitChanges.{IsStorableChange, KeyUnits, TurnsUnits};
 
+use crate::own_entries::own_entries;
 use crate::pieces::first_block;
 use crate::said_postings::push_said;
+use sqlite::Row;
 use std::alloc::{AllocError, Global};
 use std::cmp::Ordering;
 use zeb_blocks::{Posting, records_in, spell};
-use zeb_leaf::{BlockChange, BlockKey, Bytes, Entry, Held, NewBlock};
+use zeb_leaf::{BlockChange, BlockKey, Bytes, Entry, Held, NewBlock, merge};
 use zeb_register::for_layouts::postings_changed;
 use zeb_register::{KeyChanges, RecordChange, RowFault};
 
@@ -108,7 +113,7 @@ fn block_with(alloc: Global, block: u64, list: &[Posting]) -> Result<Option<NewB
 
 /// What becomes of the block of a piece in a leaf with these entries. `Damaged` only where they say nothing of it that can be changed so; beside
 /// that only memory can fail.
-pub(crate) fn piece_change(
+fn piece_change(
     alloc: Global,
     entries: &[Entry],
     piece: &KeyChanges<'_>,
@@ -134,7 +139,7 @@ pub(crate) fn piece_change(
 }
 
 /// What becomes of the blocks of several pieces, in their order. Refused as for one of them.
-pub(crate) fn piece_changes(
+fn piece_changes(
     alloc: Global,
     entries: &[Entry],
     pieces: &[KeyChanges<'_>],
@@ -150,4 +155,40 @@ pub(crate) fn piece_changes(
         changes.push(change)?;
     }
     Ok(changes)
+}
+
+/// The entries after several pieces, which are of one register. Refused as for one of them.
+pub(crate) fn entries_turned(
+    alloc: Global,
+    entries: Vec<Entry>,
+    pieces: &[KeyChanges<'_>],
+) -> Result<Vec<Entry>, RowFault>
+    requires pieces { AreOfOne pieces.now }
+    requires rising { IsStrictlySortedBy entry_cmp entries.items }
+    requires each { AllByRecursion IsEntry entries.items }
+    ensures { Answers (IfRowDamaged (LackTurn entries.items pieces.now))
+        (λ news. TurnsInto entries.items pieces.now news.items) result }
+{
+    let changes = piece_changes(alloc, &entries, pieces)?;
+    Ok(merge(alloc, entries, changes)?)
+}
+
+/// The entries of a leaf after several pieces, which are of one register: of the keys from its own on and below the end, where there is one.
+/// `Damaged` also where the leaf's bytes are no leaf's.
+pub(crate) fn leaf_entries_turned(
+    alloc: Global,
+    leaf: &Row,
+    own: BlockKey,
+    end: Option<BlockKey>,
+    pieces: &[KeyChanges<'_>],
+) -> Result<Vec<Entry>, RowFault>
+    requires { AreOfOne pieces.now }
+    ensures { Answers (IfRowDamaged (LeafLacksTurn own.entry.term.now own.entry.block
+        (option_map (λ (k : KeyOfBlock). (k.term.now, k.block)) end.entry) leaf.now pieces.now))
+        (λ news. TurnsLeaf own.entry.term.now own.entry.block
+        (option_map (λ (k : KeyOfBlock). (k.term.now, k.block)) end.entry) leaf.now pieces.now
+        news.items) result }
+{
+    let entries = own_entries(alloc, leaf, own, end)?;
+    entries_turned(alloc, entries, pieces)
 }

@@ -6,6 +6,7 @@ ghost use Rattle.std.specs.Option.{option_map};
 ghost use Rattle.sqlite.specs.Held.{state};
 ghost use Rattle.zeb_leaf.specs.declared.spans.BlockKey.{BlockKey as KeyOfBlock};
 ghost use Rattle.zeb_leaves.specs.PrivatePieces.{ArePieces, AreStorable};
+ghost use Rattle.zeb_leaves.specs.PrivateTurnedLeaves.{CoversFront};
 ghost use Rattle.zeb_leaves.specs.PrivateTurning.{BeginsFront, CountsChanges, CountsLeaves, CountsTurn};
 ghost use Rattle.zeb_leaves.specs.PrivateTurning.{IsBelow, IsOfRegister, IsTextOf, ReplacesFront, TurnsFront};
 ghost use Rattle.zeb_register.specs.Calls.{GoesOn};
@@ -16,15 +17,15 @@ ghost use Rattle.zeb_register.specs.Tallies.{WorksOnLeaves};
 ghost use Rattle.zeb_register.specs.UnitChanges.{ChangesKey, NumbersRise};
 
 use crate::inside::{end_at, key_behind, leaf_inside};
-use crate::own_entries::{is_below, own_entries};
+use crate::own_entries::is_below;
 use crate::pieces::{first_block, pieces_of};
 use crate::spans::own_key;
-use crate::turned_entries::piece_changes;
+use crate::turned_entries::{entries_turned, leaf_entries_turned};
 use crate::writes::{LeafKey, entries_put, text_of};
 use sqlite::{Alter, Row, Transaction};
 use std::alloc::Global;
 use zeb_keys::Key;
-use zeb_leaf::{BlockKey, Filling, merge};
+use zeb_leaf::{BlockKey, Filling};
 use zeb_register::for_layouts::{check_changes, counted, counts_are_numbers, nothing_inside};
 use zeb_register::{DatabaseId, KeyChanges, RecordChange, RegFault, RegisterOf, Work};
 
@@ -100,8 +101,7 @@ fn register_begun<S: Alter>(
     ensures further { IfOk result (λ count. (1 ≤ count) × (count ≤ length pieces.now)) }
 {
     let count = 1 + count_covered(&pieces[1..], at, None);
-    let changes = piece_changes(alloc, &[], &pieces[..count])?;
-    let entries = merge(alloc, Vec::new(alloc), changes)?;
+    let entries = entries_turned(alloc, Vec::new(alloc), &pieces[..count])?;
     let first = LeafKey { term: "", block: 0 };
     let written = entries_put(alloc, tx, at, first, false, &entries, Filling::Full)?;
     count_leaves(work, 0, written);
@@ -133,9 +133,7 @@ fn leaf_turned<S: Alter>(
 {
     let count = 1 + count_covered(&pieces[1..], at, end);
     let own = own_key(leaf)?;
-    let entries = own_entries(alloc, leaf, own, end)?;
-    let changes = piece_changes(alloc, &entries, &pieces[..count])?;
-    let merged = merge(alloc, entries, changes)?;
+    let entries = leaf_entries_turned(alloc, leaf, own, end, &pieces[..count])?;
     let key = LeafKey {
         term: text_of(own.term),
         block: own.block,
@@ -145,9 +143,37 @@ fn leaf_turned<S: Alter>(
     } else {
         Filling::Even
     };
-    let written = entries_put(alloc, tx, at, key, true, &merged, filling)?;
+    let written = entries_put(alloc, tx, at, key, true, &entries, filling)?;
     count_leaves(work, 1, written);
     Ok(count)
+}
+
+/// Puts the pieces at the front that a leaf covers, from that of the first on, into it; returns how many these are. Where what it covers ends is
+/// looked for.
+fn covering_turned<S: Alter>(
+    alloc: Global,
+    tx: &mut Transaction<'_, S>,
+    work: &mut Work,
+    at: RegisterOf,
+    leaf: &Row,
+    pieces: &[KeyChanges<'_>],
+) -> Result<usize, RegFault>
+    requires some { pieces.now ≢ [] }
+    requires pieces { ArePieces pieces.now }
+    requires first { AllByRecursion (IsTextOf at) (take 1 pieces.now) }
+    ensures same { tx.new.conn.ghost_name ≡ tx.old.conn.ghost_name }
+    ensures call { InsideOf S.Store tx.old.conn tx.new.conn result (λ _. GoesOn) }
+    ensures turned { CoversFront at leaf.now pieces.now (state S.Store tx.old.conn.now)
+        (state S.Store tx.new.conn.now) result }
+    ensures work { CountsChanges 1 (state S.Store tx.old.conn.now)
+        (state S.Store tx.new.conn.now) result work.old work.new }
+    ensures further { IfOk result (λ count. (1 ≤ count) × (count ≤ length pieces.now)) }
+{
+    let first = pieces[0];
+    let block = first_block(first.changes);
+    let behind = key_behind(alloc, tx, at, first.key.term.as_str(), block)?;
+    let end = end_at(behind.as_ref())?;
+    leaf_turned(alloc, tx, work, at, leaf, end, pieces)
 }
 
 /// Puts the pieces at the front that one leaf covers; returns how many these are.
@@ -182,9 +208,7 @@ fn front_turned<S: Alter>(
     let Some(leaf) = leaf_inside(alloc, tx, at, term, block)? else {
         return register_begun(alloc, tx, work, at, pieces);
     };
-    let behind = key_behind(alloc, tx, at, term, block)?;
-    let end = end_at(behind.as_ref())?;
-    leaf_turned(alloc, tx, work, at, &leaf, end, pieces)
+    covering_turned(alloc, tx, work, at, &leaf, pieces)
 }
 
 /// Puts all pieces, leaf by leaf.

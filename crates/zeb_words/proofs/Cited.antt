@@ -40,7 +40,7 @@ pub use Rattle.zeb_words.specs.Grammar.{Argument, HasOnly, IsNumberOr, Part, arg
 pub use Rattle.zeb_words.specs.Names.{Asks, NumberOption, choice_parts, NamesAct, NamesWords, Meaning, ToAdelete, ToBatch, ToCheck, ToCreate, ToDelete, ToDrop, ToDump, ToFind, ToInit, ToReindex, ToScan, ToShell, ToStat, ToUpdate, ToUpgrade, WordsNameOneCommand, meaning, NamesNone}
 pub use Rattle.zeb_words.specs.Parses.{IsNumberRead, text_or, IsChoiceRead, IsFlagRead, founding_app, program_app, changing_app, find_app, naming_app, scan_app, IsActRead, IsParsedAs, path_texts, AreBad, IsFlagText, IsPast, help_word, IsReadFrom, path_rule, number_rule, name_rule, and_sub}
 pub use Rattle.zeb_words.specs.Misuses.{IsMisuseOf, IsRefusedAs, TakesNoName}
-pub use Rattle.zeb_words.specs.PrivateParses.{IsBadAct, IsHelp, IsMisusedAct, IsMisusedName, IsOwn, IsUsageOf, Misuses}
+pub use Rattle.zeb_words.specs.PrivateParses.{IsHelp, IsMisusedAct, IsMisusedName, IsUsageOf, Misuses}
 pub use Rattle.zeb_words.specs.declared.misuses.Misuse.{Misuse}
 pub use Rattle.zeb_words.specs.declared.misuses.Misuse.TheVariants.{Name, PastNumber, ShowsElsewhere, NoCommand}
 pub use Rattle.zeb_words.specs.declared.words.Act.{Act}

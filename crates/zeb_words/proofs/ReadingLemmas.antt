@@ -1,7 +1,9 @@
 -- What is read of a match.
-use Rattle.zeb_words.proofs.Cited.{◌≡◌, ℕ, ◌<◌, ◌^◌, List, [], inl, inr, Option, Some, None, Result, Ok, Err, sym, subst, ap, ◌∙◌, Bool, true, false, codes, unwrap_or, Bor, IsNumeral, ParsesUnsigned, digits_value, without_leading_plus, ReadsOne, fault_of, Row, one_of, matches_of, subcommand_of, HasKind, kind_of, Error, DisplayHelp, DisplayVersion, OutOfMemory, Usage, BadUsage, Refused, Help, Memory, Misuse, Name, PastNumber, ShowsElsewhere, NoCommand, ◌≢◌, help_word, IsHelp, IsMisuseOf, IsMisusedAct, Misuses, AreBad, IsActRead, IsFlagRead, IsFlagText, IsNumberRead, IsRefusedAs, program_app, IsBadAct, IsOwn, IsUsageOf, option_map}
+use Rattle.zeb_words.proofs.Cited.{◌≡◌, ℕ, ◌<◌, ◌^◌, List, [], inl, inr, Option, Some, None, Result, Ok, Err, sym, subst, ap, ◌∙◌, Bool, true, false, codes, unwrap_or, Bor, IsNumeral, ParsesUnsigned, digits_value, without_leading_plus, ReadsOne, fault_of, Row, one_of, matches_of, subcommand_of, HasKind, kind_of, Error, DisplayHelp, DisplayVersion, OutOfMemory, Usage, BadUsage, Refused, Help, Memory, Misuse, Name, PastNumber, ShowsElsewhere, NoCommand, ◌≢◌, help_word, IsHelp, IsMisuseOf, IsMisusedAct, Misuses, AreBad, IsActRead, IsFlagRead, IsFlagText, IsNumberRead, IsRefusedAs, program_app, IsUsageOf, option_map, Act, Create, Drop, Update, TakesNoName, bytes_eq, rules}
 use Rattle.std.proofs.Common.{◌≤◌, ◌∷◌, arith, length, map, refl, slice_index_or, string_bytes}
-use Rattle.std.specs.Prelude.{IfErr, String}
+use Rattle.std.specs.Prelude.{String}
+use Rattle.zeb_image.specs.Names.{IsDatabaseName}
+use Rattle.zeb_words.specs.Misuses.{IsNoCommand}
 use Rattle.std.specs.declared.alloc.Global.{Global}
 
 pub text_read : (r : Option (Bor (List ℕ))) (other : Bor (List ℕ)) (t : Option (List ℕ)) → option_map (λ s. s.now) r ≡ t
@@ -37,24 +39,7 @@ flag_read given read flag same unset set clear = record { absent = λ e. unset (
 
 -- what words that are taken, and asked for something bad, are refused with
 abbrev pub OwnRefusal : List Row → Option (List ℕ × List Row) → Usage → Type 0
-OwnRefusal rows sub usage = IsOwn (AreBad rows sub) usage × Misuses (λ misuse. IsMisuseOf misuse rows sub) usage
-
-pub own_refused : (words : List (List ℕ)) (usage : Usage) → fault_of program_app words ≡ []
-    → IsOwn (AreBad (matches_of program_app words) (subcommand_of program_app words)) usage
-    → Misuses (λ misuse. IsMisuseOf misuse (matches_of program_app words) (subcommand_of program_app words)) usage → IsRefusedAs words usage
-own_refused words (BadUsage misuse) sound own why = (sound, own, why)
-own_refused words Memory sound own why = tt
-own_refused words _ sound own why = absurd own
-
--- two facts of a refusal
-pub both_errs : {T : Type 0} (r : Result T Usage) (P Q : Usage → Type 0) → IfErr r P → IfErr r Q → IfErr r (λ usage. P usage × Q usage)
-both_errs (Ok x) P Q first second = tt
-both_errs (Err usage) P Q first second = (first, second)
-
-pub own_cause : (cause other : Type 0) (usage : Usage) → (cause → other) → IsOwn cause usage → IsOwn other usage
-own_cause cause other (BadUsage misuse) so own = so own
-own_cause cause other Memory so own = tt
-own_cause cause other _ so own = absurd own
+OwnRefusal rows sub usage = Misuses (λ misuse. IsMisuseOf misuse rows sub) usage
 
 pub pair_parts : {A B : Type 0} (a b : A) (x y : B) → ◌≡◌ {A = Option (A × B)} (Some (a, x)) (Some (b, y)) → (a ≡ b) × (x ≡ y)
 pair_parts {A = A} {B = B} a b x y e =
@@ -65,14 +50,40 @@ pub same_flag : (read : Option (List ℕ)) (a b : Bool) → IsFlagText read → 
 same_flag read a b (inl e) one two = one.yes e ∙ sym (two.yes e)
 same_flag read a b (inr e) one two = one.no e ∙ sym (two.no e)
 
--- a bad act is a bad command
-pub bad_words : (rows : List Row) (sub : Option (List ℕ × List Row)) (name : List ℕ) (shows : Bool) (given : List Row) → ◌≡◌ {A = Option (List ℕ × List Row)} sub (Some (name, given))
-    → IsFlagRead (one_of (codes "shows") rows) shows → IsBadAct name shows given → AreBad rows sub
-bad_words rows sub name shows given is flagged (inl none) = inl (λ flag named r.
-    let same = pair_parts r.name name r.given given (sym r.is ∙ is) in
-    none named.act (subst (λ g. IsActRead name shows g named.act) same.1
-    (subst (λ n. IsActRead n shows r.given named.act) same.0 (subst (λ s. IsActRead r.name s r.given named.act) (same_flag (one_of (codes "shows") rows) r.shows shows flag r.flagged flagged) r.act))))
-bad_words rows sub name shows given is flagged (inr past) = inr (given, is ∙ ap (λ n. Some (n, given)) past.0, past.1)
+-- no act is read of a command whose name no database may have, nor of another one than `update` with `-s`, nor of no command
+not_named : (name : List ℕ) (shows : Bool) (rows : List Row) (act : Act) → TakesNoName name rows → IsActRead name shows rows act → ⊥
+not_named name shows rows (Create database) bad is = bad.1 (subst IsDatabaseName is.2 database.named)
+not_named name shows rows (Drop database) bad is = bad.1 (subst IsDatabaseName is.2 database.named)
+not_named name shows rows _ (inl create, _) is = (let clash : false ≡ true = ap (λ (w : List ℕ). bytes_eq w (codes "create")) (sym is.0 ∙ create) in cc)
+not_named name shows rows _ (inr drop, _) is = (let clash : false ≡ true = ap (λ (w : List ℕ). bytes_eq w (codes "drop")) (sym is.0 ∙ drop) in cc)
+
+not_elsewhere : (name : List ℕ) (shows : Bool) (rows : List Row) (act : Act) → shows ≡ true → name ≢ codes "update" → IsActRead name shows rows act → ⊥
+not_elsewhere name shows rows (Update paths flag) shown other is = other is.0
+not_elsewhere name shows rows _ shown other is = cc
+
+not_none : (name : List ℕ) (shows : Bool) (rows : List Row) (act : Act) → IsNoCommand name → IsActRead name shows rows act → ⊥
+not_none name shows rows _ lacks is = search rules
+
+-- of words with such a cause no command is read
+pub bad_words : (rows : List Row) (sub : Option (List ℕ × List Row)) (misuse : Misuse) → IsMisuseOf misuse rows sub → AreBad rows sub
+bad_words rows sub PastNumber bad = inr bad
+bad_words rows sub Name (inl bad) = inl (λ flag named r. bad (subst IsDatabaseName r.database named.database.named))
+bad_words rows sub Name (inr (word, given, is, bad)) = inl (λ flag named r.
+    let same = pair_parts r.name word r.given given (sym r.is ∙ is) in
+    not_named r.name r.shows r.given named.act (subst (λ w. TakesNoName w r.given) (sym same.0) (subst (TakesNoName word) (sym same.1) bad)) r.act)
+bad_words rows sub ShowsElsewhere (set, (word, given, is, other)) = inl (λ flag named r.
+    let same = pair_parts r.name word r.given given (sym r.is ∙ is) in
+    not_elsewhere r.name r.shows r.given named.act (same_flag (one_of (codes "shows") rows) r.shows true flag r.flagged set) (λ e. other (sym same.0 ∙ e)) r.act)
+bad_words rows sub NoCommand (inl none) = inl (λ flag named r. let is : ◌≡◌ {A = Option (List ℕ × List Row)} None (Some (r.name, r.given)) = sym none ∙ r.is in cc)
+bad_words rows sub NoCommand (inr (word, given, is, lacks)) = inl (λ flag named r.
+    let same = pair_parts r.name word r.given given (sym r.is ∙ is) in
+    not_none r.name r.shows r.given named.act (subst IsNoCommand (sym same.0) lacks) r.act)
+
+pub own_refused : (words : List (List ℕ)) (usage : Usage) → fault_of program_app words ≡ []
+    → OwnRefusal (matches_of program_app words) (subcommand_of program_app words) usage → IsRefusedAs words usage
+own_refused words (BadUsage misuse) sound why = (sound, bad_words (matches_of program_app words) (subcommand_of program_app words) misuse why, why)
+own_refused words Memory sound why = tt
+own_refused words _ sound why = absurd why
 
 -- the cause that is told of a command is one of the words
 pub misused_words : (rows : List Row) (sub : Option (List ℕ × List Row)) (name : List ℕ) (shows : Bool) (given : List Row) (misuse : Misuse) → ◌≡◌ {A = Option (List ℕ × List Row)} sub (Some (name, given))
@@ -84,9 +95,8 @@ misused_words rows sub name shows given NoCommand is flagged bad = inr (name, gi
 
 pub other_misuse : (P Q : Misuse → Type 0) (usage : Usage) → ((misuse : Misuse) → P misuse → Q misuse) → Misuses P usage → Misuses Q usage
 other_misuse P Q (BadUsage misuse) so h = so misuse h
-other_misuse P Q (Refused text) so h = tt
-other_misuse P Q (Help text) so h = tt
 other_misuse P Q Memory so h = tt
+other_misuse P Q _ so h = absurd h
 
 pub parser_refused : (words : List (List ℕ)) (error : Error) (usage : Usage) → words ≢ help_word → HasKind (fault_of program_app words) error → IsUsageOf error usage
     → IsRefusedAs words usage

@@ -1,40 +1,33 @@
 -- What only the contracts of private functions speak of; no public clause reaches it.
 -- Why words name no command, by the matches and the errors of the parser, `clap`.
-use Rattle.std.specs.Prelude.{◌≡◌, Bool, true, List, codes, ◌≢◌, ◌⊎◌, ⊤}
+use Rattle.std.specs.Prelude.{◌≡◌, Bool, true, List, codes, ◌≢◌, ⊤}
 use Rattle.zeb_image.specs.Names.{IsDatabaseName}
 use Rattle.clap.specs.Walk.{Row, Text}
 use Rattle.clap.specs.Values.{kind_of}
 use Rattle.clap.specs.declared.error.Error.{Error}
 use Rattle.clap.specs.declared.error.kind.ErrorKind.TheVariants.{OutOfMemory}
-use Rattle.zeb_words.specs.declared.words.Act.{Act}
 use Rattle.zeb_words.specs.declared.words.Usage.{Usage}
 use Rattle.zeb_words.specs.declared.words.Usage.TheVariants.{BadUsage, Refused, Help, Memory}
 use Rattle.zeb_words.specs.Misuses.{IsNoCommand, TakesNoName}
-use Rattle.zeb_words.specs.Parses.{IsActRead, IsPast, IsRequest}
+use Rattle.zeb_words.specs.Parses.{IsPast, IsRequest}
 use Rattle.zeb_words.specs.declared.misuses.Misuse.{Misuse}
 use Rattle.zeb_words.specs.declared.misuses.Misuse.TheVariants.{Name, PastNumber, ShowsElsewhere, NoCommand}
 
--- the refusal is the program's own, for this cause, and not the parser's
-abbrev pub IsOwn : Type 0 → Usage → Type 0
-IsOwn cause (BadUsage misuse) = cause
-IsOwn cause (Refused text) = ⊥
-IsOwn cause (Help text) = ⊥
-IsOwn cause Memory = ⊤
-
--- no act is what the command of this name comes to, or its position is past its number
-abbrev pub IsBadAct : Text → Bool → List Row → Type 0
-IsBadAct name shows rows = ((act : Act) → IsActRead name shows rows act → ⊥) ⊎ ((name ≡ codes "scan") × IsPast rows)
-
--- P is so of the cause that is told where the refusal is the program's own
+-- the refusal is the program's own, and not the parser's, for a cause of which P is so
 abbrev pub Misuses : (Misuse → Type 0) → Usage → Type 0
 Misuses P (BadUsage misuse) = P misuse
-Misuses P (Refused text) = ⊤
-Misuses P (Help text) = ⊤
+Misuses P (Refused text) = ⊥
+Misuses P (Help text) = ⊥
 Misuses P Memory = ⊤
 
 -- no database may have this name, and that is told
 abbrev pub IsMisusedName : Text → Misuse → Type 0
 IsMisusedName text misuse = (misuse ≡ Name) × (IsDatabaseName text → ⊥)
+
+-- the word is that of no command without arguments
+abbrev pub IsNoBareCommand : Text → Type 0
+IsNoBareCommand word =
+    (word ≢ codes "check") × (word ≢ codes "reindex") × (word ≢ codes "stat") × (word ≢ codes "dump") × (word ≢ codes "batch") × (word ≢ codes "shell")
 
 -- the command of this name is refused for this cause
 abbrev pub IsMisusedAct : Misuse → Text → Bool → List Row → Type 0

@@ -1,14 +1,13 @@
 //! What the parser's matches name.
 
-ghost use Rattle.std.specs.Prelude.{◌≡◌, IfErr, IfOk, false, [], codes, map, string_bytes, unwrap_or};
-ghost use Rattle.clap.specs.Walk.{all_of, one_of, rows_of};
+ghost use Rattle.std.specs.Prelude.{◌≡◌, ◌≢◌, IfErr, IfOk, IfNone, IfSome, List, false, [], codes, map, string_bytes, unwrap_or};
+ghost use Rattle.clap.specs.Walk.{Row, all_of, one_of, rows_of};
 ghost use Rattle.clap.specs.Simple.{subcommand_rows_of};
 ghost use Rattle.clap.specs.Matches.{found_of};
 ghost use Rattle.zeb_image.specs.NameOf.{name_bytes};
-ghost use Rattle.zeb_image.specs.Names.{IsDatabaseName};
 ghost use Rattle.zeb_words.specs.Misuses.{IsMisuseOf};
-ghost use Rattle.zeb_words.specs.Parses.{AreBad, IsChoiceRead, IsPast, IsActRead, IsNumberRead, IsReadFrom, path_texts, text_or};
-ghost use Rattle.zeb_words.specs.PrivateParses.{IsBadAct, IsMisusedAct, IsMisusedName, IsOwn, Misuses};
+ghost use Rattle.zeb_words.specs.Parses.{IsChoiceRead, IsPast, IsActRead, IsNumberRead, IsReadFrom, path_texts, text_or};
+ghost use Rattle.zeb_words.specs.PrivateParses.{IsMisusedAct, IsMisusedName, IsNoBareCommand, Misuses};
 ghost use Rattle.zeb_words.specs.declared.misuses.Misuse.TheVariants.{PastNumber};
 
 use crate::misuses::Misuse;
@@ -27,8 +26,6 @@ const DATABASE: &str = "Default";
 pub(crate) fn words_of(alloc: Global, matches: &ArgMatches<'_>) -> Result<Words, Usage>
     ensures value { IfOk result (IsReadFrom (rows_of (found_of matches.now))
         (subcommand_rows_of matches.now)) }
-    ensures own { IfErr result (IsOwn (AreBad (rows_of (found_of matches.now))
-        (subcommand_rows_of matches.now))) }
     ensures why { IfErr result (Misuses (λ misuse. IsMisuseOf misuse
         (rows_of (found_of matches.now)) (subcommand_rows_of matches.now))) }
 {
@@ -49,33 +46,52 @@ pub(crate) fn words_of(alloc: Global, matches: &ArgMatches<'_>) -> Result<Words,
 /// What the command of this name is, with its arguments.
 fn act_of(alloc: Global, name: &str, shows: bool, given: &ArgMatches<'_>) -> Result<Act, Usage>
     ensures value { IfOk result (IsActRead name.now shows (rows_of (found_of given.now))) }
-    ensures own { IfErr result (IsOwn (IsBadAct name.now shows (rows_of (found_of given.now)))) }
     ensures why { IfErr result (Misuses (λ misuse. IsMisusedAct misuse name.now shows
         (rows_of (found_of given.now)))) }
 {
-    if shows && name != "update" {
-        return Err(Usage::BadUsage(Misuse::ShowsElsewhere));
-    }
     match name {
-        "init" => Ok(Act::Init(choice_of(given))),
-        "create" => Ok(Act::Create(named(given)?)),
-        "drop" => Ok(Act::Drop(named(given)?)),
         "update" => Ok(Act::Update {
             paths: paths_of(alloc, given)?,
             shows,
         }),
+        _ if shows => Err(Usage::BadUsage(Misuse::ShowsElsewhere)),
+        _ => other_act(alloc, name, given),
+    }
+}
+
+/// What another command than `update` is, with its arguments.
+fn other_act(alloc: Global, name: &str, given: &ArgMatches<'_>) -> Result<Act, Usage>
+    requires { name.now ≢ codes "update" }
+    ensures value { IfOk result (IsActRead name.now false (rows_of (found_of given.now))) }
+    ensures why { IfErr result (Misuses (λ misuse. IsMisusedAct misuse name.now false
+        (rows_of (found_of given.now)))) }
+{
+    match name {
+        "init" => Ok(Act::Init(choice_of(given))),
+        "create" => Ok(Act::Create(named(given)?)),
+        "drop" => Ok(Act::Drop(named(given)?)),
         "delete" => Ok(Act::Delete(paths_of(alloc, given)?)),
         "adelete" => Ok(Act::Adelete(paths_of(alloc, given)?)),
-        "stat" => Ok(Act::Stat),
-        "dump" => Ok(Act::Dump),
-        "check" => Ok(Act::Check),
-        "reindex" => Ok(Act::Reindex),
         "upgrade" => Ok(Act::Upgrade(choice_of(given))),
         "find" => found(alloc, given),
         "scan" => scanned(alloc, given),
-        "batch" => Ok(Act::Batch),
-        "shell" => Ok(Act::Shell),
-        _ => Err(Usage::BadUsage(Misuse::NoCommand)),
+        _ => bare_act(name).ok_or(Usage::BadUsage(Misuse::NoCommand)),
+    }
+}
+
+/// The command of this name that has no arguments, if there is one.
+fn bare_act(name: &str) -> Option<Act>
+    ensures value { IfSome result (λ act. (rows : List Row) → IsActRead name.now false rows act) }
+    ensures none { IfNone result (IsNoBareCommand name.now) }
+{
+    match name {
+        "stat" => Some(Act::Stat),
+        "dump" => Some(Act::Dump),
+        "check" => Some(Act::Check),
+        "reindex" => Some(Act::Reindex),
+        "batch" => Some(Act::Batch),
+        "shell" => Some(Act::Shell),
+        _ => None,
     }
 }
 
@@ -106,7 +122,6 @@ fn number_of(given: &ArgMatches<'_>, name: &str, other: u32) -> u32
 /// The name that the text is.
 fn name_of(text: &str) -> Result<DbName, Usage>
     ensures value { IfOk result (λ name. name_bytes name ≡ text.now) }
-    ensures own { IfErr result (IsOwn (IsDatabaseName text.now → ⊥)) }
     ensures why { IfErr result (Misuses (IsMisusedName text.now)) }
 {
     DbName::read(text).ok_or(Usage::BadUsage(Misuse::Name))
@@ -116,8 +131,6 @@ fn name_of(text: &str) -> Result<DbName, Usage>
 fn named(given: &ArgMatches<'_>) -> Result<DbName, Usage>
     ensures value { IfOk result (λ name. name_bytes name ≡ text_or (codes "name") []
         (rows_of (found_of given.now))) }
-    ensures own { IfErr result (IsOwn (IsDatabaseName
-        (text_or (codes "name") [] (rows_of (found_of given.now))) → ⊥)) }
     ensures why { IfErr result (Misuses (IsMisusedName
         (text_or (codes "name") [] (rows_of (found_of given.now))))) }
 {
@@ -157,7 +170,7 @@ fn query_of(alloc: Global, given: &ArgMatches<'_>) -> Result<String, AllocError>
 /// The command `find`.
 fn found(alloc: Global, given: &ArgMatches<'_>) -> Result<Act, Usage>
     ensures value { IfOk result (IsActRead (codes "find") false (rows_of (found_of given.now))) }
-    ensures own { IfErr result (IsOwn ⊥) }
+    ensures why { IfErr result (Misuses (λ _. ⊥)) }
 {
     let first = number_of(given, "first", 1);
     let count = number_of(given, "count", 20);
@@ -172,7 +185,6 @@ fn found(alloc: Global, given: &ArgMatches<'_>) -> Result<Act, Usage>
 /// The command `scan`.
 fn scanned(alloc: Global, given: &ArgMatches<'_>) -> Result<Act, Usage>
     ensures value { IfOk result (IsActRead (codes "scan") false (rows_of (found_of given.now))) }
-    ensures own { IfErr result (IsOwn (IsPast (rows_of (found_of given.now)))) }
     ensures why { IfErr result (Misuses (λ misuse. (misuse ≡ PastNumber)
         × IsPast (rows_of (found_of given.now)))) }
 {

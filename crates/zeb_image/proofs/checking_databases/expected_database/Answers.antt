@@ -17,3 +17,8 @@ returns-in_default-clause-value g c clean store sound =
     let kept = sound_kept c.args.profile.now trees c.args.listed.id.0 (string_bytes c.args.listed.name) last sound c.in-Ok.records.items (c.in-Ok.ensures.value clean store) in
     let same : c.in-Ok.records.items ≡ c.deref.result.now = search rules in
     none (subst (CanKeepAll c.args.profile.now last) same kept)
+
+pub returns-clause-call : goal.returns-clause-call
+returns-clause-call g c =
+    let call = c.in-Ok.ensures.call in
+    record { idle = call.idle; ok = λ clean _. call.ok clean; same = call.same; crash = call.crash }

@@ -1,4 +1,5 @@
-use Rattle.zeb_image.proofs.Cited.{◌≡◌, ◌++◌, false, AllZip, into_iter_items, state, HasCleanDisk, IsUnchanged, Survives, ChangesNothing, IsStore, IsMadeOf}
+use Rattle.zeb_image.proofs.Cited.{◌≡◌, ◌++◌, AllZip, into_iter_items, state, HasCleanDisk, IsStore, IsMadeOf}
+use Rattle.zeb_image.proofs.LookLemmas.{HasLooked}
 use Rattle.zeb_image.proofs.checking_databases.expected_databases.Given as goal
 
 abbrev pub invariant-loop-listed : goal.invariant-loop-listed
@@ -6,10 +7,7 @@ invariant-loop-listed g l =
     let old = state g.S.Store l.fn.connection in
     let now = state g.S.Store l.connection in
     record {
-      idle : l.fn.connection.in_transaction ≡ false → l.connection.in_transaction ≡ false;
-      ok : HasCleanDisk now → IsUnchanged old now;
-      same : HasCleanDisk now → l.fn.connection.in_transaction ≡ false → ChangesNothing old now;
-      crash : Survives old now (λ _. ⊥);
+      looked : HasLooked old now;
       clean : HasCleanDisk now → HasCleanDisk (state g.S.Store l.initial.connection);
       items : into_iter_items l.initial.listed-iterator ≡ l.yielded ++ into_iter_items l.listed-iterator;
       made : HasCleanDisk now → IsStore old → AllZip (IsMadeOf l.profile old.now.trees) l.yielded l.expected.items;

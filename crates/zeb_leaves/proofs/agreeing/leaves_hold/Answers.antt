@@ -24,3 +24,6 @@ returns-clause-value g c clean store up =
     let keys = own_keys s store c.args.db in
     let are = subst (λ i. IsListOf (IsRest blocks_tree (Int i ∷ []) s.now.trees) read.0) (to_z-of_z {w = w64} {z = c.args.db} c.ranges.db) read.1 in
     told_so (AreWalked None read.0 postings) (HoldsPostings rests postings) b (walked_hold rests read.0 are keys postings up, held_walked rests read.0 are keys postings up) read.2) (c.leaves_walked.ensures.call.ok clean)
+
+pub returns-clause-refused : goal.returns-clause-refused
+returns-clause-refused g c = c.leaves_walked.ensures.refused

@@ -1,4 +1,4 @@
-use Rattle.zeb_leaves.proofs.Cited.{state, HasCleanDisk, ◌≡◌, ◌↔◌, ◌∙◌, sym, ap, subst, refl, inl, inr, arith, false, true, slice_get, EachHasLeaves, OthersAreEmpty, nothing_then, store_same, quiet_then, unchanged_then, column_is, key_posting_order, ListedDatabase, ExpectedDatabase}
+use Rattle.zeb_leaves.proofs.Cited.{state, HasCleanDisk, ◌≡◌, ◌↔◌, ◌∙◌, sym, ap, subst, refl, inl, inr, arith, false, true, slice_get, Bool, IsUnchanged, Ok, Reading, reading_then, EachHasLeaves, OthersAreEmpty, nothing_then, store_same, quiet_then, unchanged_then, column_is, key_posting_order, ListedDatabase, ExpectedDatabase}
 use Rattle.std.proofs.lemmas.Int.{ints}
 use Rattle.std.specs.Bool.{IsTrue}
 use Rattle.std.specs.List.Sorted.{IsStrictlySortedBy}
@@ -6,6 +6,8 @@ use Rattle.zeb_leaves.proofs.LeavesOfIds.{told_leaves}
 use Rattle.zeb_register.proofs.ContentLemmas.{has_at}
 use Rattle.zeb_register.proofs.ListsInStep.{at_or_below, got_in, got_is, got_same}
 use Rattle.zeb_register.proofs.YesNoAnswers.{first_told}
+use Rattle.sqlite.specs.declared.error.Error.{Error}
+use Rattle.zeb_leaves.proofs.HandedOn.{answered, failed_behind, failed_reading, failed_reason, reason_behind, shows_none}
 use Rattle.zeb_leaves.proofs.agreeing_tables.ids_agree.Goals as goal
 
 pub returns-then-not-branch-clause-value : goal.returns-then-not-branch-clause-value
@@ -82,3 +84,50 @@ returns-clause-value g c clean store up = (
   ),
   λ both. refl,
 )
+
+pub returns-in_err-others_are_empty-clause-call : goal.returns-in_err-others_are_empty-clause-call
+returns-in_err-others_are_empty-clause-call g c = failed_reading _ _ _ _ c.from_residual.result _ _ c.in_err-others_are_empty.ensures.call c.from_residual.ensures.1
+
+pub returns-in_err-others_are_empty-clause-value : goal.returns-in_err-others_are_empty-clause-value
+returns-in_err-others_are_empty-clause-value g c clean store up = shows_none _ c.from_residual.result _ c.from_residual.ensures.1
+
+pub returns-in_err-others_are_empty-clause-refused : goal.returns-in_err-others_are_empty-clause-refused
+returns-in_err-others_are_empty-clause-refused g c = failed_reason _ _ c.from_residual.result _ _ c.in_err-others_are_empty.ensures.call c.in_err-others_are_empty.ensures.refused c.from_residual.ensures.1
+
+pub returns-then-not-branch-clause-call : goal.returns-then-not-branch-clause-call
+returns-then-not-branch-clause-call g c = answered _ _ _ false c.in_ok-others_are_empty.ensures.call
+
+pub returns-then-not-branch-clause-refused : goal.returns-then-not-branch-clause-refused
+returns-then-not-branch-clause-refused g c clean store = tt
+
+pub returns-in_err-leaves_hold-clause-call : goal.returns-in_err-leaves_hold-clause-call
+returns-in_err-leaves_hold-clause-call g c =
+    let inv = c.loop-at.invariant in
+    let first : Reading {A = Bool} {E = Error} (state g.S.Store c.args.conn.now) (state g.S.Store c.loop-at.conn) (Ok true) (λ _. IsUnchanged) = record { idle = inv.idle; ok = inv.ok; same = inv.same; crash = inv.crash } in
+    failed_behind _ _ _ _ true _ c.from_residual-in_err-leaves_hold.result _ _ first c.in_err-leaves_hold.ensures.call c.from_residual-in_err-leaves_hold.ensures.1
+
+pub returns-in_err-leaves_hold-clause-value : goal.returns-in_err-leaves_hold-clause-value
+returns-in_err-leaves_hold-clause-value g c clean store up = shows_none _ c.from_residual-in_err-leaves_hold.result _ c.from_residual-in_err-leaves_hold.ensures.1
+
+pub returns-in_err-leaves_hold-clause-refused : goal.returns-in_err-leaves_hold-clause-refused
+returns-in_err-leaves_hold-clause-refused g c =
+    let inv = c.loop-at.invariant in
+    let first : Reading {A = Bool} {E = Error} (state g.S.Store c.args.conn.now) (state g.S.Store c.loop-at.conn) (Ok true) (λ _. IsUnchanged) = record { idle = inv.idle; ok = inv.ok; same = inv.same; crash = inv.crash } in
+    reason_behind _ _ c.from_residual-in_err-leaves_hold.result _ _ _ true first c.in_err-leaves_hold.ensures.call c.in_err-leaves_hold.ensures.refused c.from_residual-in_err-leaves_hold.ensures.1
+
+pub returns-then-not-branch-2-clause-call : goal.returns-then-not-branch-2-clause-call
+returns-then-not-branch-2-clause-call g c =
+    let inv = c.loop-at.invariant in
+    let first : Reading {A = Bool} {E = Error} (state g.S.Store c.args.conn.now) (state g.S.Store c.loop-at.conn) (Ok true) (λ _. IsUnchanged) = record { idle = inv.idle; ok = inv.ok; same = inv.same; crash = inv.crash } in
+    answered _ _ _ false (reading_then _ _ _ true _ first c.in_ok-leaves_hold.ensures.call)
+
+pub returns-then-not-branch-2-clause-refused : goal.returns-then-not-branch-2-clause-refused
+returns-then-not-branch-2-clause-refused g c clean store = tt
+
+pub returns-clause-call : goal.returns-clause-call
+returns-clause-call g c =
+    let inv = c.loop-at.invariant in
+    record { idle = inv.idle; ok = inv.ok; same = inv.same; crash = inv.crash }
+
+pub returns-clause-refused : goal.returns-clause-refused
+returns-clause-refused g c clean store = tt

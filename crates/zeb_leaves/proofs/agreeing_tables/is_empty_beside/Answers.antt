@@ -29,3 +29,9 @@ returns-clause-value g c clean store =
     let empty = λ (id : ℤ). HasLeaves id [] trees in
     IfOk-weaker c.leaves_hold.result _ _ (λ b is. told_so (empty (to_z w64 (of_z w64 c.args.id))) (IsEmptyBeside c.args.listed.now trees c.args.id) b
     (λ h _. subst empty same h, λ beside. subst empty (sym same) (beside (subst (λ (id : ℤ). ¬ IsListedId c.args.listed.now id) same (c.is_listed.ensures.other c.if-is_listed.false)))) is) (c.leaves_hold.ensures.value clean store tt)
+
+pub returns-then-is_listed-clause-refused : goal.returns-then-is_listed-clause-refused
+returns-then-is_listed-clause-refused g c clean store = tt
+
+pub returns-clause-refused : goal.returns-clause-refused
+returns-clause-refused g c = c.leaves_hold.ensures.refused

@@ -1,7 +1,8 @@
-use Rattle.zeb_leaves.proofs.Cited.{state, HasCleanDisk, ◌≡◌, ◌↔◌, ◌∙◌, List, length, sym, ap, subst, arith, Database, false, true, IfOk-weaker, IfOk, EachHasLeaves, OthersAreEmpty, PostingsRise, lists_agree, store_same, AreBeside, LacksPostingsAndDict, ListsAgree, packed_leaves, ListedDatabase, ExpectedDatabase}
+use Rattle.zeb_leaves.proofs.Cited.{state, HasCleanDisk, ◌≡◌, ◌↔◌, ◌∙◌, List, length, sym, ap, subst, arith, Database, false, true, IfOk-weaker, IfOk, EachHasLeaves, OthersAreEmpty, PostingsRise, failed_after, reading_then, lists_agree, store_same, AreBeside, LacksPostingsAndDict, ListsAgree, packed_leaves, ListedDatabase, ExpectedDatabase}
 use Rattle.std.specs.Bool.{IsTrue}
 use Rattle.zeb_leaves.proofs.ExpectedLeaves.{leaves_agree, leaves_expected}
 use Rattle.zeb_leaves.proofs.LeavesOfIds.{by_list, by_names}
+use Rattle.zeb_leaves.proofs.HandedOn.{answered, failed_reading, failed_reason, shows_none}
 use Rattle.zeb_leaves.proofs.agreeing_tables.leaves_agree.Goals as goal
 
 pub returns-in_default-clause-value : goal.returns-in_default-clause-value
@@ -31,3 +32,26 @@ returns-clause-value g c clean store ordered =
       λ h. let all = is.0 h in leaves_expected s0 store c.args.expected.now ordered listed found.0.0 found.1 (by_names s0 store databases listed found.0.0 found.0.1 all.0 all.1.0 all.1.1),
       λ are. let agree = leaves_agree s0 store c.args.expected.now ordered are in is.1 (agree.lacks, by_list s0 store databases listed found.0.0 found.0.1 agree),
     )) value
+
+pub returns-in_err-listed-clause-call : goal.returns-in_err-listed-clause-call
+returns-in_err-listed-clause-call g c = failed_reading _ _ _ _ c.from_residual.result _ _ c.in_err-listed.ensures.call c.from_residual.ensures.1
+
+pub returns-in_err-listed-clause-value : goal.returns-in_err-listed-clause-value
+returns-in_err-listed-clause-value g c clean store ordered = shows_none _ c.from_residual.result _ c.from_residual.ensures.1
+
+pub returns-in_err-listed-clause-refused : goal.returns-in_err-listed-clause-refused
+returns-in_err-listed-clause-refused g c = failed_reason _ _ c.from_residual.result _ _ c.in_err-listed.ensures.call c.in_err-listed.ensures.refused c.from_residual.ensures.1
+
+pub returns-in_default-clause-call : goal.returns-in_default-clause-call
+returns-in_default-clause-call g c = answered _ _ _ false c.in_ok-listed.ensures.call
+
+pub returns-in_default-clause-refused : goal.returns-in_default-clause-refused
+returns-in_default-clause-refused g c clean store = tt
+
+pub returns-clause-call : goal.returns-clause-call
+returns-clause-call g c = reading_then _ _ _ _ c.registers_agree.result c.in_ok-listed.ensures.call c.registers_agree.ensures.call
+
+pub returns-clause-refused : goal.returns-clause-refused
+returns-clause-refused g c =
+    let first = c.in_ok-listed.ensures.call in
+    failed_after _ _ _ c.registers_agree.result first.crash first.ok c.registers_agree.ensures.call.crash c.registers_agree.ensures.refused

@@ -3,6 +3,8 @@ use Rattle.std.proofs.lemmas.Int.{ints}
 use Rattle.zeb_leaves.proofs.LeavesOfIds.{next_there, others_empty, told_empty}
 use Rattle.zeb_leaves.proofs.OpenCalls.{open_then}
 use Rattle.zeb_leaves.proofs.ReachedIds.{IsReached, all_reached, first_reached, next_reached, none_next}
+use Rattle.sqlite.specs.declared.error.Error.{Error}
+use Rattle.zeb_leaves.proofs.HandedOn.{answered, failed_behind, failed_reading, failed_reason, reason_behind, shows_none}
 use Rattle.zeb_leaves.proofs.agreeing_tables.others_are_empty.Goals as goal
 
 pub returns-in_default-clause-value : goal.returns-in_default-clause-value
@@ -137,3 +139,55 @@ returns-in_err-next-clause-refused g c =
     let first : Reading {A = Bool} {E = RegFault} s0 s2 (Ok true) (λ _. IsUnchanged) = open_then s0 (state g.S.Store c.ids.conn) s2 true _ true (record { idle = inv.idle; ok = inv.ok; same = inv.same; crash = inv.crash }) c.in_ok-is_empty_beside.ensures.call in
     let reasoned : IsReasonedError s2 s3 c.from_residual-in_err-next.result = search rules in
     failed_after s0 s2 s3 c.from_residual-in_err-next.result first.crash first.ok c.next_in_blocks.ensures.call.crash reasoned
+
+pub returns-in_err-ends-clause-call : goal.returns-in_err-ends-clause-call
+returns-in_err-ends-clause-call g c = failed_reading _ _ _ _ c.from_residual.result _ _ c.in_err-ends.ensures.call c.from_residual.ensures.1
+
+pub returns-in_err-ends-clause-value : goal.returns-in_err-ends-clause-value
+returns-in_err-ends-clause-value g c clean store = shows_none _ c.from_residual.result _ c.from_residual.ensures.1
+
+pub returns-in_err-ends-clause-refused : goal.returns-in_err-ends-clause-refused
+returns-in_err-ends-clause-refused g c = failed_reason _ _ c.from_residual.result _ _ c.in_err-ends.ensures.call c.in_err-ends.ensures.refused c.from_residual.ensures.1
+
+pub returns-in_default-clause-call : goal.returns-in_default-clause-call
+returns-in_default-clause-call g c = answered _ _ _ true c.in_ok-ends.ensures.call
+
+pub returns-in_default-clause-refused : goal.returns-in_default-clause-refused
+returns-in_default-clause-refused g c clean store = tt
+
+pub returns-in_err-is_empty_beside-clause-call : goal.returns-in_err-is_empty_beside-clause-call
+returns-in_err-is_empty_beside-clause-call g c =
+    let inv = c.ids.invariant in
+    let s0 = state g.S.Store c.args.conn.now in
+    let so_far : Reading {A = Bool} {E = Error} s0 (state g.S.Store c.ids.conn) (Ok true) (λ _. IsUnchanged) = record { idle = inv.idle; ok = inv.ok; same = inv.same; crash = inv.crash } in
+    failed_behind _ s0 _ _ true _ c.from_residual-in_err-is_empty_beside.result _ _ so_far c.in_err-is_empty_beside.ensures.call c.from_residual-in_err-is_empty_beside.ensures.1
+
+pub returns-in_err-is_empty_beside-clause-value : goal.returns-in_err-is_empty_beside-clause-value
+returns-in_err-is_empty_beside-clause-value g c clean store = shows_none _ c.from_residual-in_err-is_empty_beside.result _ c.from_residual-in_err-is_empty_beside.ensures.1
+
+pub returns-in_err-is_empty_beside-clause-refused : goal.returns-in_err-is_empty_beside-clause-refused
+returns-in_err-is_empty_beside-clause-refused g c =
+    let inv = c.ids.invariant in
+    let s0 = state g.S.Store c.args.conn.now in
+    let so_far : Reading {A = Bool} {E = Error} s0 (state g.S.Store c.ids.conn) (Ok true) (λ _. IsUnchanged) = record { idle = inv.idle; ok = inv.ok; same = inv.same; crash = inv.crash } in
+    reason_behind _ _ c.from_residual-in_err-is_empty_beside.result _ _ _ true so_far c.in_err-is_empty_beside.ensures.call c.in_err-is_empty_beside.ensures.refused c.from_residual-in_err-is_empty_beside.ensures.1
+
+pub returns-then-not-branch-clause-refused : goal.returns-then-not-branch-clause-refused
+returns-then-not-branch-clause-refused g c clean store = tt
+
+pub returns-then-id-ends-clause-refused : goal.returns-then-id-ends-clause-refused
+returns-then-id-ends-clause-refused g c clean store = tt
+
+pub returns-in_default-2-clause-refused : goal.returns-in_default-2-clause-refused
+returns-in_default-2-clause-refused g c clean store = tt
+
+pub returns-in_err-next-clause-value : goal.returns-in_err-next-clause-value
+returns-in_err-next-clause-value g c clean store = shows_none _ c.from_residual-in_err-next.result _ c.from_residual-in_err-next.ensures.1
+
+pub returns-clause-call : goal.returns-clause-call
+returns-clause-call g c =
+    let inv = c.ids.invariant in
+    record { idle = inv.idle; ok = λ clean. tt; same = inv.same; crash = inv.crash }
+
+pub returns-clause-value : goal.returns-clause-value
+returns-clause-value g c clean store = tt

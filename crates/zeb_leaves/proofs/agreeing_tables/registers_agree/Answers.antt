@@ -1,6 +1,7 @@
-use Rattle.zeb_leaves.proofs.Cited.{state, HasCleanDisk, ◌≡◌, ◌↔◌, subst, arith, Database, false, true, IfOk-weaker, EachHasLeaves, OthersAreEmpty, reading_then, store_same, LacksPostingsAndDict}
+use Rattle.zeb_leaves.proofs.Cited.{state, HasCleanDisk, ◌≡◌, ◌↔◌, subst, arith, Database, false, true, IfOk-weaker, EachHasLeaves, OthersAreEmpty, failed_after, reading_then, store_same, LacksPostingsAndDict}
 use Rattle.std.specs.Bool.{IsTrue}
 use Rattle.zeb_register.proofs.YesNoAnswers.{both_told, first_told}
+use Rattle.zeb_leaves.proofs.HandedOn.{answered, failed_reading, failed_reason, shows_none}
 use Rattle.zeb_leaves.proofs.agreeing_tables.registers_agree.Goals as goal
 
 pub returns-then-not-branch-clause-value : goal.returns-then-not-branch-clause-value
@@ -24,3 +25,23 @@ returns-clause-value g c clean store up =
     IfOk-weaker c.ids_agree.result _ _ (λ b second. both_told lacks (OthersAreEmpty c.args.listed.now s0.now.trees × EachHasLeaves c.args.listed.now c.args.expected.now s0.now.trees) b
     (subst (λ t. IsTrue t ↔ lacks) yes' (c.in_ok-postings_and_dict_lack_rows.ensures.value clean1 store))
     (subst (λ (d : Database). IsTrue b ↔ (OthersAreEmpty c.args.listed.now d.trees × EachHasLeaves c.args.listed.now c.args.expected.now d.trees)) at second)) (c.ids_agree.ensures.value clean (store_same s0 s1 at store) up)
+
+pub returns-in_err-postings_and_dict_lack_rows-clause-call : goal.returns-in_err-postings_and_dict_lack_rows-clause-call
+returns-in_err-postings_and_dict_lack_rows-clause-call g c = failed_reading _ _ _ _ c.from_residual.result _ _ c.in_err-postings_and_dict_lack_rows.ensures.call c.from_residual.ensures.1
+
+pub returns-in_err-postings_and_dict_lack_rows-clause-value : goal.returns-in_err-postings_and_dict_lack_rows-clause-value
+returns-in_err-postings_and_dict_lack_rows-clause-value g c clean store up = shows_none _ c.from_residual.result _ c.from_residual.ensures.1
+
+pub returns-in_err-postings_and_dict_lack_rows-clause-refused : goal.returns-in_err-postings_and_dict_lack_rows-clause-refused
+returns-in_err-postings_and_dict_lack_rows-clause-refused g c = failed_reason _ _ c.from_residual.result _ _ c.in_err-postings_and_dict_lack_rows.ensures.call c.in_err-postings_and_dict_lack_rows.ensures.refused c.from_residual.ensures.1
+
+pub returns-then-not-branch-clause-call : goal.returns-then-not-branch-clause-call
+returns-then-not-branch-clause-call g c = answered _ _ _ false c.in_ok-postings_and_dict_lack_rows.ensures.call
+
+pub returns-then-not-branch-clause-refused : goal.returns-then-not-branch-clause-refused
+returns-then-not-branch-clause-refused g c clean store = tt
+
+pub returns-clause-refused : goal.returns-clause-refused
+returns-clause-refused g c =
+    let first = c.in_ok-postings_and_dict_lack_rows.ensures.call in
+    failed_after _ _ _ c.ids_agree.result first.crash first.ok c.ids_agree.ensures.call.crash c.ids_agree.ensures.refused

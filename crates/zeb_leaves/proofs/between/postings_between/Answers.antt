@@ -12,3 +12,15 @@ returns-then-comes_before-clause-units g c clean store =
 pub returns-then-comes_before-clause-turn : goal.returns-then-comes_before-clause-turn
 returns-then-comes_before-clause-turn g c clean store =
     none_in_turn (state g.S.Store c.args.conn.now) store c.args.at c.args.first.now c.args.last.now (sym c.comes_before.ensures ∙ c.if-comes_before.true) c.none_between.result c.none_between.ensures.none
+
+pub returns-then-comes_before-clause-call : goal.returns-then-comes_before-clause-call
+returns-then-comes_before-clause-call g c = c.none_between.ensures.call
+
+pub returns-clause-call : goal.returns-clause-call
+returns-clause-call g c = c.ordered_between.ensures.call
+
+pub returns-clause-units : goal.returns-clause-units
+returns-clause-units g c = c.ordered_between.ensures.units
+
+pub returns-clause-turn : goal.returns-clause-turn
+returns-clause-turn g c = c.ordered_between.ensures.turn

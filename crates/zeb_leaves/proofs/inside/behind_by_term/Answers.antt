@@ -2,6 +2,7 @@ use Rattle.zeb_leaves.proofs.Cited.{◌++◌, ◌∷◌, [], None, Some, HasClea
 use Rattle.zeb_leaves.proofs.InsideCalls.{inside_then}
 use Rattle.zeb_leaves.proofs.KeysTold.{leaf_told, none_told, told_so}
 use Rattle.zeb_leaves.proofs.LeavesBehind.{behind_above, behind_own}
+use Rattle.zeb_leaves.proofs.HandedOn.{answered_inside, failed_inside, shows_none}
 use Rattle.zeb_leaves.proofs.inside.behind_by_term.Goals as goal
 
 pub returns-in-Some-clause-finds : goal.returns-in-Some-clause-finds
@@ -30,3 +31,12 @@ returns-in-None-clause-finds g c clean inside store =
     (behind_above s0 store c.args.at.db.0 c.args.at.index c.args.at.register c.args.term.now c.args.block none)
     (subst (λ (d : Database). TellsKey (IsLeast (IsRowFrom c.args.at (c.args.term.now ++ 0 ∷ []) d.trees)) key) read.now_is above))
     (c.key_of_terms_above.ensures.finds clean read.mode (store_same s0 s1 read.now_is store))
+
+pub returns-in_err-own-clause-call : goal.returns-in_err-own-clause-call
+returns-in_err-own-clause-call g c = failed_inside _ _ _ _ c.from_residual.result _ _ c.in_err-own.ensures.call c.from_residual.ensures.1
+
+pub returns-in_err-own-clause-finds : goal.returns-in_err-own-clause-finds
+returns-in_err-own-clause-finds g c clean inside store = shows_none _ c.from_residual.result _ c.from_residual.ensures.1
+
+pub returns-in-Some-clause-call : goal.returns-in-Some-clause-call
+returns-in-Some-clause-call g c = answered_inside _ _ _ _ _ c.in_ok-own.ensures.call

@@ -1,5 +1,6 @@
 use Rattle.zeb_leaves.proofs.Cited.{HasCleanDisk, IsGreatest, IsUpTo, arith, own_key, state, subst, Database, IfOk-weaker, up_to_next, covers_below, covers_own, IsOfTermBelow, IsOfTermsBelow, store_same}
 use Rattle.zeb_leaves.proofs.InsideCalls.{inside_then}
+use Rattle.zeb_leaves.proofs.HandedOn.{answered_inside, failed_inside, shows_none}
 use Rattle.zeb_leaves.proofs.inside.covering_by_term.Goals as goal
 
 pub returns-in-Some-clause-covers : goal.returns-in-Some-clause-covers
@@ -23,3 +24,12 @@ returns-in-None-clause-covers g c clean inside store =
     IfOk-weaker c.leaf_of_terms_below_inside.result _ _
     (λ leaf below. covers_below s0 store c.args.at.db.0 c.args.at.index c.args.at.register c.args.term.now c.args.block none leaf (subst (λ (d : Database). IsGreatest (IsOfTermsBelow c.args.at c.args.term.now d.trees) leaf) read.now_is below))
     (c.leaf_of_terms_below_inside.ensures.finds clean read.mode (store_same s0 s1 read.now_is store))
+
+pub returns-in_err-leaf-clause-call : goal.returns-in_err-leaf-clause-call
+returns-in_err-leaf-clause-call g c = failed_inside _ _ _ _ c.from_residual.result _ _ c.in_err-leaf.ensures.call c.from_residual.ensures.1
+
+pub returns-in_err-leaf-clause-covers : goal.returns-in_err-leaf-clause-covers
+returns-in_err-leaf-clause-covers g c clean inside store = shows_none _ c.from_residual.result _ c.from_residual.ensures.1
+
+pub returns-in-Some-clause-call : goal.returns-in-Some-clause-call
+returns-in-Some-clause-call g c = answered_inside _ _ _ _ _ c.in_ok-leaf.ensures.call

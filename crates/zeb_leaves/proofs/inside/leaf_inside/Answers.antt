@@ -1,5 +1,6 @@
 use Rattle.zeb_leaves.proofs.Cited.{HasCleanDisk, arith, state, true, answered_uncovered, store_same}
 use Rattle.zeb_leaves.proofs.InsideCalls.{inside_then}
+use Rattle.zeb_leaves.proofs.HandedOn.{answered_inside, failed_inside}
 use Rattle.zeb_leaves.proofs.inside.leaf_inside.Goals as goal
 
 pub returns-in-Some-clause-finds : goal.returns-in-Some-clause-finds
@@ -18,3 +19,9 @@ returns-in-None-clause-finds g c clean inside store =
     let read = c.in_ok-leaf.ensures.call.ok clean1 inside in
     let none = rw c.in-None.is at (c.in_ok-leaf.ensures.covers clean1 inside store) in
     answered_uncovered c.args.at c.args.term.now c.args.block s0.now s1.now read.now_is none c.no_leaf.result (c.no_leaf.ensures.none clean read.mode (store_same s0 s1 read.now_is store))
+
+pub returns-in_err-leaf-clause-call : goal.returns-in_err-leaf-clause-call
+returns-in_err-leaf-clause-call g c = failed_inside _ _ _ _ c.from_residual.result _ _ c.in_err-leaf.ensures.call c.from_residual.ensures.1
+
+pub returns-in-Some-clause-call : goal.returns-in-Some-clause-call
+returns-in-Some-clause-call g c = answered_inside _ _ _ _ _ c.in_ok-leaf.ensures.call

@@ -11,3 +11,6 @@ pub returns-clause-finds : goal.returns-clause-finds
 returns-clause-finds g c = finds (λ trees key. TellsKey (IsLeast (IsOfTermFrom c.args.at c.args.term.now c.args.first trees)) key) _ _ c.last_shown.result
     (λ rows found store shown last. key_shown _ rows found last (own_shown _ store c.args.at.db.0 (pos c.args.at.index) (pos (register_code c.args.at.register)) c.args.term.now c.args.first _ rows shown))
     (simp (c.params-to_sql.ensures, c.params-to_sql-2.ensures, c.params-to_sql-3.ensures, c.params-to_sql-4.ensures, c.params-to_sql-5.ensures, to_z-of_z, column_is c.column-db.ensures.fits c.column-db.ensures.value, c.from-reg.ensures, c.code.ensures, c.ranges.first) at c.last_shown.ensures.shows)
+
+pub returns-clause-call : goal.returns-clause-call
+returns-clause-call g c = c.last_shown.ensures.shows.call

@@ -9,3 +9,6 @@ pub returns-clause-finds : goal.returns-clause-finds
 returns-clause-finds g c = finds (λ trees found. IsGreatest (IsOfTermBelow c.args.at c.args.term.now c.args.end trees) found) _ _ c.last_shown.result
     (λ rows found store shown last. shown_greatest _ rows found last (of_term_shown _ store c.args.at.db.0 (pos c.args.at.index) (pos (register_code c.args.at.register)) c.args.term.now c.args.end _ rows shown))
     (simp (c.params-to_sql.ensures, c.params-to_sql-2.ensures, c.params-to_sql-3.ensures, c.params-to_sql-4.ensures, c.params-to_sql-5.ensures, c.params-to_sql-6.ensures, to_z-of_z, column_is c.column-db.ensures.fits c.column-db.ensures.value, c.from-reg.ensures, c.code.ensures, c.ranges.end) at c.last_shown.ensures.shows)
+
+pub returns-clause-call : goal.returns-clause-call
+returns-clause-call g c = c.last_shown.ensures.shows.call

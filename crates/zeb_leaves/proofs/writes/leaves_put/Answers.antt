@@ -1,6 +1,7 @@
 -- The first leaf is put, and then those behind it.
-use Rattle.zeb_leaves.proofs.Cited.{arith, length, refl, rules, pos, state, HasCleanDisk, goes_keeps, goes_then, on_err}
+use Rattle.zeb_leaves.proofs.Cited.{arith, length, refl, pos, state, HasCleanDisk, goes_keeps, goes_then, on_err, quiet_then}
 use Rattle.zeb_leaves.proofs.WrittenLeaves.{all_put}
+use Rattle.zeb_leaves.proofs.HandedOn.{failed_inside, shows_none}
 use Rattle.zeb_leaves.proofs.writes.leaves_put.Goals as goal
 
 pub returns-clause-call : goal.returns-clause-call
@@ -13,8 +14,8 @@ returns-clause-call g c =
           let was : HasCleanDisk mid = omega (arith, c.new_leaves_add.ensures.call.crash.clean) in
           let goes = (c.in_ok-leaf_put.ensures.call.ok was inside).on in
           goes_then first mid last goes (c.in_ok-new_leaves_add.ensures.call.ok clean goes.mode goes.is_open);
-      err = search rules;
-      crash = search rules;
+      err = λ clean inside. tt;
+      crash = quiet_then first mid last c.leaf_put.ensures.call.crash c.new_leaves_add.ensures.call.crash;
     }
 
 pub returns-in_err-new_leaves_add-clause-call : goal.returns-in_err-new_leaves_add-clause-call
@@ -23,12 +24,12 @@ returns-in_err-new_leaves_add-clause-call g c =
     let mid = state g.S.Store c.leaf_put.new.tx.conn.now in
     let last = state g.S.Store c.new_leaves_add.new.tx.conn.now in
     record {
-      ok = search rules;
+      ok = λ clean inside. shows_none _ c.from_residual-in_err-new_leaves_add.result _ c.from_residual-in_err-new_leaves_add.ensures.1;
       err = λ clean inside.
           let was : HasCleanDisk mid = omega (arith, c.new_leaves_add.ensures.call.crash.clean) in
           let goes = (c.in_ok-leaf_put.ensures.call.ok was inside).on in
           on_err c.from_residual-in_err-new_leaves_add.result _ (goes_keeps first mid last goes (c.in_err-new_leaves_add.ensures.call.err clean goes.mode));
-      crash = search rules;
+      crash = quiet_then first mid last c.leaf_put.ensures.call.crash c.new_leaves_add.ensures.call.crash;
     }
 
 pub returns-clause-put : goal.returns-clause-put
@@ -49,3 +50,18 @@ returns-clause-rows g c clean inside store =
     let came = c.in_ok-leaf_put.ensures.rows was inside store in
     let more = c.in_ok-new_leaves_add.ensures.rows clean put.on.mode (put.rows store).layout in
     (length c.args.leaves.now, refl, omega (arith, came, more))
+
+pub returns-in_err-leaf_put-clause-call : goal.returns-in_err-leaf_put-clause-call
+returns-in_err-leaf_put-clause-call g c = failed_inside _ _ _ _ c.from_residual.result _ _ c.in_err-leaf_put.ensures.call c.from_residual.ensures.1
+
+pub returns-in_err-leaf_put-clause-put : goal.returns-in_err-leaf_put-clause-put
+returns-in_err-leaf_put-clause-put g c clean inside store = shows_none _ c.from_residual.result _ c.from_residual.ensures.1
+
+pub returns-in_err-leaf_put-clause-rows : goal.returns-in_err-leaf_put-clause-rows
+returns-in_err-leaf_put-clause-rows g c clean inside store = shows_none _ c.from_residual.result _ c.from_residual.ensures.1
+
+pub returns-in_err-new_leaves_add-clause-put : goal.returns-in_err-new_leaves_add-clause-put
+returns-in_err-new_leaves_add-clause-put g c clean inside store = shows_none _ c.from_residual-in_err-new_leaves_add.result _ c.from_residual-in_err-new_leaves_add.ensures.1
+
+pub returns-in_err-new_leaves_add-clause-rows : goal.returns-in_err-new_leaves_add-clause-rows
+returns-in_err-new_leaves_add-clause-rows g c clean inside store = shows_none _ c.from_residual-in_err-new_leaves_add.result _ c.from_residual-in_err-new_leaves_add.ensures.1

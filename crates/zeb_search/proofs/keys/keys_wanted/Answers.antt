@@ -2,6 +2,7 @@ use Rattle.zeb_search.proofs.Cited.{rules, true, false, ◌≡◌, ◌↔◌, �
 use Rattle.zeb_search.proofs.SearchCountLemmas.{counted_for, counted_still}
 use Rattle.zeb_search.proofs.MetTerms.{keys_met, named_met}
 use Rattle.zeb_search.proofs.ToldLemmas.{tells_refused}
+use Rattle.zeb_search.proofs.ReadLemmas.{accepted, as_read}
 use Rattle.zeb_search.proofs.keys.keys_wanted.Goals as goal
 
 pub returns-in-Some-clause-units : goal.returns-in-Some-clause-units
@@ -44,3 +45,9 @@ returns-clause-work g c =
     counted_for g.L.Layout.format (λ content. RegisterDict g.L.Layout.row_work content c.args.of.db.0 c.args.of.index c.args.of.register)
     (λ content. EntryDict g.L.Layout.row_work content c.args.of.db.0 (NamesEntry c.args.wanted) c.args.of.index c.args.of.register) NoRows NoRows (state g.S.Store c.args.connection.now)
     (state g.S.Store c.terms_wanted.new.connection) c.args.work.now c.terms_wanted.new.work (λ content n all. inr (unnamed, all)) (λ content n none. none) c.in_ok-terms.ensures.work
+
+pub returns-clause-call : goal.returns-clause-call
+returns-clause-call g c = accepted _ _ _ (as_read _ _ c.in_ok-terms.terms c.in_ok-terms.ensures.call)
+
+pub returns-in_err-keys-clause-call : goal.returns-in_err-keys-clause-call
+returns-in_err-keys-clause-call g c = accepted _ _ _ (as_read _ _ c.in_ok-terms.terms c.in_ok-terms.ensures.call)

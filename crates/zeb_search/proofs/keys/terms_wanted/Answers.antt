@@ -2,7 +2,7 @@ use Rattle.zeb_search.proofs.Cited.{rules, Vec, Global, Trees, ◌≡◌, ◌∙
 use Rattle.zeb_register.proofs.FormatLemmas.{registers_have_terms}
 use Rattle.zeb_search.proofs.MetPages.{MetUpTo, all_met, last_met, met_of, more_of, more_rises, next_met, none_met}
 use Rattle.zeb_search.proofs.MetTerms.{page_told}
-use Rattle.zeb_search.proofs.ReadLemmas.{accepted, one_read, read_still, read_then}
+use Rattle.zeb_search.proofs.ReadLemmas.{accepted, one_read, read_still, read_then, refused}
 use Rattle.zeb_search.proofs.SearchCountLemmas.{counted_still, counted_within, if_ok_counted}
 use Rattle.zeb_search.proofs.DictCounts.{pages_counted, within_register}
 use Rattle.zeb_search.proofs.ToldLemmas.{tells_later, tells_more, tells_refused}
@@ -143,3 +143,9 @@ pub returns-then-spans_register-clause-work : goal.returns-then-spans_register-c
 returns-then-spans_register-clause-work g c =
     if_ok_counted c.terms_of.result g.L.Layout.format g.L.Layout.row_work c.args.of.db.0 c.args.of.index c.args.of.register (state g.S.Store c.args.connection.now) (state g.S.Store c.terms_of.new.conn)
     c.args.work.now c.terms_of.new.work (all_told g.L.Layout.format c.args.of (state g.S.Store c.args.connection.now) (state g.S.Store c.terms_of.new.conn) c.terms_of.result c.terms_of.ensures.units).0 c.terms_of.ensures.work
+
+pub returns-in_err-page-clause-call : goal.returns-in_err-page-clause-call
+returns-in_err-page-clause-call g c =
+    let cause = c.in_err-page.field-0.0 in
+    let told : c.from_residual-in_err-page.result ≡ Err cause = search rules in
+    refused _ _ _ _ cause cause c.from_residual-in_err-page.result told c.pages.invariant.read c.in_err-page.ensures.call

@@ -1,7 +1,7 @@
 use Rattle.zeb_search.proofs.Cited.{rules, ◌≡◌, ℕ, Ok, Err, Vec, Global, inl, inr, refl, subst, sym, state, Trees, Has, AreJoined, AreNumbers, PairPlan, PairOf, plan_value, CountsByContent, PlanDict, PlanRows, FindsPlan, PlanFinds, PlanHides}
 use Rattle.zeb_search.proofs.PlanLaws.{plan_rises}
 use Rattle.zeb_search.proofs.SearchCountLemmas.{counted_then}
-use Rattle.zeb_search.proofs.ReadLemmas.{as_read, clean_before}
+use Rattle.zeb_search.proofs.ReadLemmas.{accepted_then, as_read, clean_before, refused}
 use Rattle.zeb_search.proofs.ToldLemmas.{tells_later, tells_refused}
 use Rattle.zeb_search.proofs.plans.+hits.Goals as goal
 
@@ -95,3 +95,15 @@ returns-in_ok-joined-in-Pair-clause-work g t c =
     (λ content. PlanDict row_work content db (PairOf pair.operator left right)) (λ content. PlanRows rows content db left) (λ content. PlanRows rows content db right)
     (λ content. PlanRows rows content db (PairOf pair.operator left right)) old mid new c.args.work.now c.hits.new.work c.hits-in-Pair.new.work (λ content m n first second. (m, n, first, second, refl))
     (λ content m n first second. (m, n, first, second, refl)) (as_read old mid c.in_ok-left-in-Pair.left c.in_ok-left-in-Pair.ensures.call) c.hits-in-Pair.ensures.call.crash of_left of_right)
+
+pub returns-in_ok-joined-in-Pair-clause-call : goal.returns-in_ok-joined-in-Pair-clause-call
+returns-in_ok-joined-in-Pair-clause-call g t c = accepted_then _ _ _ _ _ (as_read _ _ c.in_ok-left-in-Pair.left c.in_ok-left-in-Pair.ensures.call) c.in_ok-right-in-Pair.ensures.call
+
+pub returns-in_err-right-in-Pair-clause-call : goal.returns-in_err-right-in-Pair-clause-call
+returns-in_err-right-in-Pair-clause-call g t c =
+    let cause = c.in_err-right-in-Pair.field-0.0 in
+    let told : c.from_residual-in_err-right-in-Pair.result ≡ Err cause = search rules in
+    refused _ _ _ _ cause cause c.from_residual-in_err-right-in-Pair.result told (as_read _ _ c.in_ok-left-in-Pair.left c.in_ok-left-in-Pair.ensures.call) c.in_err-right-in-Pair.ensures.call
+
+pub returns-in_err-joined-in-Pair-clause-call : goal.returns-in_err-joined-in-Pair-clause-call
+returns-in_err-joined-in-Pair-clause-call g t c = accepted_then _ _ _ _ _ (as_read _ _ c.in_ok-left-in-Pair.left c.in_ok-left-in-Pair.ensures.call) c.in_ok-right-in-Pair.ensures.call

@@ -1,5 +1,5 @@
 use Rattle.zeb_search.proofs.Cited.{rules, ◌≡◌, ◌∷◌, [], ℕ, Ok, Err, Vec, Global, inl, inr, refl, sym, subst, state, Trees, NearOf, PlanFinds, ReadsWord, IsStrictlySortedBy, posting_cmp}
-use Rattle.zeb_search.proofs.ReadLemmas.{as_read, clean_before}
+use Rattle.zeb_search.proofs.ReadLemmas.{accepted_then, as_read, clean_before, refused}
 use Rattle.zeb_search.proofs.WordCalls.{Reads, places_later, word_refused}
 use Rattle.zeb_search.proofs.WordCounts.{words_behind, one_word_counted}
 use Rattle.zeb_search.proofs.plans.near_hits.Goals as goal
@@ -60,3 +60,15 @@ returns-in_err-right-clause-units g c =
     word_refused format db plan.index (Reads format db plan.index plan.right) (λ (trees : Trees) (hits : Vec ℕ Global). PlanFinds format trees db (NearOf plan.index plan.left plan.right plan.separation) hits.items) (plan.left ∷ plan.right ∷ []) plan.right (inr (inl refl))
     old new cause c.from_residual-in_err-right.result told
     (places_later format db plan.index plan.right old mid new (as_read old mid c.in_ok-left.left c.in_ok-left.ensures.call) c.places_of_words-2.ensures.call.crash (Err cause) c.in_err-right.ensures.units)
+
+pub returns-clause-call : goal.returns-clause-call
+returns-clause-call g c = accepted_then _ _ _ _ _ (as_read _ _ c.in_ok-left.left c.in_ok-left.ensures.call) c.in_ok-right.ensures.call
+
+pub returns-in_err-right-clause-call : goal.returns-in_err-right-clause-call
+returns-in_err-right-clause-call g c =
+    let cause = c.in_err-right.field-0.0 in
+    let told : c.from_residual-in_err-right.result ≡ Err cause = search rules in
+    refused _ _ _ _ cause cause c.from_residual-in_err-right.result told (as_read _ _ c.in_ok-left.left c.in_ok-left.ensures.call) c.in_err-right.ensures.call
+
+pub returns-in_err-near-clause-call : goal.returns-in_err-near-clause-call
+returns-in_err-near-clause-call g c = accepted_then _ _ _ _ _ (as_read _ _ c.in_ok-left.left c.in_ok-left.ensures.call) c.in_ok-right.ensures.call

@@ -2,7 +2,7 @@ use Rattle.zeb_search.proofs.Cited.{rules, ◌≡◌, ◌∙◌, ◌++◌, [], L
 use Rattle.zeb_search.proofs.KeyReads.{hides_more, lists_more, none_lists}
 use Rattle.zeb_search.proofs.SearchCountLemmas.{counts_still, counts_then}
 use Rattle.zeb_search.proofs.MetTerms.{part_in_order}
-use Rattle.zeb_search.proofs.ReadLemmas.{as_read, clean_before, read_still, read_then, still_store, still_trees}
+use Rattle.zeb_search.proofs.ReadLemmas.{accepted, accepted_then, as_read, clean_before, read_still, read_then, refused, still_store, still_trees}
 use Rattle.zeb_search.proofs.RunLemmas.{part_run}
 use Rattle.zeb_search.proofs.ToldLemmas.{tells_later, tells_refused}
 use Rattle.zeb_search.proofs.postings.list_found.Goals as goal
@@ -95,3 +95,15 @@ returns-in_err-list-clause-units g c are =
     (λ _ _. hides_more format old.now.trees of (2 ≤ length run) (IsTrue found.are_neighbours) joined run found.keys.items
     (λ key here. subst (λ (l : List Key). Has l key) (sym whole) (has_right done (run ++ behind) key (has_left run behind key here))))
     (tells_later hides lists old now new c.loop-left.invariant.read c.list_of_run.ensures.call.crash (Err cause) (c.in_err-list.ensures.units (part_in_order of found.keys.items done run behind whole are)))
+
+pub returns-clause-call : goal.returns-clause-call
+returns-clause-call g c = accepted _ _ _ c.loop-left.invariant.read
+
+pub returns-in_err-list-clause-call : goal.returns-in_err-list-clause-call
+returns-in_err-list-clause-call g c =
+    let cause = c.in_err-list.field-0.0 in
+    let told : c.from_residual.result ≡ Err cause = search rules in
+    refused _ _ _ _ cause cause c.from_residual.result told c.loop-left.invariant.read c.in_err-list.ensures.call
+
+pub returns-in_err-postings-clause-call : goal.returns-in_err-postings-clause-call
+returns-in_err-postings-clause-call g c = accepted_then _ _ _ _ _ c.loop-left.invariant.read c.in_ok-list.ensures.call

@@ -2,7 +2,7 @@ use Rattle.zeb_search.proofs.Cited.{rules, ◌≡◌, IsTrue, Err, inl, List, Ok
 use Rattle.zeb_search.proofs.EntryReads.{entries_hidden, entries_read}
 use Rattle.zeb_search.proofs.FoundLaws.{found_held, keys_held}
 use Rattle.zeb_search.proofs.NeighbourLemmas.{found_counted}
-use Rattle.zeb_search.proofs.ReadLemmas.{as_read, clean_before}
+use Rattle.zeb_search.proofs.ReadLemmas.{accepted_then, as_read, clean_before, refused}
 use Rattle.zeb_search.proofs.ToldLemmas.{tells_later, tells_refused}
 use Rattle.zeb_search.proofs.postings.numbers_wanted.Goals as goal
 
@@ -66,3 +66,15 @@ returns-in_err-list-clause-units g c clean store =
     lists (λ (trees : Trees) (hits : Vec ℕ Global). FindsEntries format trees of.db.0 (NamesEntry wanted) of.index of.register (IsWanted wanted) hits.items)
     old new cause c.from_residual-in_err-list.result told (λ _ _. entries_hidden format old.now.trees of wanted found met)
     (tells_later hides lists old mid new (as_read old mid found c.in_ok-found.ensures.call) crash (Err cause) (c.in_err-list.ensures.units met.are)) clean store
+
+pub returns-clause-call : goal.returns-clause-call
+returns-clause-call g c = accepted_then _ _ _ _ _ (as_read _ _ c.in_ok-found.found c.in_ok-found.ensures.call) c.in_ok-list.ensures.call
+
+pub returns-in_err-list-clause-call : goal.returns-in_err-list-clause-call
+returns-in_err-list-clause-call g c =
+    let cause = c.in_err-list.field-0.0 in
+    let told : c.from_residual-in_err-list.result ≡ Err cause = search rules in
+    refused _ _ _ _ cause cause c.from_residual-in_err-list.result told (as_read _ _ c.in_ok-found.found c.in_ok-found.ensures.call) c.in_err-list.ensures.call
+
+pub returns-in_err-numbers_among-clause-call : goal.returns-in_err-numbers_among-clause-call
+returns-in_err-numbers_among-clause-call g c = accepted_then _ _ _ _ _ (as_read _ _ c.in_ok-found.found c.in_ok-found.ensures.call) c.in_ok-list.ensures.call

@@ -5,7 +5,7 @@ use Rattle.zeb_search.proofs.FoundLaws.{found_held, keys_held}
 use Rattle.zeb_search.proofs.KeyReads.{one_hides, one_lists}
 use Rattle.zeb_search.proofs.NeighbourLemmas.{each_counted, found_counted}
 use Rattle.zeb_search.proofs.OneKey.{one_counted}
-use Rattle.zeb_search.proofs.ReadLemmas.{as_read, clean_before}
+use Rattle.zeb_search.proofs.ReadLemmas.{accepted_then, as_read, clean_before, refused}
 use Rattle.zeb_search.proofs.ToldLemmas.{tells_later, tells_more, tells_refused}
 use Rattle.zeb_search.specs.declared.terms.Wanted.TheVariants as wanted
 use Rattle.zeb_search.proofs.postings.places_of_words.Goals as goal
@@ -110,3 +110,12 @@ returns-in_err-list-clause-units g c clean store =
     (λ (trees : Trees) (list : Vec Posting Global). ReadsWord format trees of.db.0 of.index c.args.pattern.now list.items × IsStrictlySortedBy posting_cmp list.items)
     old new cause c.from_residual-in_err-list.result told (λ _ _. entries_hidden format old.now.trees of (wanted.Matching c.args.pattern) found met)
     (tells_later hides lists old mid new (as_read old mid found c.in_ok-found.ensures.call) crash (Err cause) (c.in_err-list.ensures.units met.are)) clean store
+
+pub returns-clause-call : goal.returns-clause-call
+returns-clause-call g c = accepted_then _ _ _ _ _ (as_read _ _ c.in_ok-found.found c.in_ok-found.ensures.call) c.in_ok-list.ensures.call
+
+pub returns-in_err-list-clause-call : goal.returns-in_err-list-clause-call
+returns-in_err-list-clause-call g c =
+    let cause = c.in_err-list.field-0.0 in
+    let told : c.from_residual-in_err-list.result ≡ Err cause = search rules in
+    refused _ _ _ _ cause cause c.from_residual-in_err-list.result told (as_read _ _ c.in_ok-found.found c.in_ok-found.ensures.call) c.in_err-list.ensures.call

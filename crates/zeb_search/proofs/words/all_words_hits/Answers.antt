@@ -2,7 +2,7 @@ use Rattle.zeb_search.proofs.Cited.{rules, List, [], ◌≡◌, ◌++◌, ◌∷
 use Rattle.zeb_query.specs.declared.plans.Operator.TheVariants as operator
 use Rattle.zeb_search.proofs.JustLemmas.{joined_numbers, own_numbers}
 use Rattle.zeb_search.proofs.PlanLemmas.{no_patterns, some_patterns}
-use Rattle.zeb_search.proofs.ReadLemmas.{as_read, clean_before, read_then}
+use Rattle.zeb_search.proofs.ReadLemmas.{accepted, accepted_then, as_read, clean_before, read_then, refused}
 use Rattle.zeb_search.proofs.WordCalls.{Finds, found_later, word_refused}
 use Rattle.zeb_search.proofs.WordCounts.{words_behind, one_word_counted}
 use Rattle.zeb_search.proofs.WordReads.{each_found, no_each, one_found}
@@ -111,3 +111,15 @@ returns-in_err-found-clause-units g c =
     word_refused format db index (Finds format db index pattern) (λ (trees : Trees) (hits : Vec ℕ Global). FindsWords format trees db HasEach index patterns hits.items) patterns pattern
     (subst (λ (l : List (List Symbol)). Has l pattern) (sym first.1) (inr (has_at _ _ _ c.loop-other-test.true c.other-item.is))) old new cause c.from_residual-in_err-found.result told
     (found_later format db index pattern old now new c.loop-other.invariant.read c.word_hits-in-loop-other.ensures.call.crash (Err cause) c.in_err-found.ensures.units)
+
+pub returns-clause-call : goal.returns-clause-call
+returns-clause-call g c = accepted _ _ _ c.loop-other.invariant.read
+
+pub returns-in_err-found-clause-call : goal.returns-in_err-found-clause-call
+returns-in_err-found-clause-call g c =
+    let cause = c.in_err-found.field-0.0 in
+    let told : c.from_residual-in_err-found.result ≡ Err cause = search rules in
+    refused _ _ _ _ cause cause c.from_residual-in_err-found.result told c.loop-other.invariant.read c.in_err-found.ensures.call
+
+pub returns-in_err-hits-2-clause-call : goal.returns-in_err-hits-2-clause-call
+returns-in_err-hits-2-clause-call g c = accepted_then _ _ _ _ _ c.loop-other.invariant.read c.in_ok-found.ensures.call

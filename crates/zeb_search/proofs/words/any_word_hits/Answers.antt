@@ -1,7 +1,7 @@
 use Rattle.zeb_search.proofs.Cited.{rules, List, ◌≡◌, ◌++◌, ◌∷◌, ◌+◌, [], ap, arith, subst, sym, take, refl, ◌∙◌, ℕ, Ok, Err, Vec, Global, take_more, state, take_whole, Trees, Has, has_at, Symbol, CountedWords, FindsWords, HasSome}
 use Rattle.zeb_query.specs.declared.plans.Operator.TheVariants as operator
 use Rattle.zeb_search.proofs.JustLemmas.{joined_numbers, own_numbers}
-use Rattle.zeb_search.proofs.ReadLemmas.{as_read, clean_before, read_still, read_then}
+use Rattle.zeb_search.proofs.ReadLemmas.{accepted, accepted_then, as_read, clean_before, read_still, read_then, refused}
 use Rattle.zeb_search.proofs.WordCalls.{Finds, found_later, word_refused}
 use Rattle.zeb_search.proofs.WordCounts.{words_behind, no_words_counted}
 use Rattle.zeb_search.proofs.WordReads.{no_word_found, some_found}
@@ -71,3 +71,15 @@ returns-in_err-found-clause-units g c =
     let told : c.from_residual.result ≡ Err cause = search rules in
     word_refused format db index (Finds format db index pattern) (λ (trees : Trees) (hits : Vec ℕ Global). FindsWords format trees db HasSome index patterns hits.items) patterns pattern (has_at _ _ _ c.loop-pattern-test.true c.pattern-item.is)
     old new cause c.from_residual.result told (found_later format db index pattern old now new c.loop-pattern.invariant.read c.word_hits.ensures.call.crash (Err cause) c.in_err-found.ensures.units)
+
+pub returns-clause-call : goal.returns-clause-call
+returns-clause-call g c = accepted _ _ _ c.loop-pattern.invariant.read
+
+pub returns-in_err-found-clause-call : goal.returns-in_err-found-clause-call
+returns-in_err-found-clause-call g c =
+    let cause = c.in_err-found.field-0.0 in
+    let told : c.from_residual.result ≡ Err cause = search rules in
+    refused _ _ _ _ cause cause c.from_residual.result told c.loop-pattern.invariant.read c.in_err-found.ensures.call
+
+pub returns-in_err-hits-clause-call : goal.returns-in_err-hits-clause-call
+returns-in_err-hits-clause-call g c = accepted_then _ _ _ _ _ c.loop-pattern.invariant.read c.in_ok-found.ensures.call

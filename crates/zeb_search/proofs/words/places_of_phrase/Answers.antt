@@ -1,6 +1,6 @@
 use Rattle.zeb_search.proofs.Cited.{rules, ◌≡◌, ◌∙◌, ◌++◌, ◌∷◌, [], List, Ok, Err, Vec, Global, ap, inl, refl, subst, sym, append_assoc, append_cancel_left, has_right, state, Trees, Has, Symbol, Posting, PlacesFound, ReadsWord, CountedWords, IsStrictlySortedBy, posting_cmp}
 use Rattle.zeb_search.proofs.PlanLemmas.{no_patterns, some_patterns}
-use Rattle.zeb_search.proofs.ReadLemmas.{as_read, clean_before, read_then}
+use Rattle.zeb_search.proofs.ReadLemmas.{accepted, accepted_then, as_read, clean_before, read_then, refused}
 use Rattle.zeb_search.proofs.WordCalls.{Reads, places_later, word_refused}
 use Rattle.zeb_search.proofs.WordCounts.{words_before, one_word_counted}
 use Rattle.zeb_search.proofs.WordReads.{no_place, one_place, place_before}
@@ -117,3 +117,15 @@ returns-in_err-starts-clause-units g c =
     word_refused format db index (Reads format db index pattern) (λ (trees : Trees) (places : Vec Posting Global). PlacesFound format trees db index patterns places.items) patterns pattern
     (subst (λ (l : List (List Symbol)). Has l pattern) (sym joined) (has_right before (pattern ∷ rest) pattern (inl refl))) old new cause c.from_residual-in_err-starts.result told
     (places_later format db index pattern old now new c.loop-pattern.invariant.read c.places_of_words-in-Some-split_last.ensures.call.crash (Err cause) c.in_err-starts.ensures.units)
+
+pub returns-clause-call : goal.returns-clause-call
+returns-clause-call g c = accepted _ _ _ c.loop-pattern.invariant.read
+
+pub returns-in_err-starts-clause-call : goal.returns-in_err-starts-clause-call
+returns-in_err-starts-clause-call g c =
+    let cause = c.in_err-starts.field-0.0 in
+    let told : c.from_residual-in_err-starts.result ≡ Err cause = search rules in
+    refused _ _ _ _ cause cause c.from_residual-in_err-starts.result told c.loop-pattern.invariant.read c.in_err-starts.ensures.call
+
+pub returns-in_err-places-2-clause-call : goal.returns-in_err-places-2-clause-call
+returns-in_err-places-2-clause-call g c = accepted_then _ _ _ _ _ c.loop-pattern.invariant.read c.in_ok-starts.ensures.call

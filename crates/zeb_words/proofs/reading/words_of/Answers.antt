@@ -1,5 +1,5 @@
-use Rattle.zeb_words.proofs.Cited.{rules, ◌≡◌, ◌∙◌, Err, codes, subcommand_rows_of, box_value, found_of, one_of, rows_of, out-ArgMatches, out-SubCommand, one_text-rows, AreBad, IsFlagRead, IsBadAct, IsMisuseOf, IsMisusedAct}
-use Rattle.zeb_words.proofs.ReadingLemmas.{bad_words, flag_read, misused_words, other_misuse, own_cause, pair_read}
+use Rattle.zeb_words.proofs.Cited.{rules, ◌≡◌, ◌∙◌, Err, codes, subcommand_rows_of, box_value, found_of, one_of, rows_of, out-ArgMatches, out-SubCommand, one_text-rows, IsFlagRead, IsMisuseOf, IsMisusedAct}
+use Rattle.zeb_words.proofs.ReadingLemmas.{flag_read, misused_words, other_misuse, pair_read}
 use Rattle.zeb_words.proofs.reading.words_of.Goals as goal
 
 pub returns-clause-value : goal.returns-clause-value
@@ -18,20 +18,6 @@ returns-clause-value c =
           (out-ArgMatches m).subcommand _ _ c.in-Some.ensures.name c.in-Some.ensures.rows;
       act = c.in_ok-act.ensures.value;
     }
-
-pub returns-in_err-act-clause-own : goal.returns-in_err-act-clause-own
-returns-in_err-act-clause-own c =
-    let m = c.args.matches.now in
-    let rows = rows_of (found_of m) in
-    let given = rows_of (found_of c.in-Some.given.now) in
-    let same = one_text-rows (found_of m) (codes "shows") in
-    let flag : IsFlagRead (one_of (codes "shows") rows) c.get_flag-shows.result = flag_read _ _ _ same c.get_flag-shows.ensures.none c.get_flag-shows.ensures.value c.get_flag-shows.ensures.other in
-    let is = pair_read (λ b. (out-SubCommand (box_value b)).name.now) (λ b. rows_of (found_of (out-SubCommand (box_value b)).matches))
-    (out-ArgMatches m).subcommand _ _ c.in-Some.ensures.name c.in-Some.ensures.rows in
-    let usage = c.in_err-act.field-0.0 in
-    let result : c.from_residual-in_err-act.result ≡ Err usage = search rules in
-    rw result (own_cause (IsBadAct c.in-Some.name.now c.get_flag-shows.result given) (AreBad rows (subcommand_rows_of m)) usage
-    (bad_words rows (subcommand_rows_of m) c.in-Some.name.now c.get_flag-shows.result given is flag) c.in_err-act.ensures.own)
 
 pub returns-in_err-act-clause-why : goal.returns-in_err-act-clause-why
 returns-in_err-act-clause-why c =

@@ -1,6 +1,6 @@
 use Rattle.zeb_words.proofs.Cited.{◌∙◌, sym, ap, map, subst, string_bytes, IfErr-weaker, IfOk-weaker, rows_of, found_of, is_simple, matches_of, subcommand_of, fault_of, is_simple_and_free, HasKind, NamesNone, NamesWords, IsParsedAs, IsReadFrom, IsRefusedAs, program_app, ◌≡◌, true, false, rules}
 use Rattle.zeb_words.proofs.Naming.{all_texts, names_parsed}
-use Rattle.zeb_words.proofs.ReadingLemmas.{OwnRefusal, both_errs, help_refused, own_refused, parser_refused}
+use Rattle.zeb_words.proofs.ReadingLemmas.{OwnRefusal, help_refused, own_refused, parser_refused}
 use Rattle.zeb_words.proofs.Taking.{none_named}
 use Rattle.zeb_words.proofs.words.read_words.Goals as goal
 
@@ -16,9 +16,8 @@ returns-in-Ok c =
           (subst (λ sub. IsReadFrom (rows_of (found_of c.in-Ok.matches)) sub named) (has.1 ∙ ap (λ a. subcommand_of a texts) app) r);
     }) c.words_of.ensures.value in
     let refused = IfErr-weaker c.words_of.result _ (IsRefusedAs texts) (λ usage own.
-    let all = subst (λ rows. OwnRefusal rows (subcommand_of program_app texts) usage) (has.0 ∙ ap (λ a. matches_of a texts) app)
-    (subst (λ sub. OwnRefusal (rows_of (found_of c.in-Ok.matches)) sub usage) (has.1 ∙ ap (λ a. subcommand_of a texts) app) own) in
-    own_refused texts usage sound all.0 all.1) (both_errs c.words_of.result _ _ c.words_of.ensures.own c.words_of.ensures.why) in
+    own_refused texts usage sound (subst (λ rows. OwnRefusal rows (subcommand_of program_app texts) usage) (has.0 ∙ ap (λ a. matches_of a texts) app)
+    (subst (λ sub. OwnRefusal (rows_of (found_of c.in-Ok.matches)) sub usage) (has.1 ∙ ap (λ a. subcommand_of a texts) app) own))) c.words_of.ensures.why in
     record {
       named = IfOk-weaker c.words_of.result (IsParsedAs texts) (NamesWords texts) (names_parsed texts (all_texts c.args.words.now)) parsed;
       parsed = parsed;
