@@ -54,8 +54,8 @@ pub use Rattle.zeb_paths.specs.declared.causes.Closed.{Closed}
 pub use Rattle.zeb_paths.specs.declared.causes.StoreCause.{StoreCause}
 pub use Rattle.zeb_profile.specs.Profiles.{profile_of}
 pub use Rattle.zeb_profile.specs.declared.directives.Directive.{Directive}
-pub use Rattle.zeb_program.specs.Answers.{EachLine, none, more, Writes, ChangesBy, AnswersAsTold, IsLineUntold, AnswersLine, AnswersLines, IsAnswerTo, answer_status, answer_text, none as no_lines, AnswersBatch, AnswersPart, bad_line, mark_line}
-pub use Rattle.zeb_program.specs.Closings.{TellsClosed, TellsLeft}
+pub use Rattle.zeb_program.specs.Answers.{EachLine, none, more, ChangesBy, AnswersAsTold, IsLineUntold, AnswersLine, AnswersLines, IsAnswerTo, answer_status, answer_text, none as no_lines, AnswersBatch, AnswersPart, bad_line, mark_line}
+pub use Rattle.zeb_program.specs.Closings.{closing_lines, leaving_lines}
 pub use Rattle.zeb_program.specs.Doing.{DoesOnNothing, DoesTask, RunsText, ServesText, DoesBatch, KeepsUnread, StopsText, all_served, first_served, StopsPart, DoesPart, DoesShell, StopsLine}
 pub use Rattle.zeb_program.specs.Explanations.{Explains, ExplainsUnread, NamesRegister, refusal_cause, ExplainsRefusal, TellsFile}
 pub use Rattle.zeb_program.specs.FaultAnswers.{IsOpeningFailure, unopened_refusal, GivesAnswer, NamesMet, NamesUntold}
@@ -67,22 +67,25 @@ pub use Rattle.zeb_program.specs.LeftStores.{LeavesByTask, left_alone, left_by_b
 pub use Rattle.zeb_program.specs.Lines.{first_line, after_first_line, is_lf}
 pub use Rattle.zeb_program.specs.OverTables.{AnalysesOver, LeavesAlone, LineOver, PathOver, PathsLast, PathsLeave, PathsOver, SaysOver, ServesOver, TaskOver, LinesOver, AreFilesOf, ChangesOver, LinesWritten, SaysWritten, IsAnalysisOver, IsRefusedUnbegun, IsUntoldNth, OverNothing}
 pub use Rattle.zeb_program.specs.PathChanges.{AreFilesTold, IsLineTold, HasPath, NamesPath}
+pub use Rattle.zeb_program.specs.PrivateEnding.{AnswersAs, TellsEnd, TellsStarved}
 pub use Rattle.zeb_program.specs.PrivateFaults.{IsOpeningFault, IsUnread, IsUnreadAt, fault_of, IsUnfound}
 pub use Rattle.zeb_program.specs.PrivateFiles.{sure_bytes, IsGiven, ReadsContent, ReadsBelow}
 pub use Rattle.zeb_program.specs.PrivateLines.{whole_first_line}
 pub use Rattle.zeb_program.specs.PrivateServing.{CarriesOut, StandsFor}
-pub use Rattle.zeb_program.specs.PrivateShows.{BreaksOff, EndsShell, IsDone, Shows, ShowsBatch, ShowsCommand, ShowsLine, ShowsPath, ShowsShell, WritesUnless}
+pub use Rattle.zeb_program.specs.PrivateShows.{BreaksOff, EndsShell, IsDone, Shows, ShowsBatch, ShowsCommand, ShowsLine, ShowsPath, ShowsShell}
 pub use Rattle.zeb_program.specs.PrivateWarnings.{IsServedFor, warned_in}
-pub use Rattle.zeb_program.specs.PrivateWordRuns.{ClosesAloud, EndsSession, TellsLayout, ServesIn, ExplainsRun, GivesClosed, GivesFor, OpensUnder, RunsIn, RunsOnNothing, ServesHeld, ServesOnNothing, TakesIn, TakesOpen, OnlyLooked, format_of, ExplainsFailure, TakesStore, Grows}
+pub use Rattle.zeb_program.specs.PrivateWordRuns.{ClosesBelow, Ends, EndsUnfailed, EndsSession, TellsLayout, ServesIn, ExplainsRun, GivesClosed, GivesFor, OpensUnder, RunsIn, RunsOnNothing, ServesHeld, ServesOnNothing, TakesIn, TakesOpen, OnlyLooked, format_of, ExplainsFailure, TakesStore}
 pub use Rattle.zeb_program.specs.ProfileFiles.{ReadsProfile, IsProfileText}
 pub use Rattle.zeb_program.specs.Registers.{UsedAs, places_of, FailsLook, IsTakenOver, FailsOpening, shut, given_back, untold, Places, IsLetGo, IsForeignOr, whole_but, IsGivenBack, HasStore, LacksStore, nothing_met}
 pub use Rattle.zeb_program.specs.Says.{SaysText, Says}
 pub use Rattle.zeb_program.specs.ScriptAnswers.{AnswersStopped, AreConditionsIn, AreScriptConditions, HoldsNothing, RunsFromNothing, EndsScript}
 pub use Rattle.zeb_program.specs.Scripts.{BeginsRegister, after_lines, DividesAt, HasNoDivider, line_at, IsDivider}
 pub use Rattle.zeb_program.specs.Serving.{AnswersFrom, ServesTask}
+pub use Rattle.zeb_program.specs.Sinks.{KnownSink, SendsBoth, Sent}
+pub use Rattle.zeb_program.specs.PrivateSinks.{Sends}
 pub use Rattle.zeb_program.specs.Statuses.{greater, refusal_status, EndsWith, fault_status, status_code, closing_status, IsFaultStatus}
 pub use Rattle.zeb_program.specs.TaskAnswers.{AreTold, ReadsWhole, AnswersOn, AnswersTask, paths_of, AnalysesFiles, AnswersCommand}
-pub use Rattle.zeb_program.specs.Unanswered.{TellsUnanswered, IsToldSince, TellsLineOf}
+pub use Rattle.zeb_program.specs.Unanswered.{TellsNamed, TellsUnanswered, IsToldSince, TellsLineOf}
 pub use Rattle.zeb_program.specs.WalkedFiles.{WalksFrom, AreTexts, FindsFiles, FindsAll, FindsNthFile, WalksOver}
 pub use Rattle.zeb_program.specs.Warnings.{records_in, unmarked_by, unmarked_from, unmarked_of, MayWarn, WarnsOf, warning_bytes, warning_of, WarnsBelow}
 pub use Rattle.zeb_program.specs.WordAnswers.{TellsApart, WarnsClosed, misused, EndsWords}

@@ -1,41 +1,34 @@
 -- The lines of a failure, one below the other.
-use Rattle.zeb_program.proofs.Cited.{◌≡◌, ◌∙◌, ℕ, Bool, true, false, List, [], ◌∷◌, ◌++◌, ap, append_assoc, refl, subst, sym, option_map, option_map_or, Global, StoreCause, Writes, IsCauseOf, TellsCaused, TellsFault, TellsPlaced, register_lines, cause_lines, Cause, Fault, Status}
-use Rattle.std.specs.Prelude.{Option, Some, None, String, codes, if◌then◌else◌}
+use Rattle.zeb_program.proofs.Cited.{◌≡◌, ◌∙◌, ℕ, Bool, true, false, List, [], ◌∷◌, ◌++◌, ap, append_assoc, refl, subst, sym, option_map, option_map_or, Global, StoreCause, KnownSink, Sends, Sent, IsCauseOf, TellsCaused, TellsFault, TellsNamed, NamesRegister, register_lines, cause_lines, Cause, Fault, Status}
+use Rattle.std.specs.Prelude.{Option, Some, String, codes, if◌then◌else◌}
 use Rattle.std.specs.Fmt.{decimal}
-use Rattle.std.specs.Io.KnownBytes.{Appends, Keeps}
-use Rattle.std.proofs.KnownBytes.{Appends-nil, Appends-trans}
 use Rattle.zeb_program.specs.declared.failures.Cause.TheVariants.{Store}
 use Rattle.zeb_program.specs.Diagnostics.{is_placed, meaning_lines, meaning_of}
+use Rattle.zeb_program.proofs.SinkLemmas.{sent_none, sent_then}
 
-pub failure_lines : (old mid new : Option (List ℕ)) (why : Fault) (status : Status) (cause : Option Cause) → Writes old mid (λ line. TellsFault why line status) → IsCauseOf why cause
-    → Appends mid new (cause_lines cause) → Writes old new (λ bytes. TellsCaused why cause bytes status)
-failure_lines old mid new why status cause wrote fits more =
-    (wrote.0 ++ cause_lines cause, (wrote.0, wrote.1, fits, refl), Appends-trans old mid new wrote.0 (cause_lines cause) wrote.2 more)
+module _ {W : Type 0} (old mid new : KnownSink W) where
+  pub failure_lines : (why : Fault) (status : Status) (cause : Option Cause) → Sends old mid (λ line. TellsFault why line status) → IsCauseOf why cause → Sent mid new (cause_lines cause)
+      → Sends old new (λ bytes. TellsCaused why cause bytes status)
+  failure_lines why status cause wrote fits more =
+      (wrote.0 ++ cause_lines cause, (wrote.0, wrote.1, fits, refl), sent_then old mid new wrote.0 (cause_lines cause) wrote.2 more)
 
--- and below them the path of a register
-pub placed_lines : (old mid new : Option (List ℕ)) (why : Fault) (status : Status) (cause : Option Cause) (register : Option (String Global)) (Names : Option (String Global) → Type 0) → Names register
-    → Writes old mid (λ bytes. TellsCaused why cause bytes status) → Appends mid new (register_lines register) → Writes old new (λ bytes. (told : Option (String Global)) × Names told × TellsPlaced why cause told bytes status)
-placed_lines old mid new why status cause register Names names wrote more =
-    (wrote.0 ++ register_lines register, (register, names, (wrote.0, wrote.1, refl)), Appends-trans old mid new wrote.0 (register_lines register) wrote.2 more)
+  -- and below them the path of a register
+  pub placed_lines : (told : Option (List ℕ)) (config : String Global) (why : Fault) (status : Status) (cause : Option Cause) (register : Option (String Global)) → NamesRegister told config why register
+      → Sends old mid (λ bytes. TellsCaused why cause bytes status) → Sent mid new (register_lines register) → Sends old new (λ bytes. TellsNamed told config why cause bytes status)
+  placed_lines told config why status cause register names wrote more =
+      (wrote.0 ++ register_lines register, (register, names, (wrote.0, wrote.1, refl)), sent_then old mid new wrote.0 (register_lines register) wrote.2 more)
 
-pub no_cause : (cause : Option Cause) (old : Option (List ℕ)) → cause ≡ None → Appends old old (cause_lines cause)
-no_cause cause old is = subst (λ it. Appends old old (cause_lines it)) (sym is) (Appends-nil old)
+  -- a line, and below it why the store failed
+  pub line_so : (line : List ℕ) (met : Option StoreCause) (cause : Option Cause) → cause ≡ option_map Store met → Sent old mid line → Sent mid new (cause_lines cause) → Sent old new (line ++ cause_lines (option_map Store met))
+  line_so line met cause is wrote more = sent_then old mid new line (cause_lines (option_map Store met)) wrote (subst (λ it. Sent mid new (cause_lines it)) is more)
 
-pub one_cause : (cause : Option Cause) (this : Cause) (old new : Option (List ℕ)) → cause ≡ Some this → Appends old new (cause_lines (Some this)) → Appends old new (cause_lines cause)
-one_cause cause this old new is wrote = subst (λ it. Appends old new (cause_lines it)) (sym is) wrote
+module _ {W : Type 0} (old new : KnownSink W) where
+  -- what is told of how a store was closed
+  pub part_told : (whole : Bool) (lines : List ℕ) → whole ≡ false → Sent old new lines → Sent old new (if whole then [] else lines)
+  part_told whole lines is wrote = subst (λ it. Sent old new (if it then [] else lines)) (sym is) wrote
 
--- a line, and below it why the store failed
-pub line_so : (line : List ℕ) (met : Option StoreCause) (cause : Option Cause) (old mid new : Option (List ℕ)) → cause ≡ option_map Store met → Appends old mid line → Appends mid new (cause_lines cause)
-    → Appends old new (line ++ cause_lines (option_map Store met))
-line_so line met cause old mid new is wrote more =
-    Appends-trans old mid new line (cause_lines (option_map Store met)) wrote (subst (λ it. Appends mid new (cause_lines it)) is more)
-
--- what is told of how a store was closed
-pub log_told : (whole : Bool) (old new : Option (List ℕ)) (lines : List ℕ) → whole ≡ false → Appends old new lines → (whole ≡ true → Keeps old new) × (whole ≡ false → Appends old new lines)
-log_told whole old new lines is wrote = (λ other. absurd (false_is_not_true (sym is ∙ other)), λ _. wrote)
-  where
-    false_is_not_true : false ≡ true → ⊥
-    false_is_not_true same = cc same
+pub whole_told : {W : Type 0} (old : KnownSink W) (whole : Bool) (lines : List ℕ) → whole ≡ true → Sent old old (if whole then [] else lines)
+whole_told old whole lines is = subst (λ it. Sent old old (if it then [] else lines)) (sym is) (sent_none old)
 
 -- ---- the meaning of a diagnostic
 

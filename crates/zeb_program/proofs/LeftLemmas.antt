@@ -1,13 +1,12 @@
 -- What becomes of the register's store, by what a task, a batch and a shell say of it.
-use Rattle.zeb_program.proofs.Cited.{Held, ◌≡◌, ◌∙◌, ◌⊎◌, ℕ, Bool, false, List, [], ap, inl, inr, refl, subst, sym, AllocError, Global, Conditions, Init, Reply, Closed, StoreCause, Directive, DoesBatch, DoesShell, DoesTask, starved_line, EndsLeaving, LeavesAt, unused, failed, used, LeavesByBatch, LeavesByShell, LeavesByTask, LeavesStore, LeavesUnder, OpensNone, TellsOrStarves, TellsRefused, IsOpeningFault, GivesClosed, GivesFor, Grows, BeginsRegister, status_code, IsToldSince, TellsLineOf, IsOwnOr, Performs, ReadsAt, unread, performed, ServesUnder, answered, unopened, none_made, StopsOpening, StopsReading, not_read, not_opened, Cause, Failure, Fault, Told, Status, Failed, Task, Ask, Format, LayoutChoice, Unsaid}
-use Rattle.std.specs.Prelude.{IfErr, IfOk, IsErr, OnErr, Option, Result, Ok, Err, String, ⊤}
-use Rattle.std.specs.Io.KnownBytes.{Appends, Keeps}
-use Rattle.std.proofs.KnownBytes.{Appends-kept, Appends-nil}
+use Rattle.zeb_program.proofs.Cited.{Held, ◌≡◌, ◌∙◌, ◌⊎◌, ℕ, Bool, List, [], ap, inl, inr, refl, subst, sym, AllocError, Global, Conditions, Init, Reply, Closed, StoreCause, Directive, DoesBatch, DoesShell, DoesTask, starved_line, EndsLeaving, LeavesAt, unused, failed, used, LeavesByBatch, LeavesByShell, LeavesByTask, LeavesStore, LeavesUnder, OpensNone, TellsOrStarves, TellsRefused, IsOpeningFault, GivesClosed, GivesFor, BeginsRegister, KnownSink, Sends, Sent, TellsStarved, status_code, IsToldSince, TellsLineOf, IsOwnOr, Performs, ReadsAt, unread, performed, ServesUnder, answered, unopened, none_made, StopsOpening, StopsReading, not_read, not_opened, Cause, Failure, Fault, Told, Status, Failed, Task, Ask, Format, LayoutChoice, Unsaid}
+use Rattle.std.specs.Prelude.{IfErr, IsErr, Option, Result, Ok, Err, String, ⊤}
 use Rattle.zeb_program.specs.Errands.{choice_of}
 use Rattle.zeb_program.specs.LeftStores.{left_alone, left_by_task, left_by_batch, left_by_shell}
 use Rattle.zeb_program.specs.Registers.{HasStore, Places, kept, none}
 use Rattle.zeb_program.specs.declared.faults.Fault.TheVariants as fault
 use Rattle.zeb_program.specs.declared.performing.Performed.{Performed}
+use Rattle.zeb_program.proofs.SinkLemmas.{sent_still}
 use Rattle.zeb_program.proofs.ToldLemmas.{told_further, told_last}
 use Rattle.zeb_program.proofs.WordRunLemmas.{from_kept}
 
@@ -154,31 +153,21 @@ module _ {S : Type 0} (at : Places S) (ended : Result Status AllocError) (Said H
 -- ---- the end of a run
 
 -- where memory ran out for the program itself, that is told behind what was written, and is the status
-pub ends_leaving : {V S : Type 0} (at : Places S) (words : List (List ℕ)) (given old : Option (List ℕ)) (contents : V → Option (List ℕ)) (has_failed : V → Bool) (mid next : V) (new : Option (List ℕ)) (last_failed : Bool)
-    (r : Result Status AllocError) (met last : Status) (code : ℕ)
-    → LeavesStore at words given r (IsToldSince (has_failed mid) old (contents mid)) → OnErr r (has_failed mid ≡ false → Grows old (contents mid))
-    → IfOk r (λ status. (met ≡ status) × (next ≡ mid)) → OnErr r ((met ≡ Failed) × (has_failed next ≡ false → Appends (contents mid) (contents next) starved_line))
-    → (has_failed next ≡ false → has_failed mid ≡ false) → (last_failed ≡ false → has_failed next ≡ false) → (last_failed ≡ false → Keeps (contents next) new)
-    → (last ≡ met) ⊎ (last ≡ Failed) → code ≡ status_code last → EndsLeaving at words given code (IsToldSince last_failed old new)
-ends_leaving at words given old contents has_failed mid next new last_failed (Ok status) met last code left grows same starved sound quiet stays ends is = (
-  Ok status,
-  store_kept at (Ok status) (IsToldSince (has_failed mid) old (contents mid)) (IsToldSince last_failed old new)
-      (λ line said. told_further (has_failed mid) last_failed old (contents mid) new [] line (λ whole. sound (quiet whole)) wrote said) words given left,
-  tt,
-)
+pub ends_leaving : {V S : Type 0} (at : Places S) (words : List (List ℕ)) (given : Option (List ℕ)) (old mid next new : KnownSink V) (first : List ℕ) (r : Result Status AllocError) (met last : Status) (code : ℕ)
+    → LeavesStore at words given r (IsToldSince old mid) → Sent old mid first → Sends mid next (λ told. TellsStarved r told met) → Sent next new []
+    → (last ≡ met) ⊎ (last ≡ Failed) → code ≡ status_code last → EndsLeaving at words given code (IsToldSince old new)
+ends_leaving at words given old mid next new first r met last code left sent tells passed ends is = go r left tells.1
   where
-    wrote : last_failed ≡ false → Appends (contents mid) new []
-    wrote = λ whole. Appends-kept (contents mid) (contents mid) new [] (Appends-nil (contents mid)) (subst (λ it. Keeps (contents it) new) same.1 (stays whole))
-ends_leaving at words given old contents has_failed mid next new last_failed (Err e) met last code left grows same starved sound quiet stays ends is = (
-  Err e,
-  store_kept at (Err e) (IsToldSince (has_failed mid) old (contents mid)) (IsToldSince last_failed old new)
-      (λ line said. told_further (has_failed mid) last_failed old (contents mid) new starved_line line (λ whole. sound (quiet whole)) wrote said) words given left,
-  (number ends, told_last last_failed old (contents mid) new starved_line (λ whole. grows (sound (quiet whole))) wrote),
-)
-  where
-    wrote : last_failed ≡ false → Appends (contents mid) new starved_line
-    wrote = λ whole. Appends-kept (contents mid) (contents next) new starved_line (starved.1 (quiet whole)) (stays whole)
+    all : Sent mid new tells.0
+    all = sent_still mid next new tells.0 tells.2 passed
 
-    number : (last ≡ met) ⊎ (last ≡ Failed) → code ≡ status_code Failed
-    number (inl it) = is ∙ ap status_code (it ∙ starved.0)
-    number (inr it) = is ∙ ap status_code it
+    kept : (r : Result Status AllocError) → LeavesStore at words given r (IsToldSince old mid) → LeavesStore at words given r (IsToldSince old new)
+    kept r left = store_kept at r (IsToldSince old mid) (IsToldSince old new) (λ line said. told_further old mid new tells.0 all line said) words given left
+
+    number : met ≡ Failed → (last ≡ met) ⊎ (last ≡ Failed) → code ≡ status_code Failed
+    number out (inl it) = is ∙ ap status_code (it ∙ out)
+    number out (inr it) = is ∙ ap status_code it
+
+    go : (r : Result Status AllocError) → LeavesStore at words given r (IsToldSince old mid) → TellsStarved r tells.0 met → EndsLeaving at words given code (IsToldSince old new)
+    go (Ok status) left same = (Ok status, kept (Ok status) left, tt)
+    go (Err e) left (out, line) = (Err e, kept (Err e) left, (number out ends, told_last old mid new first starved_line sent (subst (λ it. Sent mid new it) line all)))

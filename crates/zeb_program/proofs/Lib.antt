@@ -26,8 +26,8 @@ pub mod SessionLemmas
 pub mod ShellLemmas
 pub mod ShellTextLemmas
 pub mod ShownLemmas
+pub mod SinkLemmas
 pub mod StatusLemmas
-pub mod StopLemmas
 pub mod TaskLemmas
 pub mod ToldLemmas
 pub mod WarningLemmas

@@ -1,5 +1,5 @@
 -- What is written for a command, a change by a path and a line is their answer on any tables.
-use Rattle.zeb_program.proofs.Cited.{◌≡◌, arith, inl, inr, ℕ, Bool, List, Vec, ap, map, refl, subst, sym, ◌≢◌, Option, Some, Result, Ok, Err, IfErr, OnErr, OnOk, String, string_bytes, Global, State, Survives, Trees, Directive, ChangesNothing, Format, version_of, Conditions, Refusal, Damaged, Store, Kind, Limits, Holdings, name_bytes, HasLines, IsAnalysed, answer_of, CommitsBy, Endures, TakesFiles, ServesBy, Command, Reply, Fault, Line, ChangesBy, AnalysesOver, LeavesAlone, PathsLast, PathsLeave, PathsOver, ServesOver, TaskOver, AreTold, ◌⊎◌, MatchResult, OutOfMemory, ReadFault, GoesByTexts, Tells, AreFilesOf, ChangesOver, IsAnalysisOver, IsUntoldNth, IsUnread, IsUnreadAt, FindsAll, FindsFiles, Task}
+use Rattle.zeb_program.proofs.Cited.{◌≡◌, arith, inl, inr, ℕ, Bool, List, Vec, ap, map, refl, subst, sym, ◌≢◌, Option, Some, Result, Ok, Err, IfErr, OnErr, OnOk, String, string_bytes, Global, State, Survives, Trees, Directive, ChangesNothing, Format, version_of, Conditions, Refusal, Damaged, Store, Kind, Limits, Holdings, name_bytes, HasLines, IsAnalysed, answer_of, CommitsBy, Endures, TakesFiles, ServesBy, Command, Reply, Fault, ChangesBy, AnalysesOver, LeavesAlone, PathsLast, PathsLeave, PathsOver, ServesOver, TaskOver, AreTold, ◌⊎◌, MatchResult, OutOfMemory, ReadFault, GoesByTexts, Tells, AreFilesOf, ChangesOver, IsAnalysisOver, IsUntoldNth, IsUnread, IsUnreadAt, FindsAll, FindsFiles, Task}
 use Rattle.sqlite.proofs.StateLemmas.{survives_weaker}
 use Rattle.zeb_change.specs.Reading.{NoneFailed}
 use Rattle.zeb_image.specs.Image.{Keeps}

@@ -1,5 +1,5 @@
 -- The lines of a text: whether they begin a register, and whether the files that they name are told.
-use Rattle.zeb_program.proofs.Cited.{◌≡◌, ◌∙◌, inl, inr, ℕ, zero, suc, List, [], ap, subst, sym, refl, Option, Some, codes, string_bytes, PathChange, Path, IsLineUntold, first_line, after_first_line, AreFilesTold, IsLineTold, HasPath, NamesPath, BeginsRegister, after_lines, without_blanks}
+use Rattle.zeb_program.proofs.Cited.{◌≡◌, ◌∙◌, inl, inr, ℕ, zero, suc, List, [], ap, subst, sym, refl, Option, Some, codes, string_bytes, PathChange, IsLineUntold, first_line, after_first_line, AreFilesTold, IsLineTold, HasPath, NamesPath, BeginsRegister, after_lines, without_blanks}
 
 -- ---- the lines of a text
 

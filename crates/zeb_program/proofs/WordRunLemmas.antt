@@ -1,55 +1,21 @@
 -- What comes of words, from the profile that they name and the register in the store at its path.
-use Rattle.zeb_program.proofs.Cited.{Held, state, HasCleanDisk, State, ◌≡◌, ◌≢◌, ◌⊎◌, ℕ, Bool, true, false, List, inl, inr, refl, subst, sym, Appends-kept, Keeps-refl, Keeps-trans, option_map, AllocError, Global, Conditions, Refusal, reply_text, Init, Reply, Holdings, nothing_yet, Holding, Tells, Closed, StoreCause, Directive, Writes, TellsClosed, TellsLeft, DoesOnNothing, DoesTask, RunsText, ServesText, Explains, ExplainsUnread, NamesRegister, refusal_cause, IsOpeningFault, CarriesOut, StandsFor, ExplainsRun, GivesClosed, GivesFor, OpensUnder, RunsOnNothing, ServesHeld, ServesOnNothing, TakesIn, ReadsProfile, AnswersStopped, AreConditionsIn, AreScriptConditions, HoldsNothing, RunsFromNothing, BeginsRegister, AnswersFrom, ServesTask, closing_status, AnswersOn, AnswersTask, ReadsWhole, paths_of, TellsUnanswered, WarnsOf, TellsApart, WarnsClosed, IsText, Performs, ReadsAt, RunsBatch, batch_stopped, batch_ran, RunsLines, on_store, in_memory, no_memory, no_register, RunsShell, shell_stopped, shell_ran, Cause, Failure, Fault, Told, Status, Served, Task, Ask, Format, packed_blocks, LayoutChoice, Unsaid}
-use Rattle.std.specs.Prelude.{Option, Some, None, Result, Ok, Err, IfOk, IfErr, IfSome, OnErr, String, string_bytes}
-use Rattle.std.specs.Io.KnownBytes.{Appends, Keeps}
+use Rattle.zeb_program.proofs.Cited.{Held, state, HasCleanDisk, State, ◌≡◌, ◌≢◌, ◌⊎◌, ◌++◌, ℕ, Bool, true, List, [], inl, inr, refl, subst, sym, option_map, AllocError, Global, Conditions, Refusal, Init, Reply, Holdings, nothing_yet, Holding, Tells, Closed, StoreCause, Directive, closing_lines, leaving_lines, DoesOnNothing, DoesTask, Explains, ExplainsUnread, NamesRegister, refusal_cause, IsOpeningFault, CarriesOut, StandsFor, ExplainsRun, GivesClosed, GivesFor, OpensUnder, RunsOnNothing, ServesHeld, ServesOnNothing, TakesIn, ReadsProfile, AreConditionsIn, AreScriptConditions, HoldsNothing, BeginsRegister, AnswersFrom, ServesTask, closing_status, AnswersOn, AnswersTask, ReadsWhole, paths_of, TellsUnanswered, WarnsOf, warning_bytes, TellsApart, Performs, ReadsAt, RunsLines, on_store, in_memory, no_memory, no_register, StopsLines, part_in_memory, no_line, Cause, Failure, Fault, Told, Status, Served, Task, Ask, Format, packed_blocks, LayoutChoice, Unsaid, Shows, ShowsBatch, ⊤}
+use Rattle.std.specs.Prelude.{Option, Some, None, Result, Ok, Err, IfOk, IfErr, MatchResult, String, string_bytes}
+use Rattle.sqlite.specs.Files.{file_state, over_files}
 use Rattle.sqlite.specs.Store.{Ghosts}
 use Rattle.zeb_program.specs.declared.faults.Fault.TheVariants as fault
 use Rattle.zeb_program.specs.declared.performing.Performed.{Performed}
 use Rattle.zeb_program.specs.declared.performing.Unopened.{Unopened}
 use Rattle.zeb_program.specs.declared.tasks.Served.TheVariants.{Replied, Shown}
 use Rattle.zeb_program.specs.FaultAnswers.{GivesAnswer, IsOpeningFailure, IsUnreadWhole, Reaches}
-use Rattle.zeb_program.specs.FaultLines.{TellsCaused, left_lines, unclosed_lines}
+use Rattle.zeb_program.specs.FaultLines.{TellsCaused}
 use Rattle.zeb_program.specs.Registers.{ClosesStore, FromStore, HasStore, LacksStore, kept, none, Places, nothing_met}
-use Rattle.zeb_program.specs.WordRuns.{ServesUnder, answered, unopened, none_made, IsOwnOr, StopsOpening, StopsReading, StopsTask, not_opened, WritesReply}
+use Rattle.zeb_program.specs.ScriptAnswers.{MemoryConnection}
+use Rattle.zeb_program.specs.WordRuns.{ServesUnder, answered, unopened, none_made, IsOwnOr, StopsOpening, StopsReading, StopsTask, not_opened, not_read, StopsShell, shell_silent}
 use Rattle.zeb_paths.specs.declared.paths.Asked.TheVariants.{Text}
-use Rattle.zeb_program.proofs.ScriptAnswerLemmas.{RunsFromNothing-kept, RunsText-kept, Writes-kept, silent_batch}
-use Rattle.zeb_program.proofs.ShellTextLemmas.{ServesText-kept}
 use Rattle.zeb_program.proofs.ExplanationLemmas.{fails_so, opening_explained}
+use Rattle.zeb_program.proofs.ScriptAnswerLemmas.{part_from_nothing, run_from_nothing}
 use Rattle.zeb_program.proofs.TaskLemmas.{over_nothing, task_serves}
-
--- ---- what is passed on stays what it was
-
-pub TellsClosed-kept : (old mid new : Option (List ℕ)) (closed : Closed) → Keeps mid new → TellsClosed old mid closed → TellsClosed old new closed
-TellsClosed-kept old mid new closed stays t =
-    (λ whole. Keeps-trans old mid new (t.0 whole) stays, λ part. Appends-kept old mid new (unclosed_lines closed.cause) (t.1 part) stays)
-
-pub TellsLeft-kept : (old mid new : Option (List ℕ)) (closed : Closed) → Keeps mid new → TellsLeft old mid closed → TellsLeft old new closed
-TellsLeft-kept old mid new closed stays t =
-    (λ whole. Keeps-trans old mid new (t.0 whole) stays, λ part. Appends-kept old mid new (left_lines closed.cause) (t.1 part) stays)
-
-pub TellsUnanswered-kept : (told : Option (List ℕ)) (config : String Global) (why : Fault) (cause : Option Cause) (closed : Closed) (old mid new : Option (List ℕ)) (status : Status) → Keeps mid new
-    → TellsUnanswered told config why cause closed old mid status → TellsUnanswered told config why cause closed old new status
-TellsUnanswered-kept told config why cause closed old mid new status stays t = (t.0, t.1, t.2, t.3, t.4, TellsLeft-kept t.1 mid new closed stays t.5)
-
-WritesReply-kept : {S : Type 0} (at : Places S) (choice : LayoutChoice) (config : String Global) (task : Task) (closed : Closed) (old mid new : Option (List ℕ)) → Keeps mid new → WritesReply at choice config task closed old mid → WritesReply at choice config task closed old new
-WritesReply-kept at choice config task closed old mid new stays w = (w.0, w.1, Appends-kept old mid new (reply_text w.0) w.2 stays)
-
-pub TellsApart-kept : {S : Type 0} (at : Places S) (choice : LayoutChoice) (config : String Global) (task : Task) (old mid new fault_old fault_mid fault_new : Option (List ℕ)) (status : Status) → Keeps mid new → Keeps fault_mid fault_new
-    → TellsApart at choice config task old mid fault_old fault_mid status → TellsApart at choice config task old new fault_old fault_new status
-TellsApart-kept at choice config task old mid new fault_old fault_mid fault_new status stays fault_kept (inl (closed, is, writes, warned)) =
-    inl (closed, is, WritesReply-kept at choice config task closed old mid new stays writes, (warned.0, warned.1, TellsClosed-kept warned.0 fault_mid fault_new closed fault_kept warned.2))
-TellsApart-kept at choice config task old mid new fault_old fault_mid fault_new status stays fault_kept (inr (same, (why, cause, closed, comes, explains, tells))) =
-    inr (
-      Keeps-trans old mid new same stays,
-      (
-        why,
-        cause,
-        closed,
-        comes,
-        explains,
-        TellsUnanswered-kept (at.sees.bytes (string_bytes config)) config why cause closed fault_old fault_mid fault_new status fault_kept tells,
-      ),
-    )
 
 -- what is said of a store's tables
 pub from_kept : {S : Type 0} (at : Places S) (choice : LayoutChoice) (format : Format) (profile : List Directive) (closed : Closed) (P Q : Held S → Held S → Type 0) → ((first last : Held S) → P first last → Q first last)
@@ -78,45 +44,6 @@ from_taken at choice format profile closed held last P takes clean does ends = r
   does = does;
   ends = ends;
 }
-
-RunsLines-kept : {S : Type 0} (at : Places S) (config : String Global) (profile : List Directive) (text : List ℕ) (old mid new fault_old fault_mid fault_new : Option (List ℕ)) (status : Status) → Keeps mid new → Keeps fault_mid fault_new
-    → RunsLines at config profile text old mid fault_old fault_mid status → RunsLines at config profile text old new fault_old fault_new status
-RunsLines-kept at config profile text old mid new fault_old fault_mid fault_new _ same fault_same (on_store format c here closed under may from closes) =
-    on_store format c here closed under may
-    (from_kept at Unsaid format profile closed (RunsText at.store at.sees format c 0 text old mid here) (RunsText at.store at.sees format c 0 text old new here) (λ first last. RunsText-kept at.store at.sees format c 0 text old mid new here first last same) from)
-    (TellsClosed-kept fault_old fault_mid fault_new closed fault_same closes)
-RunsLines-kept at config profile text old mid new fault_old fault_mid fault_new status same fault_same (in_memory lacks unmade still quiet opened) =
-    in_memory lacks unmade still (Keeps-trans fault_old fault_mid fault_new quiet fault_same) (RunsFromNothing-kept at.sees profile 0 text old mid new status same opened)
-RunsLines-kept at config profile text old mid new fault_old fault_mid fault_new status same fault_same (no_memory {why = why} lacks unmade still failure quiet tells) =
-    no_memory lacks unmade still failure (Keeps-trans old mid new quiet same) (Writes-kept fault_old fault_mid fault_new (λ bytes. TellsCaused (fault.Refused why) None bytes status) fault_same tells)
-RunsLines-kept at config profile text old mid new fault_old fault_mid fault_new status same fault_same (no_register {why = why} {closed = closed} may failure quiet tells) =
-    no_register may failure (Keeps-trans old mid new quiet same)
-    (TellsUnanswered-kept (at.sees.bytes (string_bytes config)) config (fault.Refused why) (refusal_cause why closed.cause) closed fault_old fault_mid fault_new status fault_same tells)
-
-pub RunsBatch-kept : {S : Type 0} (at : Places S) (config : String Global) (given : Option (List ℕ)) (failed : Bool) (old mid new fault_old fault_mid fault_new : Option (List ℕ)) (status : Status) → Keeps mid new → Keeps fault_mid fault_new
-    → RunsBatch at config given failed old mid fault_old fault_mid status → RunsBatch at config given failed old new fault_old fault_new status
-RunsBatch-kept at config given failed old mid new fault_old fault_mid fault_new status same fault_same (batch_stopped why cause still is quiet tells) =
-    batch_stopped why cause still is (Keeps-trans old mid new quiet same) (Writes-kept fault_old fault_mid fault_new (λ bytes. TellsCaused why cause bytes status) fault_same tells)
-RunsBatch-kept at config given failed old mid new fault_old fault_mid fault_new status same fault_same (batch_ran profile text read is runs) =
-    batch_ran profile text read is (RunsLines-kept at config profile text old mid new fault_old fault_mid fault_new status same fault_same runs)
-
--- what is said of an input that is told
-pub some_kept : (given : Option (List ℕ)) (P Q : List ℕ → Type 0) → ((text : List ℕ) → P text → Q text) → IfSome given P → IfSome given Q
-some_kept None P Q so h = tt
-some_kept (Some text) P Q so h = so text h
-
-pub RunsShell-kept : {S : Type 0} (at : Places S) (config : String Global) (given left : Option (List ℕ)) (failed : Bool) (old mid new fault_old fault_mid fault_new : Option (List ℕ)) (status : Status) → Keeps mid new → Keeps fault_mid fault_new
-    → RunsShell at config given left failed old mid fault_old fault_mid status → RunsShell at config given left failed old new fault_old fault_new status
-RunsShell-kept at config given left failed old mid new fault_old fault_mid fault_new status same fault_same (shell_stopped why cause closed is unread quiet tells) =
-    shell_stopped why cause closed is unread (Keeps-trans old mid new quiet same)
-    (TellsUnanswered-kept (at.sees.bytes (string_bytes config)) config why cause closed fault_old fault_mid fault_new status fault_same tells)
-RunsShell-kept at config given left failed old mid new fault_old fault_mid fault_new _ same fault_same (shell_ran profile format c between here closed read under from closes) =
-    shell_ran profile format c between here closed read under
-    (from_kept at Unsaid format profile closed (λ first last. IfSome given (λ text. ServesText at.store at.sees format c text left failed old mid fault_old between here first last))
-    (λ first last. IfSome given (λ text. ServesText at.store at.sees format c text left failed old new fault_old between here first last))
-    (λ first last. some_kept given (λ text. ServesText at.store at.sees format c text left failed old mid fault_old between here first last) (λ text. ServesText at.store at.sees format c text left failed old new fault_old between here first last)
-    (λ text. ServesText-kept at.store at.sees format c text left failed old mid new fault_old between here first last same)) from)
-    (TellsClosed-kept between fault_mid fault_new closed fault_same closes)
 
 -- ---- a task
 
@@ -218,12 +145,12 @@ served_nothing at profile task c held last own answer under empty clean done is 
 -- ---- what is told of a task
 
 -- of one that is answered
-pub told_done : {S : Type 0} (at : Places S) (choice : LayoutChoice) (config : String Global) (task : Task) (old new fault_old fault_new : Option (List ℕ)) (status : Status) (r : Performed) (told : Told) (Why : Option StoreCause → Failure → Type 0)
-    → r.told ≡ Ok told → GivesClosed r (Performs at choice config task) Why → status ≡ closing_status r.closed → Appends old new told.text.items → WarnsClosed at.tells at.sees task r.closed fault_old fault_new
-    → TellsApart at choice config task old new fault_old fault_new status
-told_done at choice config task old new fault_old fault_new status r told Why is gives closing wrote warns =
+pub told_done : {S : Type 0} (at : Places S) (choice : LayoutChoice) (config : String Global) (task : Task) (status : Status) (r : Performed) (told : Told) (Why : Option StoreCause → Failure → Type 0)
+    → r.told ≡ Ok told → GivesClosed r (Performs at choice config task) Why → status ≡ closing_status r.closed → WarnsOf at.tells at.sees task (option_map string_bytes told.warning)
+    → TellsApart at choice config task told.text.items (warning_bytes (option_map string_bytes told.warning) ++ closing_lines r.closed) status
+told_done at choice config task status r told Why is gives closing warns =
     let comes = subst (λ it. GivesFor it (Performs at choice config task r.closed)) is gives.0 in
-    inl (r.closed, closing, (comes.0, comes.2, subst (Appends old new) comes.1 wrote), warns)
+    inl (r.closed, closing, (comes.0, comes.2, comes.1), (option_map string_bytes told.warning, warns, refl))
 
 -- it warns as is said of what is told
 pub told_warns : (tells : List ℕ → Option (List ℕ)) (at : Tells) (task : Task) (r : Result Told Failure) (told : Told) → r ≡ Ok told → IfOk r (λ it. WarnsOf tells at task (option_map string_bytes it.warning)) → WarnsOf tells at task (option_map string_bytes told.warning)
@@ -243,101 +170,70 @@ named_so tells config named why None same names = λ is.
     renamed (tells (string_bytes config)) config named n.0 n.1 (subst (λ bytes. ReadsProfile (tells bytes) named (Err n.0)) same n.2)
 named_so tells config named why (Some path) same names = subst (λ bytes. NamesRegister (tells bytes) config why (Some path)) same names
 
-pub unanswered_so : (tells : List ℕ → Option (List ℕ)) (config named : String Global) (why : Fault) (cause : Option Cause) (closed : Closed) (old new : Option (List ℕ)) (status : Status) → string_bytes named ≡ string_bytes config
-    → TellsUnanswered (tells (string_bytes named)) named why cause closed old new status → TellsUnanswered (tells (string_bytes config)) config why cause closed old new status
-unanswered_so tells config named why cause closed old new status same t =
-    (t.0, t.1, t.2, t.3, (t.4.0, (t.4.1.0, named_so tells config named why t.4.1.0 same t.4.1.1, t.4.1.2), t.4.2), t.5)
+pub unanswered_so : (tells : List ℕ → Option (List ℕ)) (config named : String Global) (why : Fault) (cause : Option Cause) (closed : Closed) (bytes : List ℕ) (status : Status) → string_bytes named ≡ string_bytes config
+    → TellsUnanswered (tells (string_bytes named)) named why cause closed bytes status → TellsUnanswered (tells (string_bytes config)) config why cause closed bytes status
+unanswered_so tells config named why cause closed bytes status same (first, lines, is, greater, (register, names, placed), are) =
+    (first, lines, is, greater, (register, named_so tells config named why register same names, placed), are)
 
 -- of one that has no answer
-pub told_why : {S : Type 0} (at : Places S) (choice : LayoutChoice) (config named : String Global) (task : Task) (old fault_old fault_new : Option (List ℕ)) (r : Performed) (failure : Failure) (failed fault_failed : Bool) (ended : Result Status AllocError)
-    → r.told ≡ Err failure → string_bytes named ≡ string_bytes config → GivesClosed r (Performs at choice config task) (ExplainsRun at config task)
-    → IfOk ended (λ status. fault_failed ≡ false → TellsUnanswered (at.sees.bytes (string_bytes named)) named failure.fault failure.cause r.closed fault_old fault_new status)
-    → IfOk ended (λ status. failed ≡ false → fault_failed ≡ false → TellsApart at choice config task old old fault_old fault_new status)
-told_why at choice config named task old fault_old fault_new r failure failed fault_failed (Err e) is same gives tells = tt
-told_why at choice config named task old fault_old fault_new r failure failed fault_failed (Ok status) is same gives tells = λ _ sound.
-    let comes = subst (λ it. GivesFor it (Performs at choice config task r.closed)) is gives.0 in
-    let why = subst (λ it. IfErr it (ExplainsRun at config task r.closed.cause)) is gives.1 in
-    inr (Keeps-refl old, (failure.fault, failure.cause, r.closed, comes, why, unanswered_so at.sees.bytes config named failure.fault failure.cause r.closed fault_old fault_new status same (tells sound)))
+module _ {S : Type 0} (at : Places S) (choice : LayoutChoice) (config : String Global) (task : Task) (r : Performed) (failure : Failure) (is : r.told ≡ Err failure) (gives : GivesClosed r (Performs at choice config task) (ExplainsRun at config task)) (told : List ℕ) where
+  pub told_why : (named : String Global) (status : Status) → string_bytes named ≡ string_bytes config
+      → TellsUnanswered (at.sees.bytes (string_bytes named)) named failure.fault failure.cause r.closed told status → TellsApart at choice config task [] told status
+  told_why named status same tells =
+      let comes = subst (λ it. GivesFor it (Performs at choice config task r.closed)) is gives.0 in
+      let why = subst (λ it. IfErr it (ExplainsRun at config task r.closed.cause)) is gives.1 in
+      inr (refl, (failure.fault, failure.cause, r.closed, comes, why, unanswered_so at.sees.bytes config named failure.fault failure.cause r.closed told status same tells))
 
--- or for whose lines memory ran out
-pub stopped_told : {S : Type 0} (at : Places S) (choice : LayoutChoice) (config : String Global) (task : Task) (fault_old fault_new : Option (List ℕ)) (r : Performed) (failure : Failure) (fault_failed : Bool) (Same : Type 0) (ended : Result Status AllocError)
-    → r.told ≡ Err failure → Same → GivesClosed r (Performs at choice config task) (ExplainsRun at config task)
-    → OnErr ended (fault_failed ≡ false → TellsLeft fault_old fault_new r.closed) → OnErr ended (Same × (fault_failed ≡ false → StopsTask at choice config task fault_old fault_new))
-stopped_told at choice config task fault_old fault_new r failure fault_failed Same (Ok status) is same gives left = tt
-stopped_told at choice config task fault_old fault_new r failure fault_failed Same (Err e) is same gives left =
-    (same, λ sound. inr (failure.fault, r.closed, subst (λ it. GivesFor it (Performs at choice config task r.closed)) is gives.0, left sound))
+  -- or for whose lines memory ran out
+  pub stopped_told : told ≡ leaving_lines r.closed → StopsTask at choice config task told
+  stopped_told left = inr (failure.fault, r.closed, subst (λ it. GivesFor it (Performs at choice config task r.closed)) is gives.0, left)
 
 -- ---- the lines of the input
 
 -- on one in memory
-pub ran_on_nothing : (at : Tells) (profile : List Directive) (n : ℕ) (text : List ℕ) (old new fault_old : Option (List ℕ)) (failed fault_failed : Bool) (r : Result Status AllocError)
-    → IfOk r (λ status. failed ≡ false → RunsFromNothing at profile n text old new status)
-    → IfOk r (λ status. failed ≡ false → fault_failed ≡ false → RunsOnNothing at profile n text old new fault_old fault_old status)
-ran_on_nothing at profile n text old new fault_old failed fault_failed (Err e) runs = tt
-ran_on_nothing at profile n text old new fault_old failed fault_failed (Ok status) runs = λ sound _. inl (runs sound, Keeps-refl fault_old)
+pub ran_on_nothing : (at : Tells) (profile : List Directive) (n : ℕ) (text bytes : List ℕ) (c : Conditions) (first last : MemoryConnection) (r : Result Status AllocError) → AreScriptConditions profile c → HoldsNothing (file_state first)
+    → ShowsBatch over_files at packed_blocks c n text first last bytes r → RunsOnNothing at profile n text bytes [] r
+ran_on_nothing at profile n text bytes c first last (Ok status) under empty lines = inl (run_from_nothing at c profile first last n text bytes under empty status lines, refl)
+ran_on_nothing at profile n text bytes c first last (Err e) under empty lines = (inl (part_from_nothing at c profile first last n text bytes under empty e lines), refl)
 
 -- or none was opened, for this refusal
-pub refused_on_nothing : (at : Tells) (profile : List Directive) (n : ℕ) (text : List ℕ) (old fault_old fault_new : Option (List ℕ)) (why : Refusal) (failure : Failure) (failed fault_failed : Bool) (r : Result Status AllocError)
-    → IsOpeningFailure why → (failure.fault ≡ fault.Refused why) × (failure.cause ≡ None)
-    → IfOk r (λ status. fault_failed ≡ false → Writes fault_old fault_new (λ bytes. TellsCaused failure.fault failure.cause bytes status))
-    → IfOk r (λ status. failed ≡ false → fault_failed ≡ false → RunsOnNothing at profile n text old old fault_old fault_new status)
-refused_on_nothing at profile n text old fault_old fault_new why failure failed fault_failed (Err e) is same told = tt
-refused_on_nothing at profile n text old fault_old fault_new why failure failed fault_failed (Ok status) is same told = λ _ sound.
-    let named = subst (λ it. Writes fault_old fault_new (λ bytes. TellsCaused it failure.cause bytes status)) same.0 (told sound) in
-    inr (why, is, Keeps-refl old, subst (λ it. Writes fault_old fault_new (λ bytes. TellsCaused (fault.Refused why) it bytes status)) same.1 named)
+pub refused_on_nothing : (at : Tells) (profile : List Directive) (n : ℕ) (text told : List ℕ) (why : Refusal) (failure : Failure) (r : Result Status AllocError) → IsOpeningFailure why → (failure.fault ≡ fault.Refused why) × (failure.cause ≡ None)
+    → Shows (TellsCaused failure.fault failure.cause) ⊤ told r → RunsOnNothing at profile n text [] told r
+refused_on_nothing at profile n text told why failure (Ok status) is same tells =
+    let named = subst (λ it. TellsCaused it failure.cause told status) same.0 tells in
+    inr (why, is, refl, subst (λ it. TellsCaused (fault.Refused why) it told status) same.1 named)
+refused_on_nothing at profile n text told why failure (Err e) is same (silent, _) = (inr refl, silent)
 
-pub stopped_on_nothing : (at : Tells) (profile : List Directive) (n : ℕ) (text : List ℕ) (old : Option (List ℕ)) (failed : Bool) (r : Result Status AllocError)
-    → OnErr r (failed ≡ false → AnswersStopped at profile n text old old)
-stopped_on_nothing at profile n text old failed (Ok status) = tt
-stopped_on_nothing at profile n text old failed (Err e) = λ _. silent_batch at profile n text old
+module _ {S : Type 0} (at : Places S) (config : String Global) (profile : List Directive) (text bytes told : List ℕ) where
+  pub run_none : (r : Result Status AllocError) → LacksStore at profile → ¬ BeginsRegister text → at.untouched → RunsOnNothing at.sees profile 0 text bytes told r
+      → MatchResult r (RunsLines at config profile text bytes told) (λ error. StopsLines at profile text bytes told)
+  run_none (Ok status) lacks unmade still (inl (ran, quiet)) = in_memory lacks unmade still quiet ran
+  run_none (Ok status) lacks unmade still (inr (why, is, silent, tells)) = no_memory lacks unmade still is silent tells
+  run_none (Err e) lacks unmade still (stopped, quiet) = part_in_memory lacks unmade still quiet stopped
 
-nothing_run : {S : Type 0} (at : Places S) (config : String Global) (profile : List Directive) (text : List ℕ) (old new fault_old fault_new : Option (List ℕ)) (status : Status) → LacksStore at profile → ¬ BeginsRegister text → at.untouched
-    → RunsOnNothing at.sees profile 0 text old new fault_old fault_new status → RunsLines at config profile text old new fault_old fault_new status
-nothing_run at config profile text old new fault_old fault_new status lacks unmade still (inl ran) = in_memory lacks unmade still ran.1 ran.0
-nothing_run at config profile text old new fault_old fault_new status lacks unmade still (inr (why, is, same, told)) = no_memory lacks unmade still is same told
-
-pub run_none : {S : Type 0} (at : Places S) (config : String Global) (profile : List Directive) (text : List ℕ) (old new fault_old fault_new : Option (List ℕ)) (failed fault_failed : Bool) (r : Result Status AllocError)
-    → LacksStore at profile → ¬ BeginsRegister text → at.untouched → IfOk r (λ status. failed ≡ false → fault_failed ≡ false → RunsOnNothing at.sees profile 0 text old new fault_old fault_new status)
-    → IfOk r (λ status. failed ≡ false → fault_failed ≡ false → RunsLines at config profile text old new fault_old fault_new status)
-run_none at config profile text old new fault_old fault_new failed fault_failed (Err e) lacks unmade still runs = tt
-run_none at config profile text old new fault_old fault_new failed fault_failed (Ok status) lacks unmade still runs = λ sound quiet.
-    nothing_run at config profile text old new fault_old fault_new status lacks unmade still (runs sound quiet)
+  -- by the profile in a file of a path with the same bytes
+  pub lines_named : (named : String Global) (status : Status) → string_bytes named ≡ string_bytes config → RunsLines at named profile text bytes told status → RunsLines at config profile text bytes told status
+  lines_named named _ same (on_store format c here closed under may from closes) = on_store format c here closed under may from closes
+  lines_named named status same (in_memory lacks unmade still quiet opened) = in_memory lacks unmade still quiet opened
+  lines_named named status same (no_memory lacks unmade still failure quiet tells) = no_memory lacks unmade still failure quiet tells
+  lines_named named status same (no_register {why = why} {closed = closed} may failure quiet tells) =
+      no_register may failure quiet (unanswered_so at.sees.bytes config named (fault.Refused why) (refusal_cause why closed.cause) closed told status same tells)
 
 -- or none is opened
-pub run_unopened : {S : Type 0} (at : Places S) (config : String Global) (profile : List Directive) (text : List ℕ) (old fault_old fault_new : Option (List ℕ)) (why : Fault) (cause : Option Cause) (closed : Closed) (failed fault_failed : Bool) (r : Result Status AllocError)
-    → HasStore at profile ⊎ BeginsRegister text → IsOpeningFault at profile why cause closed
-    → IfOk r (λ status. fault_failed ≡ false → TellsUnanswered (at.sees.bytes (string_bytes config)) config why cause closed fault_old fault_new status)
-    → IfOk r (λ status. failed ≡ false → fault_failed ≡ false → RunsLines at config profile text old old fault_old fault_new status)
-run_unopened at config profile text old fault_old fault_new why cause closed failed fault_failed (Err e) may is tells = tt
-run_unopened at config profile text old fault_old fault_new (fault.Refused why) cause closed failed fault_failed (Ok status) may (fails, is) tells = λ _ sound.
-    no_register may fails (Keeps-refl old) (subst (λ it. TellsUnanswered (at.sees.bytes (string_bytes config)) config (fault.Refused why) it closed fault_old fault_new status) is (tells sound))
-run_unopened at config profile text old fault_old fault_new (fault.Profile file why) cause closed failed fault_failed (Ok status) may is tells = absurd is
-run_unopened at config profile text old fault_old fault_new (fault.Unreadable path) cause closed failed fault_failed (Ok status) may is tells = absurd is
-run_unopened at config profile text old fault_old fault_new fault.Memory cause closed failed fault_failed (Ok status) may is tells = absurd is
+module _ {S : Type 0} (at : Places S) (profile : List Directive) (text : List ℕ) (may : HasStore at profile ⊎ BeginsRegister text) (told : List ℕ) where
+  pub run_unopened : (config : String Global) (why : Fault) (cause : Option Cause) (closed : Closed) (status : Status) → IsOpeningFault at profile why cause closed
+      → TellsUnanswered (at.sees.bytes (string_bytes config)) config why cause closed told status → RunsLines at config profile text [] told status
+  run_unopened config (fault.Refused why) cause closed status (fails, is) tells =
+      no_register may fails refl (subst (λ it. TellsUnanswered (at.sees.bytes (string_bytes config)) config (fault.Refused why) it closed told status) is tells)
+  run_unopened config (fault.Profile file why) cause closed status is tells = absurd is
+  run_unopened config (fault.Unreadable path) cause closed status is tells = absurd is
+  run_unopened config fault.Memory cause closed status is tells = absurd is
 
--- by the profile in a file of a path with the same bytes
-lines_named : {S : Type 0} (at : Places S) (config named : String Global) (profile : List Directive) (text : List ℕ) (old new fault_old fault_new : Option (List ℕ)) (status : Status) → string_bytes named ≡ string_bytes config
-    → RunsLines at named profile text old new fault_old fault_new status → RunsLines at config profile text old new fault_old fault_new status
-lines_named at config named profile text old new fault_old fault_new _ same (on_store format c here closed under may from closes) = on_store format c here closed under may from closes
-lines_named at config named profile text old new fault_old fault_new status same (in_memory lacks unmade still quiet opened) = in_memory lacks unmade still quiet opened
-lines_named at config named profile text old new fault_old fault_new status same (no_memory lacks unmade still failure quiet tells) = no_memory lacks unmade still failure quiet tells
-lines_named at config named profile text old new fault_old fault_new status same (no_register {why = why} {closed = closed} may failure quiet tells) =
-    no_register may failure quiet (unanswered_so at.sees.bytes config named (fault.Refused why) (refusal_cause why closed.cause) closed fault_old fault_new status same tells)
-
--- a batch that isn't run
-pub batch_refused : {S : Type 0} (at : Places S) (config : String Global) (given : Option (List ℕ)) (read_failed : Bool) (old fault_old fault_new : Option (List ℕ)) (why : Fault) (cause : Option Cause) (failed fault_failed : Bool) (r : Result Status AllocError)
-    → at.untouched → StopsReading at config given read_failed why cause → IfOk r (λ status. fault_failed ≡ false → Writes fault_old fault_new (λ bytes. TellsCaused why cause bytes status))
-    → IfOk r (λ status. failed ≡ false → fault_failed ≡ false → RunsBatch at config given read_failed old old fault_old fault_new status)
-batch_refused at config given read_failed old fault_old fault_new why cause failed fault_failed (Err e) still is tells = tt
-batch_refused at config given read_failed old fault_old fault_new why cause failed fault_failed (Ok status) still is tells = λ _ sound. batch_stopped why cause still is (Keeps-refl old) (tells sound)
-
--- and one that is
-pub batch_run : {S : Type 0} (at : Places S) (config named : String Global) (given : Option (List ℕ)) (read_failed : Bool) (profile : List Directive) (text : List ℕ) (old new fault_old fault_new : Option (List ℕ)) (failed fault_failed : Bool) (r : Result Status AllocError)
-    → string_bytes named ≡ string_bytes config → ReadsAt at config (Ok profile) → IsText given text → IfOk r (λ status. failed ≡ false → fault_failed ≡ false → RunsLines at named profile text old new fault_old fault_new status)
-    → IfOk r (λ status. failed ≡ false → fault_failed ≡ false → RunsBatch at config given read_failed old new fault_old fault_new status)
-batch_run at config named given read_failed profile text old new fault_old fault_new failed fault_failed (Err e) same read is runs = tt
-batch_run at config named given read_failed profile text old new fault_old fault_new failed fault_failed (Ok status) same read is runs = λ sound quiet.
-    batch_ran profile text read is (lines_named at config named profile text old new fault_old fault_new status same (runs sound quiet))
+  pub stop_unopened : (why : Fault) (cause : Option Cause) (closed : Closed) → IsOpeningFault at profile why cause closed → told ≡ leaving_lines closed → StopsLines at profile text [] told
+  stop_unopened (fault.Refused why) cause closed (fails, is) left = no_line may fails refl left
+  stop_unopened (fault.Profile file why) cause closed is left = absurd is
+  stop_unopened (fault.Unreadable path) cause closed is left = absurd is
+  stop_unopened fault.Memory cause closed is left = absurd is
 
 -- ---- a shell
 
@@ -348,13 +244,9 @@ stops_opening at config profile (fault.Profile file why) cause closed read is = 
 stops_opening at config profile (fault.Unreadable path) cause closed read is = absurd is
 stops_opening at config profile fault.Memory cause closed read is = absurd is
 
-pub shell_unopened : {S : Type 0} (at : Places S) (config named : String Global) (given : Option (List ℕ)) (read_failed : Bool) (old fault_old fault_new : Option (List ℕ)) (why : Fault) (cause : Option Cause) (closed : Closed) (failed fault_failed : Bool) (r : Result Status AllocError)
-    → string_bytes named ≡ string_bytes config → StopsOpening at config why cause closed
-    → IfOk r (λ status. fault_failed ≡ false → TellsUnanswered (at.sees.bytes (string_bytes named)) named why cause closed fault_old fault_new status)
-    → IfOk r (λ status. failed ≡ false → fault_failed ≡ false → RunsShell at config given given read_failed old old fault_old fault_new status)
-shell_unopened at config named given read_failed old fault_old fault_new why cause closed failed fault_failed (Err e) same is tells = tt
-shell_unopened at config named given read_failed old fault_old fault_new why cause closed failed fault_failed (Ok status) same is tells = λ _ sound.
-    shell_stopped why cause closed is refl (Keeps-refl old) (unanswered_so at.sees.bytes config named why cause closed fault_old fault_new status same (tells sound))
+-- there is no memory for the name of the profile's file
+pub stop_unnamed : {S : Type 0} (at : Places S) (config : String Global) (given : Option (List ℕ)) → at.untouched → StopsShell at config given given [] []
+stop_unnamed at config given still = shell_silent {fault = fault.Memory} {cause = None} (not_read still tt refl) refl refl refl
 
 -- ---- what functions give on
 

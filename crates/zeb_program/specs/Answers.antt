@@ -4,7 +4,6 @@
 -- are known.
 use Rattle.std.specs.Prelude.{◌≡◌, ◌<◌, ◌+◌, ℕ, Option, Some, None, Result, Ok, Err, List, [], ◌∷◌, ◌++◌, length, codes, string_bytes}
 use Rattle.std.specs.Fmt.{decimal}
-use Rattle.std.specs.Io.KnownBytes.{Appends}
 use Rattle.zeb_engine.specs.declared.commands.Command.{Command}
 use Rattle.zeb_engine.specs.declared.replies.Reply.{Reply}
 use Rattle.zeb_change.specs.declared.refusals.Refusal.{Refusal}
@@ -24,10 +23,6 @@ use Rattle.zeb_program.specs.Says.{Says}
 use Rattle.zeb_program.specs.Statuses.{greater, refusal_status}
 use Rattle.zeb_program.specs.declared.statuses.Status.{Status}
 use Rattle.zeb_program.specs.declared.statuses.Status.TheVariants.{Answered, Misused}
-
--- a writer's known bytes grew by some bytes that are so
-abbrev pub Writes : Option (List ℕ) → Option (List ℕ) → (List ℕ → Type 0) → Type 0
-Writes old new P = (bytes : List ℕ) × P bytes × Appends old new bytes
 
 -- a reply, or a refusal on a line of its own
 abbrev pub answer_text : Result Reply Refusal → List ℕ

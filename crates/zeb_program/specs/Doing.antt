@@ -2,7 +2,7 @@
 -- files there are, and on tables that keep what a register holds, where the bytes of a task's files are told, and of lines as far as they are.
 use Rattle.std.specs.Prelude.{◌≡◌, ◌⊎◌, ◌<◌, ℕ, Bool, false, length, List, [], Option, IfSome, Result, Ok, Err}
 use Rattle.std.specs.declared.alloc.AllocError.{AllocError}
-use Rattle.std.specs.Io.KnownBytes.{Appends, IsAtEnd, Keeps as Stays}
+use Rattle.std.specs.Io.KnownBytes.{IsAtEnd}
 use Rattle.sqlite.specs.Held.{Held, state}
 use Rattle.sqlite.specs.Store.{Ghosts}
 use Rattle.zeb_register.specs.Formats.{Format}
@@ -15,7 +15,7 @@ use Rattle.zeb_program.specs.declared.line_input.InputCause.{InputCause}
 use Rattle.zeb_program.specs.declared.line_input.LineFault.{LineFault}
 use Rattle.zeb_program.specs.declared.line_input.LineFault.TheVariants.{Unreadable, Memory}
 use Rattle.zeb_program.specs.declared.tasks.Task.{Task}
-use Rattle.zeb_program.specs.Answers.{AnswersBatch, AnswersLines, EachLine, Writes}
+use Rattle.zeb_program.specs.Answers.{AnswersBatch, AnswersLines, EachLine}
 use Rattle.zeb_program.specs.FaultAnswers.{Reaches}
 use Rattle.zeb_program.specs.FaultLines.{unread_lines}
 use Rattle.zeb_program.specs.Lines.{first_line}
@@ -52,17 +52,17 @@ pub record DoesOnNothing (told : List ℕ → Option (List ℕ)) (at : Tells) (c
   -- and where the bytes of the files at its paths are told it is the answer by these, unless memory ran out, or an analysis can't read one whole
   pub answers : AnswersOn told c task result nothing_yet
 
--- the lines of a text, which n others stand before, are answered so, each on the tables that the one before it left
-pub record RunsText {S : Type 0} (g : Ghosts S) (at : Tells) (format : Format) (c : Conditions) (n : ℕ) (text : List ℕ) (wrote writes : Option (List ℕ)) (status : Status) (old new : Held S) : Type 0 where
+-- these bytes are the answers to the lines of a text, which n others stand before, each on the tables that the one before it left
+pub record RunsText {S : Type 0} (g : Ghosts S) (at : Tells) (format : Format) (c : Conditions) (n : ℕ) (text bytes : List ℕ) (status : Status) (old new : Held S) : Type 0 where
   -- as the engine says of each on any tables
-  pub over : Writes wrote writes (λ bytes. LinesOver g at format c n text old bytes status new)
+  pub over : LinesOver g at format c n text old bytes status new
   -- from tables that keep what a register holds to such that keep what it holds then
-  pub answers : LeadsOn (state g old) (state g new) wrote writes (λ before bytes later. AnswersBatch at.bytes c n text before bytes status later)
+  pub answers : LeadsOn (state g old) (state g new) (λ before later. AnswersBatch at.bytes c n text before bytes status later)
 
--- The lines of a text, which n others stand before, are answered so up to the rest, maybe none, and no other.
-pub record RunsFirst {S : Type 0} (g : Ghosts S) (at : Tells) (format : Format) (c : Conditions) (n : ℕ) (text rest : List ℕ) (wrote writes : Option (List ℕ)) (old last : Held S) : Type 0 where
-  pub over : Writes wrote writes (λ bytes. (status : Status) × EachLine (LineOver g at format c) n text old bytes status rest last)
-  pub answers : Stops (state g old) wrote writes (λ before bytes. (status : Status) × (last : Option Holdings) × AnswersLines at.bytes c n text before bytes status rest last)
+-- these are the answers to the lines of a text, which n others stand before, up to the rest, maybe none, and to no other
+pub record RunsFirst {S : Type 0} (g : Ghosts S) (at : Tells) (format : Format) (c : Conditions) (n : ℕ) (text rest bytes : List ℕ) (old last : Held S) : Type 0 where
+  pub over : (status : Status) × EachLine (LineOver g at format c) n text old bytes status rest last
+  pub answers : Stops (state g old) (λ before. (status : Status) × (last : Option Holdings) × AnswersLines at.bytes c n text before bytes status rest last)
 
 -- the line of this number is done as `LineOver` says of it on any tables, whatever is written of its answer
 abbrev pub DoesLine : {S : Type 0} → Ghosts S → Tells → Format → Conditions → ℕ → List ℕ → Held S → Held S → Type 0
@@ -95,12 +95,12 @@ DoesBatch g at format c n text (Err error) old new = DoesPart g at format c n te
 abbrev pub DoesShell : {S : Type 0} → Ghosts S → Tells → Format → Conditions → Option (List ℕ) → Held S → Held S → Type 0
 DoesShell g at format c given old new = IfSome given (λ text. DoesPart g at format c 0 text old new)
 
--- The lines of a text, which n others stand before, are answered so up to one at which memory ran out.
-pub record StopsPart {S : Type 0} (g : Ghosts S) (at : Tells) (format : Format) (c : Conditions) (n : ℕ) (text : List ℕ) (wrote writes : Option (List ℕ)) (old new : Held S) : Type 0 where
+-- these are the answers to the lines of a text, which n others stand before, up to one at which memory ran out
+pub record StopsPart {S : Type 0} (g : Ghosts S) (at : Tells) (format : Format) (c : Conditions) (n : ℕ) (text bytes : List ℕ) (old new : Held S) : Type 0 where
   pub rest : List ℕ
   pub last : Held S
   pub some : 0 < length rest
-  pub first : RunsFirst g at format c n text rest wrote writes old last
+  pub first : RunsFirst g at format c n text rest bytes old last
   pub stops : StopsLine g at format c (first_line rest) last new
 
 -- where the next line of a text can't be read nothing is done for it; where memory runs out at it, it may be done
@@ -109,21 +109,21 @@ abbrev pub KeepsUnread : {S : Type 0} → Ghosts S → Tells → Format → Cond
 KeepsUnread g at format c (Unreadable cause) text old new = new ≡ old
 KeepsUnread g at format c Memory text old new = StopsLine g at format c (first_line text) old new
 
--- A shell of these lines ends early, for this reason, and this is left of its input: the lines before the one at which it ends are answered so,
--- and of no line but that one a byte is gone that isn't answered.
-pub record StopsText {S : Type 0} (g : Ghosts S) (at : Tells) (format : Format) (c : Conditions) (why : LineFault) (text : List ℕ) (left wrote writes : Option (List ℕ)) (old new : Held S) : Type 0 where
+-- A shell of these lines ends early, for this reason, and this is left of its input: these are the answers to the lines before the one at which it
+-- ends, and of no line but that one a byte is gone that isn't answered.
+pub record StopsText {S : Type 0} (g : Ghosts S) (at : Tells) (format : Format) (c : Conditions) (why : LineFault) (text : List ℕ) (left : Option (List ℕ)) (bytes : List ℕ) (old new : Held S) : Type 0 where
   pub rest : List ℕ
   pub last : Held S
-  pub first : RunsFirst g at format c 0 text rest wrote writes old last
+  pub first : RunsFirst g at format c 0 text rest bytes old last
   pub ends : EndsInLine 16777216 why rest left
   pub keeps : KeepsUnread g at format c why rest last new
 
 -- of a shell all lines are answered, up to the input's end, and nothing goes to the fault output; or those before a
 -- line that can't be read are answered, and the fault output says with its cause that it can't be, with status 3
-pub data ServesText {S : Type 0} (g : Ghosts S) (at : Tells) (format : Format) (c : Conditions) (text : List ℕ) (left : Option (List ℕ)) (failed : Bool) (wrote writes fault_old fault_new : Option (List ℕ)) (status : Status) (old new : Held S) : Type 0 where
+pub data ServesText {S : Type 0} (g : Ghosts S) (at : Tells) (format : Format) (c : Conditions) (text : List ℕ) (left : Option (List ℕ)) (failed : Bool) (bytes told : List ℕ) (status : Status) (old new : Held S) : Type 0 where
   -- all are answered so, up to the input's end, and nothing goes to the fault output
-  all_served : RunsText g at format c 0 text wrote writes status old new → IsAtEnd left → failed ≡ false → Stays fault_old fault_new
-      → ServesText g at format c text left failed wrote writes fault_old fault_new status old new
+  all_served : RunsText g at format c 0 text bytes status old new → IsAtEnd left → failed ≡ false → told ≡ []
+      → ServesText g at format c text left failed bytes told status old new
   -- or the line behind those that are can't be read, which is told there with its cause
-  first_served : (cause : InputCause) → StopsText g at format c (Unreadable cause) text left wrote writes old new → failed ≡ is_failed_read cause
-      → Appends fault_old fault_new (unread_lines cause) → status ≡ Failed → ServesText g at format c text left failed wrote writes fault_old fault_new status old new
+  first_served : (cause : InputCause) → StopsText g at format c (Unreadable cause) text left bytes old new → failed ≡ is_failed_read cause
+      → told ≡ unread_lines cause → status ≡ Failed → ServesText g at format c text left failed bytes told status old new

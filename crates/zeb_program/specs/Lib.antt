@@ -31,10 +31,12 @@ pub mod ScriptAnswers
 pub mod ProfileFiles
 pub mod Registers
 pub mod Scripts
+pub mod Sinks
 pub mod Statuses
 pub mod PrivateServing
 pub mod PrivateShell
 pub mod PrivateShows
+pub mod PrivateSinks
 pub mod TaskAnswers
 pub mod Warnings
 pub mod PrivateWarnings

@@ -1,5 +1,5 @@
 -- What only the contracts of private functions speak of; no public clause reaches it.
-use Rattle.std.specs.Prelude.{◌≡◌, ℕ, List, length, Option, IfErr, Result, Ok, Err, string_bytes}
+use Rattle.std.specs.Prelude.{◌≡◌, ℕ, length, IfErr, Result, Ok, Err, string_bytes}
 use Rattle.sqlite.specs.Held.{Held, state}
 use Rattle.sqlite.specs.State.{HasCleanDisk, State}
 use Rattle.sqlite.specs.Store.{Ghosts}

@@ -1,6 +1,6 @@
 -- What only the contracts of private functions speak of; no public clause reaches it.
 -- The parts of what comes of words (this program's own).
-use Rattle.std.specs.Prelude.{◌≡◌, ◌⊎◌, ⊤, ℕ, Bool, false, Option, None, IfErr, IfSome, IsTrue, OnErr, Result, Ok, Err, List, String}
+use Rattle.std.specs.Prelude.{◌≡◌, ◌⊎◌, ◌++◌, ⊤, ℕ, Bool, false, Option, None, IfErr, IfSome, IsTrue, MatchResult, Result, Ok, Err, List, [], String}
 use Rattle.std.specs.declared.alloc.AllocError.{AllocError}
 use Rattle.std.specs.declared.alloc.Global.{Global}
 use Rattle.sqlite.specs.Held.{Held, state}
@@ -29,20 +29,20 @@ use Rattle.zeb_program.specs.declared.line_input.LineFault.{LineFault}
 use Rattle.zeb_program.specs.declared.performing.Performed.{Performed}
 use Rattle.zeb_program.specs.declared.performing.Told.{Told}
 use Rattle.zeb_program.specs.declared.tasks.Task.{Task}
-use Rattle.zeb_program.specs.Answers.{Writes}
 use Rattle.zeb_program.specs.Doing.{DoesOnNothing, DoesTask}
 use Rattle.zeb_program.specs.FaultAnswers.{IsOpeningFailure}
 use Rattle.zeb_program.specs.PrivateShell.{EndsInput, TellsInput}
 use Rattle.zeb_program.specs.PrivateShows.{ShowsBatch, ShowsShell}
 use Rattle.zeb_program.specs.Registers.{ClosesStore, IsTakenOver, OpensStore, Places, UsedAs}
-use Rattle.zeb_program.specs.ScriptAnswers.{AreConditionsIn, AreScriptConditions, RunsFromNothing}
-use Rattle.std.specs.Io.KnownBytes.{Appends, Keeps as Stays}
+use Rattle.zeb_program.specs.ScriptAnswers.{AnswersStopped, AreConditionsIn, AreScriptConditions, RunsFromNothing}
 use Rattle.zeb_program.specs.Explanations.{Explains}
 use Rattle.zeb_program.specs.FaultLines.{TellsCaused}
 use Rattle.zeb_program.specs.Inputs.{TakesAtMost}
 use Rattle.zeb_program.specs.Statuses.{closing_status, greater}
 use Rattle.zeb_program.specs.declared.statuses.Status.{Status}
-use Rattle.zeb_program.specs.Closings.{TellsClosed}
+use Rattle.zeb_program.specs.Closings.{closing_lines}
+use Rattle.zeb_program.specs.Sinks.{KnownSink, SendsBoth}
+use Rattle.zeb_program.specs.PrivateSinks.{Sends}
 use Rattle.zeb_program.specs.WordAnswers.{NamesLines, NamesShell}
 use Rattle.zeb_program.specs.WordRuns.{ExplainsTask, IsOwnOr, ReadsAt}
 
@@ -121,51 +121,52 @@ ServesOnNothing told at profile task result =
 
 -- ---- the lines of the input
 
--- what is known of what was written stays, and grows by some bytes, maybe none
-abbrev pub Grows : Option (List ℕ) → Option (List ℕ) → Type 0
-Grows old new = (bytes : List ℕ) × Appends old new bytes
+-- What is written of words, or of a part of what they ask for: what is answered, with the status, or what is written by then where memory ran out for the
+-- program itself.
+abbrev pub Ends : {W V : Type 0} → (old new : KnownSink W) → (fault_old fault_new : KnownSink V) → (Answers : List ℕ → List ℕ → Status → Type 0) → (Stops : List ℕ → List ℕ → Type 0) → Result Status AllocError → Type 0
+Ends old new fault_old fault_new Answers Stops result =
+    SendsBoth old new fault_old fault_new (λ bytes told. MatchResult result (Answers bytes told) (λ error. Stops bytes told))
 
--- Where memory ran out for the program itself, what is known of what was written to the fault output stays, and grows by some bytes, maybe none,
--- unless a write to that has failed; and where no write to either output has, what was run stops so.
-abbrev pub EndsStarved : Result Status AllocError → (failed fault_failed : Bool) → (fault_old fault_new : Option (List ℕ)) → Type 0 → Type 0
-EndsStarved result failed fault_failed fault_old fault_new Stops =
-    OnErr result (fault_failed ≡ false → Grows fault_old fault_new) × OnErr result (failed ≡ false → fault_failed ≡ false → Stops)
-
--- Just this store is closed, and that is told so, where no write has failed.
-abbrev pub ClosesAloud : {S : Type 0} → Ghosts S → (Closed → S → Type 0) → Held S → Bool → Option (List ℕ) → Option (List ℕ) → Closed → Type 0
-ClosesAloud g leaves last failed old new closed = ClosesStore g leaves last closed × (failed ≡ false → TellsClosed old new closed)
+-- so it is where no write has failed
+abbrev pub EndsUnfailed : {W V : Type 0} → (old new : KnownSink W) → (fault_old fault_new : KnownSink V) → (Answers : List ℕ → List ℕ → Status → Type 0) → (Stops : List ℕ → List ℕ → Type 0) → Result Status AllocError → Type 0
+EndsUnfailed old new fault_old fault_new Answers Stops result =
+    SendsBoth old new fault_old fault_new (λ bytes told. new.failed ≡ false → fault_new.failed ≡ false → MatchResult result (Answers bytes told) (λ error. Stops bytes told))
 
 -- The lines of a session are answered so, and this is the status behind its close.
 abbrev pub EndsSession : Result Status AllocError → Result Status AllocError → (Closed → Type 0) → Type 0
 EndsSession (Ok answered) result Closing = (closed : Closed) × (result ≡ Ok (greater answered (closing_status closed))) × Closing closed
 EndsSession (Err error) result Closing = (closed : Closed) × (result ≡ Err error) × Closing closed
 
+-- The lines of a session are answered so, just this store is closed behind them, and that is told below what was told first.
+abbrev pub ClosesBelow : {S : Type 0} → Ghosts S → (Closed → S → Type 0) → Held S → (first told : List ℕ) → Result Status AllocError → Result Status AllocError → Type 0
+ClosesBelow g leaves last first told answered result = EndsSession answered result (λ closed. ClosesStore g leaves last closed × (told ≡ first ++ closing_lines closed))
+
 -- The lines of a batch are run over a connection, whatever is written, which is then closed, and this is answered.
-pub record RunsIn {S : Type 0} (g : Ghosts S) (leaves : Closed → S → Type 0) (at : Tells) (format : Format) (c : Conditions) (n : ℕ) (text : List ℕ) (held : Held S) (failed : Bool) (old new : Option (List ℕ)) (fault_failed : Bool) (fault_old fault_new : Option (List ℕ)) (result : Result Status AllocError) : Type 0 where
+pub record RunsIn {S W V : Type 0} (g : Ghosts S) (leaves : Closed → S → Type 0) (at : Tells) (format : Format) (c : Conditions) (n : ℕ) (text : List ℕ) (held : Held S) (old new : KnownSink W) (fault_old fault_new : KnownSink V) (result : Result Status AllocError) : Type 0 where
   pub answered : Result Status AllocError
   pub last : Held S
   pub clean : HasCleanDisk (state g last) → HasCleanDisk (state g held)
-  pub lines : HasCleanDisk (state g last) → ShowsBatch g at format c n text failed old new held last answered
-  pub ends : EndsSession answered result (ClosesAloud g leaves last fault_failed fault_old fault_new)
+  pub lines : Sends old new (λ bytes. HasCleanDisk (state g last) → ShowsBatch g at format c n text held last bytes answered)
+  pub ends : Sends fault_old fault_new (λ told. ClosesBelow g leaves last [] told answered result)
 
 -- So are those of a shell, where the fault output tells with its cause that its input can't be read on.
-pub record ServesIn {S : Type 0} (g : Ghosts S) (leaves : Closed → S → Type 0) (at : Tells) (format : Format) (c : Conditions) (given left : Option (List ℕ)) (read_failed : Bool) (held : Held S) (failed : Bool) (old new : Option (List ℕ)) (fault_failed : Bool) (fault_old fault_new : Option (List ℕ)) (result : Result Status AllocError) : Type 0 where
+pub record ServesIn {S W V : Type 0} (g : Ghosts S) (leaves : Closed → S → Type 0) (at : Tells) (format : Format) (c : Conditions) (given left : Option (List ℕ)) (read_failed : Bool) (held : Held S) (old new : KnownSink W) (fault_old fault_new : KnownSink V) (result : Result Status AllocError) : Type 0 where
   pub answered : Result Status LineFault
-  pub told : Result Status AllocError
+  pub ended : Result Status AllocError
   pub last : Held S
-  pub between : Option (List ℕ)
+  pub first : List ℕ
   pub clean : HasCleanDisk (state g last) → HasCleanDisk (state g held)
-  pub lines : HasCleanDisk (state g last) → IfSome given (λ text. ShowsShell g at format c text left failed old new held last answered)
-  pub reads : EndsInput read_failed failed left answered
-  pub tells : TellsInput answered fault_failed fault_old between told
-  pub ends : EndsSession told result (ClosesAloud g leaves last fault_failed between fault_new)
+  pub lines : Sends old new (λ bytes. HasCleanDisk (state g last) → IfSome given (λ text. ShowsShell g at format c text left new.failed held last bytes answered))
+  pub reads : EndsInput read_failed new.failed left answered
+  pub tells : TellsInput answered first ended
+  pub ends : Sends fault_old fault_new (λ told. ClosesBelow g leaves last first told ended result)
 
 -- The lines of a batch are run on a register in memory that holds nothing yet, and the fault output is left alone; or why none was opened is told
--- there, and nothing else.
-abbrev pub RunsOnNothing : Tells → List Directive → ℕ → List ℕ → Option (List ℕ) → Option (List ℕ) → Option (List ℕ) → Option (List ℕ) → Status → Type 0
-RunsOnNothing at profile n text old new fault_old fault_new status =
-    (RunsFromNothing at profile n text old new status × Stays fault_old fault_new)
-    ⊎ ((why : Refusal) × IsOpeningFailure why × Stays old new × Writes fault_old fault_new (λ bytes. TellsCaused (Refused why) None bytes status))
+-- there, and nothing else. Or memory ran out, and nothing is told.
+abbrev pub RunsOnNothing : Tells → List Directive → ℕ → List ℕ → (bytes told : List ℕ) → Result Status AllocError → Type 0
+RunsOnNothing at profile n text bytes told (Ok status) =
+    (RunsFromNothing at profile n text bytes status × (told ≡ [])) ⊎ ((why : Refusal) × IsOpeningFailure why × (bytes ≡ []) × TellsCaused (Refused why) None told status)
+RunsOnNothing at profile n text bytes told (Err error) = AnswersStopped at profile n text bytes × (told ≡ [])
 
 -- ---- the input
 

@@ -19,7 +19,6 @@ use Rattle.zeb_paths.specs.declared.causes.PathCause.{PathCause}
 use Rattle.zeb_paths.specs.declared.causes.StoreCause.{StoreCause}
 use Rattle.zeb_paths.specs.declared.causes.StoreCause.TheVariants as store_cause
 use Rattle.zeb_paths.specs.declared.paths.Asked.{Asked}
-use Rattle.zeb_paths.specs.declared.paths.PathKind.{PathKind}
 use Rattle.zeb_paths.specs.declared.paths.Paths as paths
 use Rattle.zeb_paths.specs.Opened.{IsWellOpened}
 use Rattle.zeb_profile.specs.declared.directives.Directive.{Directive}

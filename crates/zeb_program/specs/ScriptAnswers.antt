@@ -1,6 +1,5 @@
 -- What a script writes, and its status (this program's own).
 use Rattle.std.specs.Prelude.{◌≡◌, ◌⊎◌, ◌<◌, ◌==◌, if◌then◌else◌, ℕ, Bool, Option, Some, Ok, IsOk, IsTrue, List, [], ◌∷◌, ◌++◌, codes, length}
-use Rattle.std.specs.Io.KnownBytes.{Appends}
 use Rattle.sqlite.specs.Files.{file_state, over_files}
 use Rattle.sqlite.specs.Held.{Held}
 use Rattle.sqlite.specs.State.{State}
@@ -21,7 +20,7 @@ use Rattle.zeb_register.specs.Formats.{Format, packed_blocks, version_of}
 use Rattle.zeb_program.specs.FixedLines.{expected_line, refusal_line, starved_line, unreadable_line}
 use Rattle.zeb_program.specs.Inputs.{IsInput}
 use Rattle.zeb_program.specs.Scripts.{DividesAt, HasNoDivider}
-use Rattle.zeb_program.specs.Answers.{Writes, AnswersBatch, AnswersPart, EachLine}
+use Rattle.zeb_program.specs.Answers.{AnswersBatch, AnswersPart, EachLine}
 use Rattle.zeb_program.specs.OverTables.{LineOver, LinesOver}
 use Rattle.zeb_program.specs.Statuses.{fault_status}
 use Rattle.zeb_program.specs.declared.statuses.Status.{Status}
@@ -55,10 +54,10 @@ MemoryConnection = Held (FileStore Memory ghosts)
 abbrev pub HoldsNothing : State → Type 0
 HoldsNothing s = IsTrue s.is_open × Keeps s nothing_yet
 
--- what the lines of a batch, which n others stand before, add to a writer's known bytes, and their greatest status, on
+-- what is written for the lines of a batch, which n others stand before, and their greatest status, on
 -- a register in memory that holds nothing yet: each line as the engine says of it on any tables, on those that the
 -- line before it left, and as a run answers them, as far as the bytes of their files are told
-pub record RunsFromNothing (at : Tells) (directives : List Directive) (n : ℕ) (batch : List ℕ) (old new : Option (List ℕ)) (status : Status) : Type 0 where
+pub record RunsFromNothing (at : Tells) (directives : List Directive) (n : ℕ) (batch bytes : List ℕ) (status : Status) : Type 0 where
   pub c : Conditions
   pub under : AreScriptConditions directives c
   -- the register before the first line, which holds nothing yet, and behind the last one
@@ -67,13 +66,13 @@ pub record RunsFromNothing (at : Tells) (directives : List Directive) (n : ℕ) 
   pub empty : HoldsNothing (file_state first)
   -- Each line is answered as on any tables, also behind one that names a path where no file's bytes are told. Files in memory give back
   -- what was written to them, so this has no premise of a clean disk.
-  pub each : Writes old new (λ bytes. LinesOver over_files at packed_blocks c n batch first bytes status last)
+  pub each : LinesOver over_files at packed_blocks c n batch first bytes status last
   -- as a run answers them, as far as the bytes of their files are told
-  pub answers : Writes old new (λ bytes. (held : Option Holdings) × AnswersBatch at.bytes c n batch (Some nothing_yet) bytes status held)
+  pub answers : (held : Option Holdings) × AnswersBatch at.bytes c n batch (Some nothing_yet) bytes status held
 
--- what the first lines of a batch, which n others stand before, but not all of its lines, add to a writer's known
--- bytes, on a register in memory that holds nothing yet: each of them as `RunsFromNothing` says
-pub record PartFromNothing (at : Tells) (directives : List Directive) (n : ℕ) (batch : List ℕ) (old new : Option (List ℕ)) : Type 0 where
+-- what is written for the first lines of a batch, which n others stand before, but not for all of its lines, on a
+-- register in memory that holds nothing yet: for each of them as `RunsFromNothing` says
+pub record PartFromNothing (at : Tells) (directives : List Directive) (n : ℕ) (batch bytes : List ℕ) : Type 0 where
   pub c : Conditions
   pub under : AreScriptConditions directives c
   -- the register before the first line, which holds nothing yet, and behind the last one that is answered
@@ -81,18 +80,18 @@ pub record PartFromNothing (at : Tells) (directives : List Directive) (n : ℕ) 
   pub last : MemoryConnection
   pub empty : HoldsNothing (file_state first)
   -- each of these lines is answered as on any tables
-  pub each : Writes old new (λ bytes. (status : Status) × (rest : List ℕ) × (0 < length rest) × EachLine (LineOver over_files at packed_blocks c) n batch first bytes status rest last)
+  pub each : (status : Status) × (rest : List ℕ) × (0 < length rest) × EachLine (LineOver over_files at packed_blocks c) n batch first bytes status rest last
   -- as a run answers them, as far as the bytes of their files are told
-  pub answers : Writes old new (AnswersPart at.bytes c n batch (Some nothing_yet))
+  pub answers : AnswersPart at.bytes c n batch (Some nothing_yet) bytes
 
--- what the lines of a batch add to a writer's known bytes, and their greatest status (`RunsFromNothing`); or the line
--- and the status of the failure by which no register was opened (`IsUnopened`)
-abbrev pub AnswersOpened : Tells → List Directive → ℕ → List ℕ → Option (List ℕ) → Option (List ℕ) → Status → Type 0
-AnswersOpened at directives n batch old new status = RunsFromNothing at directives n batch old new status ⊎ Writes old new (λ bytes. IsUnopened bytes status)
+-- what is written for the lines of a batch, and their greatest status (`RunsFromNothing`); or the line and the status of
+-- the failure by which no register was opened (`IsUnopened`)
+abbrev pub AnswersOpened : Tells → List Directive → ℕ → List ℕ → List ℕ → Status → Type 0
+AnswersOpened at directives n batch bytes status = RunsFromNothing at directives n batch bytes status ⊎ IsUnopened bytes status
 
--- what they add where memory runs out between two lines of output: the answers of the first lines, or nothing
-abbrev pub AnswersStopped : Tells → List Directive → ℕ → List ℕ → Option (List ℕ) → Option (List ℕ) → Type 0
-AnswersStopped at directives n batch old new = PartFromNothing at directives n batch old new ⊎ Writes old new (λ bytes. bytes ≡ [])
+-- what is written for them where memory runs out between two lines of output: the answers of the first lines, or nothing
+abbrev pub AnswersStopped : Tells → List Directive → ℕ → List ℕ → List ℕ → Type 0
+AnswersStopped at directives n batch bytes = PartFromNothing at directives n batch bytes ⊎ (bytes ≡ [])
 
 -- the profile of a script: what stands before its divider, or the whole text
 abbrev pub IsProfileOf : List ℕ → List ℕ → Type 0
@@ -101,37 +100,36 @@ IsProfileOf text profile = (HasNoDivider text × (profile ≡ text)) ⊎ ((n : �
 -- what is written for a whole script, and its status: a line for an input that is too long or no text, or for a
 -- profile that is refused; nothing for a profile alone; or the answers of its lines, or the line of the failure by
 -- which no register was opened
-pub data AnswersScript : Tells → List ℕ → Option (List ℕ) → Option (List ℕ) → Status → Type 0 where
+pub data AnswersScript : Tells → List ℕ → List ℕ → Status → Type 0 where
   -- an input that is too long or no text
-  unreadable : {at : Tells} {text : List ℕ} {old new : Option (List ℕ)} → ¬ IsInput text → Writes old new (λ bytes. bytes ≡ unreadable_line) → AnswersScript at text old new Failed
+  unreadable : {at : Tells} {text : List ℕ} → ¬ IsInput text → AnswersScript at text unreadable_line Failed
   -- a profile that is refused: for its first fault, or for want of memory
-  faulty : {at : Tells} {text profile : List ℕ} {old new : Option (List ℕ)} → (fault : ProfileFault) → IsInput text → IsProfileOf text profile → FailsPlaced fault (profile_of profile) → Writes old new (λ bytes. bytes ≡ fault_line fault)
-      → AnswersScript at text old new (fault_status fault.kind)
+  faulty : {at : Tells} {text profile : List ℕ} → (fault : ProfileFault) → IsInput text → IsProfileOf text profile → FailsPlaced fault (profile_of profile)
+      → AnswersScript at text (fault_line fault) (fault_status fault.kind)
   -- a profile alone
-  alone : {at : Tells} {text : List ℕ} {old new : Option (List ℕ)} → IsInput text → HasNoDivider text → IsOk (profile_of text) → Writes old new (λ bytes. bytes ≡ []) → AnswersScript at text old new Answered
+  alone : {at : Tells} {text : List ℕ} → IsInput text → HasNoDivider text → IsOk (profile_of text) → AnswersScript at text [] Answered
   -- a profile, and the lines of a batch
-  ran : {at : Tells} {text profile batch : List ℕ} {directives : List Directive} {n : ℕ} {status : Status} {old new : Option (List ℕ)} → IsInput text → DividesAt n text profile batch → profile_of profile ≡ Ok directives
-      → AnswersOpened at directives n batch old new status → AnswersScript at text old new status
+  ran : {at : Tells} {text profile batch bytes : List ℕ} {directives : List Directive} {n : ℕ} {status : Status} → IsInput text → DividesAt n text profile batch → profile_of profile ≡ Ok directives
+      → AnswersOpened at directives n batch bytes status → AnswersScript at text bytes status
 
 -- nothing was written, or the answers of a batch's first lines, but not of all, where memory runs out for the program
 -- itself
-pub data EndsEarly : Tells → List ℕ → Option (List ℕ) → Option (List ℕ) → Type 0 where
+pub data EndsEarly : Tells → List ℕ → List ℕ → Type 0 where
   -- before the last line of the batch is answered
-  stopped : {at : Tells} {text profile batch : List ℕ} {directives : List Directive} {n : ℕ} {old new : Option (List ℕ)} → IsInput text → DividesAt n text profile batch → profile_of profile ≡ Ok directives
-      → AnswersStopped at directives n batch old new → EndsEarly at text old new
+  stopped : {at : Tells} {text profile batch bytes : List ℕ} {directives : List Directive} {n : ℕ} → IsInput text → DividesAt n text profile batch → profile_of profile ≡ Ok directives
+      → AnswersStopped at directives n batch bytes → EndsEarly at text bytes
   -- while the input is read
-  silent : {at : Tells} {text : List ℕ} {old new : Option (List ℕ)} → Writes old new (λ bytes. bytes ≡ []) → EndsEarly at text old new
+  silent : {at : Tells} {text : List ℕ} → EndsEarly at text []
 
 -- below the answer to an empty input stands what is expected, below another nothing
 abbrev pub hint_of : Bool → List ℕ
 hint_of is_empty = if is_empty then expected_line else []
 
 -- nothing goes to the fault output, or that memory ran out, or what is expected in place of an empty input
-abbrev pub TellsAtMost : Option (List ℕ) → Option (List ℕ) → Type 0
-TellsAtMost fault_old fault_new = Writes fault_old fault_new (λ told. (told ≡ []) ⊎ (told ≡ starved_line) ⊎ (told ≡ expected_line))
+abbrev pub TellsAtMost : List ℕ → Type 0
+TellsAtMost told = (told ≡ []) ⊎ (told ≡ starved_line) ⊎ (told ≡ expected_line)
 
 -- A script is answered, and just of an empty input the fault output says what is expected; or it ends early, which is told there, with status 3.
-abbrev pub EndsScript : Tells → List ℕ → Option (List ℕ) → Option (List ℕ) → Option (List ℕ) → Option (List ℕ) → Status → Type 0
-EndsScript at text old new fault_old fault_new status =
-    (AnswersScript at text old new status × Appends fault_old fault_new (hint_of (length text == 0)))
-    ⊎ (EndsEarly at text old new × Appends fault_old fault_new starved_line × (status ≡ Failed))
+abbrev pub EndsScript : Tells → List ℕ → (bytes told : List ℕ) → Status → Type 0
+EndsScript at text bytes told status =
+    (AnswersScript at text bytes status × (told ≡ hint_of (length text == 0))) ⊎ (EndsEarly at text bytes × (told ≡ starved_line) × (status ≡ Failed))

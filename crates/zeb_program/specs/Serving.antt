@@ -8,20 +8,17 @@ use Rattle.zeb_image.specs.Holdings.{Holdings}
 use Rattle.zeb_image.specs.Image.{Keeps}
 use Rattle.zeb_program.specs.declared.faults.Fault.{Fault}
 use Rattle.zeb_program.specs.declared.tasks.Task.{Task}
-use Rattle.zeb_program.specs.Answers.{Writes}
 use Rattle.zeb_program.specs.FaultAnswers.{GivesAnswer, IsUnreadWhole}
 use Rattle.zeb_program.specs.TaskAnswers.{AnswersTask, AreTold, ReadsWhole, paths_of}
 
--- As far as it is known what a register holds that tables keep, they lead to tables that keep what it holds then, as far as that is known; P says
--- what is written.
-abbrev pub LeadsOn : State → State → Option (List ℕ) → Option (List ℕ) → (Option Holdings → List ℕ → Option Holdings → Type 0) → Type 0
-LeadsOn old new wrote writes P =
-    (before : Option Holdings) → IfSome before (Keeps old) → (later : Option Holdings) × IfSome later (Keeps new) × Writes wrote writes (λ bytes. P before bytes later)
+-- As far as it is known what a register holds that tables keep, they lead to tables that keep what it holds then, as far as that is known; P is
+-- so of both.
+abbrev pub LeadsOn : State → State → (Option Holdings → Option Holdings → Type 0) → Type 0
+LeadsOn old new P = (before : Option Holdings) → IfSome before (Keeps old) → (later : Option Holdings) × IfSome later (Keeps new) × P before later
 
--- as far as it is known what a register holds that tables keep, P says what is written; of the tables then nothing is
--- said
-abbrev pub Stops : State → Option (List ℕ) → Option (List ℕ) → (Option Holdings → List ℕ → Type 0) → Type 0
-Stops old wrote writes P = (before : Option Holdings) → IfSome before (Keeps old) → Writes wrote writes (P before)
+-- as far as it is known what a register holds that tables keep, P is so of it; of the tables then nothing is said
+abbrev pub Stops : State → (Option Holdings → Type 0) → Type 0
+Stops old P = (before : Option Holdings) → IfSome before (Keeps old) → P before
 
 -- From tables that keep what a register holds, an answer leads to tables that keep what it holds then.
 abbrev pub AnswersFrom : State → State → Result Reply Fault → (Holdings → Result Reply Refusal → Holdings → Type 0) → Type 0

@@ -1,8 +1,7 @@
 -- What comes of words that name a task, a batch or a shell (this program's own): under the profile in the file that they name, and on the register
 -- that it names.
-use Rattle.std.specs.Prelude.{◌≡◌, ◌⊎◌, ℕ, Bool, codes, Option, None, Some, IfSome, Result, Ok, Err, List, String, string_bytes}
+use Rattle.std.specs.Prelude.{◌≡◌, ◌⊎◌, ◌++◌, ℕ, Bool, codes, Option, None, Some, IfSome, Result, Ok, Err, List, [], String, string_bytes}
 use Rattle.std.specs.declared.alloc.Global.{Global}
-use Rattle.std.specs.Io.KnownBytes.{Appends, Keeps}
 use Rattle.zeb_change.specs.Conditions.{Conditions}
 use Rattle.zeb_change.specs.declared.refusals.Refusal.{Refusal}
 use Rattle.zeb_engine.specs.declared.commands.Command.TheVariants.{Init}
@@ -22,14 +21,13 @@ use Rattle.zeb_program.specs.declared.faults.Fault.TheVariants.{Unreadable, Refu
 use Rattle.zeb_program.specs.declared.line_input.LineFault.TheVariants.{Memory as Starved}
 use Rattle.zeb_program.specs.declared.tasks.Task.{Task}
 use Rattle.zeb_program.specs.declared.tasks.Task.TheVariants.{Ask}
-use Rattle.zeb_program.specs.Answers.{Writes}
 use Rattle.zeb_program.specs.Doing.{DoesOnNothing, DoesTask, RunsText, ServesText, StopsPart, StopsText}
 use Rattle.zeb_program.specs.FaultAnswers.{IsOpeningFailure}
 use Rattle.zeb_program.specs.FaultLines.{TellsCaused}
 use Rattle.zeb_program.specs.Inputs.{IsInput}
 use Rattle.zeb_program.specs.ProfileFiles.{ReadsProfile}
 use Rattle.zeb_program.specs.Registers.{FailsOpening, FromStore, HasStore, LacksStore, OnRegister, Places, nothing_met}
-use Rattle.zeb_program.specs.Closings.{TellsClosed, TellsLeft}
+use Rattle.zeb_program.specs.Closings.{closing_lines, leaving_lines}
 use Rattle.zeb_program.specs.InputCauses.{IsTextCause}
 use Rattle.zeb_program.specs.Unanswered.{TellsUnanswered}
 use Rattle.zeb_program.specs.declared.failures.Cause.TheVariants.{Text as TextOf}
@@ -69,9 +67,9 @@ pub data Performs {S : Type 0} (at : Places S) (choice : LayoutChoice) (config :
   performed : {result : Result Reply Fault} → (profile : List Directive) → ReadsAt at config (Ok profile) → ServesUnder at choice profile task closed result
       → Performs at choice config task closed result
 
--- the text of a reply that comes of the task is written
-abbrev pub WritesReply : {S : Type 0} → Places S → LayoutChoice → String Global → Task → Closed → Option (List ℕ) → Option (List ℕ) → Type 0
-WritesReply at choice config task closed old new = (reply : Reply) × Performs at choice config task closed (Ok reply) × Appends old new (reply_text reply)
+-- this is the text of a reply that comes of the task
+abbrev pub WritesReply : {S : Type 0} → Places S → LayoutChoice → String Global → Task → Closed → List ℕ → Type 0
+WritesReply at choice config task closed bytes = (reply : Reply) × Performs at choice config task closed (Ok reply) × (bytes ≡ reply_text reply)
 
 -- this is told of a profile that isn't read; or, where one was read, of a fault of the task, where this is known of why a store failed
 abbrev pub ExplainsTask : {S : Type 0} → Places S → String Global → Task → Option StoreCause → Fault → Option Cause → Type 0
@@ -80,18 +78,17 @@ ExplainsTask at config task met fault cause =
     ⊎ (((profile : List Directive) × ReadsAt at config (Ok profile)) × Explains at.sees at.explains (paths_of task) met fault cause)
 
 -- the lines of a fault that comes of the task, and of what is known of why; of one about the register its path; and that its file needs its log
-abbrev pub TellsWhy : {S : Type 0} → Places S → LayoutChoice → String Global → Task → Option (List ℕ) → Option (List ℕ) → Status → Type 0
-TellsWhy at choice config task fault_old fault_new status =
+abbrev pub TellsWhy : {S : Type 0} → Places S → LayoutChoice → String Global → Task → (told : List ℕ) → Status → Type 0
+TellsWhy at choice config task told status =
     (fault : Fault) × (cause : Option Cause) × (closed : Closed) × Performs at choice config task closed (Err fault)
     × ExplainsTask at config task closed.cause fault cause
-    × TellsUnanswered (at.sees.bytes (string_bytes config)) config fault cause closed fault_old fault_new status
+    × TellsUnanswered (at.sees.bytes (string_bytes config)) config fault cause closed told status
 
 -- Memory ran out for the program itself at a task, of which nothing is told then: no store was opened; or this fault comes of the task, and found no memory
 -- for its lines, and only that the register's file needs its log is told. The task may be done then, for want of memory comes behind any answer.
-abbrev pub StopsTask : {S : Type 0} → Places S → LayoutChoice → String Global → Task → Option (List ℕ) → Option (List ℕ) → Type 0
-StopsTask at choice config task fault_old fault_new =
-    (at.untouched × Keeps fault_old fault_new)
-    ⊎ ((fault : Fault) × (closed : Closed) × Performs at choice config task closed (Err fault) × TellsLeft fault_old fault_new closed)
+abbrev pub StopsTask : {S : Type 0} → Places S → LayoutChoice → String Global → Task → (told : List ℕ) → Type 0
+StopsTask at choice config task told =
+    (at.untouched × (told ≡ [])) ⊎ ((fault : Fault) × (closed : Closed) × Performs at choice config task closed (Err fault) × (told ≡ leaving_lines closed))
 
 -- ---- the lines of the input
 
@@ -117,62 +114,61 @@ StopsReading at config given failed fault cause =
 abbrev pub IsText : Option (List ℕ) → List ℕ → Type 0
 IsText given text = IsInput text × IfSome given (λ bytes. text ≡ bytes)
 
--- The lines of a text are run as a batch, numbered from 1: on the register in the store, or, where none stands there and no line begins one, on one in
--- memory as those of a script. This is the greatest status met.
-pub data RunsLines {S : Type 0} (at : Places S) (config : String Global) (profile : List Directive) (text : List ℕ) (old new fault_old fault_new : Option (List ℕ)) : Status → Type 0 where
+-- What is written for the lines of a text that are run as a batch, numbered from 1: on the register in the store, or, where none stands there and no
+-- line begins one, on one in memory as those of a script. This is the greatest status met.
+pub data RunsLines {S : Type 0} (at : Places S) (config : String Global) (profile : List Directive) (text bytes told : List ℕ) : Status → Type 0 where
   on_store : (format : Format) → (c : Conditions) → (answered : Status) → (closed : Closed) → AreConditionsIn format profile c → HasStore at profile ⊎ BeginsRegister text
-      → FromStore at Unsaid format profile closed (RunsText at.store at.sees format c 0 text old new answered)
-      → TellsClosed fault_old fault_new closed → RunsLines at config profile text old new fault_old fault_new (greater answered (closing_status closed))
-  in_memory : {status : Status} → LacksStore at profile → ¬ BeginsRegister text → at.untouched → Keeps fault_old fault_new
-      → RunsFromNothing at.sees profile 0 text old new status → RunsLines at config profile text old new fault_old fault_new status
-  no_memory : {why : Refusal} → {status : Status} → LacksStore at profile → ¬ BeginsRegister text → at.untouched → IsOpeningFailure why → Keeps old new → Writes fault_old fault_new (λ bytes. TellsCaused (Refused why) None bytes status)
-      → RunsLines at config profile text old new fault_old fault_new status
-  no_register : {why : Refusal} → {closed : Closed} → {status : Status} → HasStore at profile ⊎ BeginsRegister text → FailsOpening at profile why closed → Keeps old new
-      → TellsUnanswered (at.sees.bytes (string_bytes config)) config (Refused why) (refusal_cause why closed.cause) closed fault_old fault_new status
-      → RunsLines at config profile text old new fault_old fault_new status
+      → FromStore at Unsaid format profile closed (RunsText at.store at.sees format c 0 text bytes answered)
+      → told ≡ closing_lines closed → RunsLines at config profile text bytes told (greater answered (closing_status closed))
+  in_memory : {status : Status} → LacksStore at profile → ¬ BeginsRegister text → at.untouched → told ≡ []
+      → RunsFromNothing at.sees profile 0 text bytes status → RunsLines at config profile text bytes told status
+  no_memory : {why : Refusal} → {status : Status} → LacksStore at profile → ¬ BeginsRegister text → at.untouched → IsOpeningFailure why → bytes ≡ []
+      → TellsCaused (Refused why) None told status → RunsLines at config profile text bytes told status
+  no_register : {why : Refusal} → {closed : Closed} → {status : Status} → HasStore at profile ⊎ BeginsRegister text → FailsOpening at profile why closed → bytes ≡ []
+      → TellsUnanswered (at.sees.bytes (string_bytes config)) config (Refused why) (refusal_cause why closed.cause) closed told status
+      → RunsLines at config profile text bytes told status
 
 -- what is written for a batch, and its status, where `failed` says whether a read of the input failed
-pub data RunsBatch {S : Type 0} (at : Places S) (config : String Global) (given : Option (List ℕ)) (failed : Bool) (old new fault_old fault_new : Option (List ℕ)) (status : Status) : Type 0 where
-  batch_stopped : (fault : Fault) → (cause : Option Cause) → at.untouched → StopsReading at config given failed fault cause → Keeps old new
-      → Writes fault_old fault_new (λ bytes. TellsCaused fault cause bytes status) → RunsBatch at config given failed old new fault_old fault_new status
+pub data RunsBatch {S : Type 0} (at : Places S) (config : String Global) (given : Option (List ℕ)) (failed : Bool) (bytes told : List ℕ) (status : Status) : Type 0 where
+  batch_stopped : (fault : Fault) → (cause : Option Cause) → at.untouched → StopsReading at config given failed fault cause → bytes ≡ []
+      → TellsCaused fault cause told status → RunsBatch at config given failed bytes told status
   batch_ran : (profile : List Directive) → (text : List ℕ) → ReadsAt at config (Ok profile) → IsText given text
-      → RunsLines at config profile text old new fault_old fault_new status → RunsBatch at config given failed old new fault_old fault_new status
+      → RunsLines at config profile text bytes told status → RunsBatch at config given failed bytes told status
 
 -- what is written for a shell, and its status, where this is left of the input, and `failed` says whether a read of it failed
-pub data RunsShell {S : Type 0} (at : Places S) (config : String Global) (given left : Option (List ℕ)) (failed : Bool) (old new fault_old fault_new : Option (List ℕ)) : Status → Type 0 where
+pub data RunsShell {S : Type 0} (at : Places S) (config : String Global) (given left : Option (List ℕ)) (failed : Bool) (bytes told : List ℕ) : Status → Type 0 where
   -- no register is opened, and no byte of the input is gone
-  shell_stopped : {status : Status} → (fault : Fault) → (cause : Option Cause) → (closed : Closed) → StopsOpening at config fault cause closed → left ≡ given → Keeps old new
-      → TellsUnanswered (at.sees.bytes (string_bytes config)) config fault cause closed fault_old fault_new status → RunsShell at config given left failed old new fault_old fault_new status
-  shell_ran : (profile : List Directive) → (format : Format) → (c : Conditions) → (between : Option (List ℕ)) → (answered : Status) → (closed : Closed)
+  shell_stopped : {status : Status} → (fault : Fault) → (cause : Option Cause) → (closed : Closed) → StopsOpening at config fault cause closed → left ≡ given → bytes ≡ []
+      → TellsUnanswered (at.sees.bytes (string_bytes config)) config fault cause closed told status → RunsShell at config given left failed bytes told status
+  shell_ran : (profile : List Directive) → (format : Format) → (c : Conditions) → (first : List ℕ) → (answered : Status) → (closed : Closed)
       → ReadsAt at config (Ok profile) → AreConditionsIn format profile c
-      → FromStore at Unsaid format profile closed (λ first last. IfSome given
-      (λ text. ServesText at.store at.sees format c text left failed old new fault_old between answered first last))
-      → TellsClosed between fault_new closed → RunsShell at config given left failed old new fault_old fault_new (greater answered (closing_status closed))
+      → FromStore at Unsaid format profile closed (λ old new. IfSome given (λ text. ServesText at.store at.sees format c text left failed bytes first answered old new))
+      → told ≡ first ++ closing_lines closed → RunsShell at config given left failed bytes told (greater answered (closing_status closed))
 
 -- ---- where memory runs out for the program itself
 
 -- Of the lines of a text that are run as a batch the first are answered, or none, and the rest are not: on the register in the store, on one in
 -- memory, or none where no register is opened.
-pub data StopsLines {S : Type 0} (at : Places S) (profile : List Directive) (text : List ℕ) (old new fault_old fault_new : Option (List ℕ)) : Type 0 where
+pub data StopsLines {S : Type 0} (at : Places S) (profile : List Directive) (text bytes told : List ℕ) : Type 0 where
   part_on_store : (format : Format) → (c : Conditions) → (closed : Closed) → AreConditionsIn format profile c → HasStore at profile ⊎ BeginsRegister text
-      → FromStore at Unsaid format profile closed (StopsPart at.store at.sees format c 0 text old new)
-      → TellsClosed fault_old fault_new closed → StopsLines at profile text old new fault_old fault_new
-  part_in_memory : LacksStore at profile → ¬ BeginsRegister text → at.untouched → Keeps fault_old fault_new
-      → AnswersStopped at.sees profile 0 text old new → StopsLines at profile text old new fault_old fault_new
-  no_line : {why : Refusal} → {closed : Closed} → HasStore at profile ⊎ BeginsRegister text → FailsOpening at profile why closed → Keeps old new
-      → TellsLeft fault_old fault_new closed → StopsLines at profile text old new fault_old fault_new
+      → FromStore at Unsaid format profile closed (StopsPart at.store at.sees format c 0 text bytes)
+      → told ≡ closing_lines closed → StopsLines at profile text bytes told
+  part_in_memory : LacksStore at profile → ¬ BeginsRegister text → at.untouched → told ≡ []
+      → AnswersStopped at.sees profile 0 text bytes → StopsLines at profile text bytes told
+  no_line : {why : Refusal} → {closed : Closed} → HasStore at profile ⊎ BeginsRegister text → FailsOpening at profile why closed → bytes ≡ []
+      → told ≡ leaving_lines closed → StopsLines at profile text bytes told
 
 -- what is written for a batch then: nothing, where no store is opened, or the answers of its first lines
-pub data StopsBatch {S : Type 0} (at : Places S) (config : String Global) (given old new fault_old fault_new : Option (List ℕ)) : Type 0 where
-  batch_silent : at.untouched → Keeps old new → Keeps fault_old fault_new → StopsBatch at config given old new fault_old fault_new
+pub data StopsBatch {S : Type 0} (at : Places S) (config : String Global) (given : Option (List ℕ)) (bytes told : List ℕ) : Type 0 where
+  batch_silent : at.untouched → bytes ≡ [] → told ≡ [] → StopsBatch at config given bytes told
   batch_part : (profile : List Directive) → (text : List ℕ) → ReadsAt at config (Ok profile) → IsText given text
-      → StopsLines at profile text old new fault_old fault_new → StopsBatch at config given old new fault_old fault_new
+      → StopsLines at profile text bytes told → StopsBatch at config given bytes told
 
 -- and for a shell, where this is left of the input: nothing, where no register is opened, and then no byte of the input is gone; or the answers of the
 -- first lines
-pub data StopsShell {S : Type 0} (at : Places S) (config : String Global) (given left old new fault_old fault_new : Option (List ℕ)) : Type 0 where
-  shell_silent : {fault : Fault} → {cause : Option Cause} → {closed : Closed} → StopsOpening at config fault cause closed → left ≡ given → Keeps old new → TellsLeft fault_old fault_new closed
-      → StopsShell at config given left old new fault_old fault_new
+pub data StopsShell {S : Type 0} (at : Places S) (config : String Global) (given left : Option (List ℕ)) (bytes told : List ℕ) : Type 0 where
+  shell_silent : {fault : Fault} → {cause : Option Cause} → {closed : Closed} → StopsOpening at config fault cause closed → left ≡ given → bytes ≡ [] → told ≡ leaving_lines closed
+      → StopsShell at config given left bytes told
   shell_part : (profile : List Directive) → (format : Format) → (c : Conditions) → (closed : Closed) → ReadsAt at config (Ok profile) → AreConditionsIn format profile c
-      → FromStore at Unsaid format profile closed (λ first last. IfSome given (λ text. StopsText at.store at.sees format c Starved text left old new first last))
-      → TellsClosed fault_old fault_new closed → StopsShell at config given left old new fault_old fault_new
+      → FromStore at Unsaid format profile closed (λ old new. IfSome given (λ text. StopsText at.store at.sees format c Starved text left bytes old new))
+      → told ≡ closing_lines closed → StopsShell at config given left bytes told

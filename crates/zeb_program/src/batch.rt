@@ -1,17 +1,18 @@
 //! A batch: commands in one session, one on a line.
 
-ghost use Rattle.std.specs.Prelude.{◌≡◌, ◌++◌, ◌∷◌, [], false, IfOk, OnErr};
+ghost use Rattle.std.specs.Prelude.{◌≡◌, IfOk, MatchResult, ⊤};
 ghost use Rattle.zeb_paths.specs.Walks.{telling_of};
 ghost use Rattle.sqlite.specs.Held.{state};
 ghost use Rattle.sqlite.specs.State.{HasCleanDisk};
-ghost use Rattle.zeb_engine.specs.Refusals.{refusal_text};
 ghost use Rattle.zeb_program.specs.ScriptAnswers.{AnswersOpened, AnswersStopped};
-ghost use Rattle.std.specs.Io.KnownBytes.{Appends};
 ghost use Rattle.zeb_program.specs.Answers.{bad_line, mark_line};
-ghost use Rattle.zeb_program.specs.PrivateShows.{ShowsBatch, ShowsCommand, ShowsLine, WritesUnless};
+ghost use Rattle.zeb_program.specs.PrivateShows.{ShowsBatch, ShowsCommand, ShowsLine, Shows};
 ghost use Rattle.zeb_program.specs.PrivateWordRuns.{RunsOnNothing};
 ghost use Rattle.zeb_engine.specs.Sessions.{KeepsConditions, conditions_in};
 ghost use Rattle.zeb_program.specs.Statuses.{IsFaultStatus, refusal_status};
+ghost use Rattle.zeb_program.specs.Sinks.{Sent, SendsBoth};
+ghost use Rattle.zeb_program.specs.PrivateSinks.{Sends};
+ghost use Rattle.zeb_program.specs.FixedLines.{refusal_line};
 
 use crate::failures::{Failure, tell_failure};
 use crate::lines::Line;
@@ -37,13 +38,10 @@ pub fn run_in_memory<P: Paths, W: Write>(
     batch: Batch<'_>,
     output: &mut Sink<W>,
 ) -> Result<Status, AllocError>
-    ensures sound { output.new.failed ≡ false → output.old.failed ≡ false }
-    ensures answer { IfOk result (λ status. output.new.failed ≡ false
-        → AnswersOpened (telling_of P.Paths paths.now) profile batch.entry.lines_before
-        batch.entry.text.now (W.contents output.old.writer) (W.contents output.new.writer) status) }
-    ensures stopped { OnErr result (output.new.failed ≡ false
-        → AnswersStopped (telling_of P.Paths paths.now) profile batch.entry.lines_before
-        batch.entry.text.now (W.contents output.old.writer) (W.contents output.new.writer)) }
+    ensures { Sends output.old output.new (λ bytes. MatchResult result (AnswersOpened (telling_of
+        P.Paths paths.now) profile batch.entry.lines_before batch.entry.text.now bytes) (λ error.
+        AnswersStopped (telling_of P.Paths paths.now) profile batch.entry.lines_before
+        batch.entry.text.now bytes)) }
 {
     match session_in_memory(alloc, profile) {
         Ok(mut session) => run_lines(alloc, &mut session, paths, batch, output),
@@ -60,15 +58,9 @@ pub fn run_on_nothing<P: Paths, W: Write, V: Write>(
     output: &mut Sink<W>,
     fault_output: &mut Sink<V>,
 ) -> Result<Status, AllocError>
-    ensures answer { IfOk result (λ status. output.new.failed ≡ false
-        → fault_output.new.failed ≡ false → RunsOnNothing (telling_of P.Paths paths.now) profile
-        batch.entry.lines_before batch.entry.text.now (W.contents output.old.writer)
-        (W.contents output.new.writer) (V.contents fault_output.old.writer)
-        (V.contents fault_output.new.writer) status) }
-    ensures stopped { OnErr result (output.new.failed ≡ false
-        → AnswersStopped (telling_of P.Paths paths.now) profile batch.entry.lines_before
-        batch.entry.text.now (W.contents output.old.writer) (W.contents output.new.writer)) }
-    ensures silent { OnErr result (fault_output.new ≡ fault_output.old) }
+    ensures { SendsBoth output.old output.new fault_output.old fault_output.new (λ bytes told.
+        RunsOnNothing (telling_of P.Paths paths.now) profile batch.entry.lines_before
+        batch.entry.text.now bytes told result) }
 {
     match session_in_memory(alloc, profile) {
         Ok(mut session) => run_lines(alloc, &mut session, paths, batch, output),
@@ -84,15 +76,13 @@ pub fn run_lines<S: Alter, L: Layout, P: Paths, W: Write>(
     batch: Batch<'_>,
     output: &mut Sink<W>,
 ) -> Result<Status, AllocError>
-    ensures sound { output.new.failed ≡ false → output.old.failed ≡ false }
     // Each line is answered as the engine says of it on any tables, on those that the line before it left; where memory runs out the first are.
-    ensures lines { HasCleanDisk (state S.Store session.new.connection)
-        → ShowsBatch S.Store (telling_of P.Paths paths.now) L.format
+    ensures lines { Sends output.old output.new (λ bytes. HasCleanDisk (state S.Store
+        session.new.connection) → ShowsBatch S.Store (telling_of P.Paths paths.now) L.format
         (conditions_in L.format session.old) batch.entry.lines_before batch.entry.text.now
-        output.new.failed (W.contents output.old.writer) (W.contents output.new.writer)
-        session.old.connection session.new.connection result }
-    ensures clean { HasCleanDisk (state S.Store session.new.connection)
-        → HasCleanDisk (state S.Store session.old.connection) }
+        session.old.connection session.new.connection bytes result) }
+    ensures clean { HasCleanDisk (state S.Store session.new.connection) → HasCleanDisk (state
+        S.Store session.old.connection) }
 {
     let mut rest = batch.text;
     let mut number = batch.lines_before;
@@ -115,18 +105,14 @@ pub fn run_line<S: Alter, L: Layout, P: Paths, W: Write>(
     number: u64,
     output: &mut Sink<W>,
 ) -> Result<Status, AllocError>
-    ensures sound { output.new.failed ≡ false → output.old.failed ≡ false }
     // It is answered as the engine says of it on any tables; and where memory runs out at it, it may be done all the same.
-    ensures answer { HasCleanDisk (state S.Store session.new.connection)
-        → ShowsLine S.Store (telling_of P.Paths paths.now) L.format
-        (conditions_in L.format session.old) number line.now output.new.failed
-        (W.contents output.old.writer) (W.contents output.new.writer) session.old.connection
-        session.new.connection result }
-    ensures silent { OnErr result (output.new ≡ output.old) }
+    ensures shows { Sends output.old output.new (λ bytes. HasCleanDisk (state S.Store
+        session.new.connection) → ShowsLine S.Store (telling_of P.Paths paths.now) L.format
+        (conditions_in L.format session.old) number line.now session.old.connection
+        session.new.connection bytes result) }
     // The session stays under its profile and its limits, and its disk was clean where it is.
-    ensures stays { KeepsConditions session.old session.new
-        × (HasCleanDisk (state S.Store session.new.connection)
-        → HasCleanDisk (state S.Store session.old.connection)) }
+    ensures stays { KeepsConditions session.old session.new × (HasCleanDisk (state S.Store
+        session.new.connection) → HasCleanDisk (state S.Store session.old.connection)) }
 {
     match Line::read(alloc, line)? {
         Line::Remark => Ok(Status::Answered),
@@ -144,16 +130,12 @@ fn run_command<S: Alter, L: Layout, W: Write>(
     command: &Command,
     output: &mut Sink<W>,
 ) -> Result<Status, AllocError>
-    ensures sound { output.new.failed ≡ false → output.old.failed ≡ false }
-    ensures answer { HasCleanDisk (state S.Store session.new.connection)
-        → ShowsCommand S.Store L.format (conditions_in L.format session.old) command.now
-        output.new.failed (W.contents output.old.writer) (W.contents output.new.writer)
-        session.old.connection session.new.connection result }
-    ensures silent { OnErr result (output.new ≡ output.old) }
+    ensures shows { Sends output.old output.new (λ bytes. HasCleanDisk (state S.Store
+        session.new.connection) → ShowsCommand S.Store L.format (conditions_in L.format session.old)
+        command.now session.old.connection session.new.connection bytes result) }
     // The session stays under its profile and its limits, and its disk was clean where it is.
-    ensures stays { KeepsConditions session.old session.new
-        × (HasCleanDisk (state S.Store session.new.connection)
-        → HasCleanDisk (state S.Store session.old.connection)) }
+    ensures stays { KeepsConditions session.old session.new × (HasCleanDisk (state S.Store
+        session.new.connection) → HasCleanDisk (state S.Store session.old.connection)) }
 {
     match session.command(command) {
         Ok(reply) => {
@@ -166,10 +148,8 @@ fn run_command<S: Alter, L: Layout, W: Write>(
 
 /// Writes the text of a mark, and answers the status of such a line.
 fn write_mark<W: Write>(text: &str, output: &mut Sink<W>) -> Status
-    ensures sound { output.new.failed ≡ false → output.old.failed ≡ false }
     ensures status { result ≡ Status.Answered }
-    ensures line { output.new.failed ≡ false →
-        Appends (W.contents output.old.writer) (W.contents output.new.writer) (mark_line text.now) }
+    ensures line { Sent output.old output.new (mark_line text.now) }
 {
     output.write_line(text);
     Status::Answered
@@ -177,10 +157,8 @@ fn write_mark<W: Write>(text: &str, output: &mut Sink<W>) -> Status
 
 /// Writes that the line of this number is no command, and answers the status of such a line.
 pub fn refuse_line<W: Write>(number: u64, output: &mut Sink<W>) -> Status
-    ensures sound { output.new.failed ≡ false → output.old.failed ≡ false }
     ensures status { result ≡ Status.Misused }
-    ensures line { output.new.failed ≡ false →
-        Appends (W.contents output.old.writer) (W.contents output.new.writer) (bad_line number) }
+    ensures line { Sent output.old output.new (bad_line number) }
 {
     output.write_line(format_args!("zebraidx: bad line {number}"));
     Status::Misused
@@ -192,12 +170,8 @@ pub fn refuse<W: Write>(
     refusal: &Refusal,
     output: &mut Sink<W>,
 ) -> Result<Status, AllocError>
-    ensures sound { output.new.failed ≡ false → output.old.failed ≡ false }
-    ensures answer { IfOk result (λ status. WritesUnless output.new.failed
-        (W.contents output.old.writer) (W.contents output.new.writer)
-        (λ bytes. (bytes ≡ refusal_text refusal.now ++ 10 ∷ [])
-        × (status ≡ refusal_status refusal.now))) }
-    ensures silent { OnErr result (output.new ≡ output.old) }
+    ensures told { Sends output.old output.new (λ bytes. Shows (λ line status. (line ≡ refusal_line
+        refusal.now) × (status ≡ refusal_status refusal.now)) ⊤ bytes result) }
     ensures fault { IfOk result IsFaultStatus }
 {
     output.write_line(refusal_line(alloc, refusal)?);

@@ -1,27 +1,28 @@
 //! The words of a command line: what they ask for is done, and its answer or why there is none is written.
 
-ghost use Rattle.std.specs.Prelude.{◌≡◌, ◌≢◌, ◌⊎◌, ◌+◌, ◌++◌, false, true, map, string_bytes, Ok, IfErr, IfOk};
-ghost use Rattle.std.specs.Prelude.{OnErr, IsErrAnd};
+ghost use Rattle.std.specs.Prelude.{◌≡◌, ◌≢◌, ◌⊎◌, ◌+◌, ◌++◌, false, true, map, string_bytes, Ok, IfErr, IfOk, []};
+ghost use Rattle.std.specs.Prelude.{IsErrAnd};
 ghost use Rattle.zeb_paths.specs.Walks.{telling_of};
 ghost use Rattle.zeb_words.specs.declared.words.LayoutChoice.TheVariants.{Unsaid};
 ghost use Rattle.zeb_program.specs.Doing.{DoesBatch};
 ghost use Rattle.zeb_program.specs.LeftStores.{LeavesAt, LeavesByBatch, LeavesByShell, LeavesByTask, LeavesStore};
-ghost use Rattle.zeb_program.specs.PrivateWordRuns.{EndsStarved, TakesByWords};
+ghost use Rattle.zeb_program.specs.PrivateWordRuns.{TakesByWords, Ends, EndsUnfailed};
 ghost use Rattle.zeb_program.specs.Scripts.{BeginsRegister};
 ghost use Rattle.zeb_program.specs.ProfileFiles.{ReadsProfile};
 ghost use Rattle.zeb_program.specs.Registers.{places_of};
 ghost use Rattle.zeb_program.specs.Statuses.{closing_status};
 ghost use Rattle.zeb_program.specs.WordRuns.{IsText, RunsBatch, RunsLines, RunsShell};
 ghost use Rattle.zeb_program.specs.WordRuns.{StopsBatch, StopsLines, StopsReading, StopsShell, StopsTask};
-ghost use Rattle.std.specs.Io.KnownBytes.{Appends, IsAtEnd};
+ghost use Rattle.std.specs.Io.KnownBytes.{IsAtEnd};
 ghost use Rattle.zeb_program.specs.PrivateFaults.{IsUnread};
 ghost use Rattle.zeb_program.specs.Inputs.{TakesAtMost};
-ghost use Rattle.zeb_program.specs.FixedLines.{misuse_line, starved_line, usage_line};
+ghost use Rattle.zeb_program.specs.FixedLines.{misuse_line, usage_line};
 ghost use Rattle.zeb_program.specs.WordAnswers.{AnswersWords, StopsWords, TellsApart, TellsUsage};
 ghost use Rattle.zeb_program.specs.Warnings.{warning_bytes};
-ghost use Rattle.zeb_program.specs.Closings.{TellsClosed};
+ghost use Rattle.zeb_program.specs.Closings.{closing_lines};
 ghost use Rattle.zeb_program.specs.Unanswered.{IsToldSince};
 ghost use Rattle.std.specs.Option.{option_map};
+ghost use Rattle.zeb_program.specs.Sinks.{Sent, SendsBoth};
 
 use crate::batch::run_on_nothing;
 use crate::failures::{Cause, Failure, tell_closed, tell_failure, tell_unanswered};
@@ -53,24 +54,16 @@ pub fn run_words<R: Source, W: Output, V: Write, P: Paths>(
     requires { R.has_failed input.old ≡ false }
     ensures input { TakesByWords (GREATEST_INPUT + 1) R.remaining (map string_bytes words.now)
         input.old input.new }
-    ensures store { LeavesStore (places_of P.Store.Store P.Paths paths.old paths.new)
-        (map string_bytes words.now) (R.remaining input.old) result
-        (IsToldSince fault_output.new.failed (V.contents fault_output.old.writer)
-        (V.contents fault_output.new.writer)) }
-    ensures failed_read { R.has_failed input.new ≡ true
-        → IfOk result (λ status. status ≡ Status.Failed) }
-    ensures answer { IfOk result (λ status. output.new.failed ≡ false
-        → fault_output.new.failed ≡ false → AnswersWords
+    ensures store { LeavesStore (places_of P.Store.Store P.Paths paths.old paths.new) (map
+        string_bytes words.now) (R.remaining input.old) result (IsToldSince fault_output.old
+        fault_output.new) }
+    ensures failed_read { R.has_failed input.new ≡ true → IfOk result (λ status. status ≡
+        Status.Failed) }
+    ensures answer { EndsUnfailed output.old output.new fault_output.old fault_output.new (AnswersWords
         (places_of P.Store.Store P.Paths paths.old paths.new) (map string_bytes words.now)
-        (R.remaining input.old) (R.remaining input.new) (R.has_failed input.new)
-        (W.contents output.old.writer) (W.contents output.new.writer)
-        (V.contents fault_output.old.writer) (V.contents fault_output.new.writer) status) }
-    ensures stopped { EndsStarved result output.new.failed fault_output.new.failed
-        (V.contents fault_output.old.writer) (V.contents fault_output.new.writer)
-        (StopsWords (places_of P.Store.Store P.Paths paths.old paths.new)
-        (map string_bytes words.now) (R.remaining input.old) (R.remaining input.new)
-        (W.contents output.old.writer) (W.contents output.new.writer)
-        (V.contents fault_output.old.writer) (V.contents fault_output.new.writer)) }
+        (R.remaining input.old) (R.remaining input.new) (R.has_failed input.new)) (StopsWords
+        (places_of P.Store.Store P.Paths paths.old paths.new) (map string_bytes words.now)
+        (R.remaining input.old) (R.remaining input.new)) result }
 {
     let Words {
         config,
@@ -94,12 +87,8 @@ fn refuse_words<W: Write, V: Write>(
     output: &mut Sink<W>,
     fault_output: &mut Sink<V>,
 ) -> Status
-    ensures told { output.new.failed ≡ false → fault_output.new.failed ≡ false →
-        TellsUsage usage (W.contents output.old.writer) (W.contents output.new.writer)
-        (V.contents fault_output.old.writer) (V.contents fault_output.new.writer) result }
-    // Whatever the other output does.
-    ensures starved { usage ≡ Usage.Memory → fault_output.new.failed ≡ false → Appends
-        (V.contents fault_output.old.writer) (V.contents fault_output.new.writer) starved_line }
+    ensures { SendsBoth output.old output.new fault_output.old fault_output.new (λ bytes told.
+        TellsUsage usage bytes told result) }
 {
     match usage {
         Usage::BadUsage(why) => explain_misuse(why, fault_output),
@@ -118,8 +107,7 @@ fn refuse_words<W: Write, V: Write>(
 /// Writes that the words are misused, and below it what the parser says of them, and answers the status.
 fn misuse<V: Write>(text: &str, fault_output: &mut Sink<V>) -> Status
     ensures status { result ≡ Status.Misused }
-    ensures line { fault_output.new.failed ≡ false → Appends (V.contents fault_output.old.writer)
-        (V.contents fault_output.new.writer) (usage_line ++ text.now) }
+    ensures lines { Sent fault_output.old fault_output.new (usage_line ++ text.now) }
 {
     fault_output.write_line("zebraidx: bad usage");
     fault_output.write(text.as_bytes());
@@ -129,8 +117,7 @@ fn misuse<V: Write>(text: &str, fault_output: &mut Sink<V>) -> Status
 /// Writes that the words are misused, and below it why, and answers the status.
 fn explain_misuse<V: Write>(why: Misuse, fault_output: &mut Sink<V>) -> Status
     ensures status { result ≡ Status.Misused }
-    ensures line { fault_output.new.failed ≡ false → Appends (V.contents fault_output.old.writer)
-        (V.contents fault_output.new.writer) (usage_line ++ misuse_line why) }
+    ensures lines { Sent fault_output.old fault_output.new (usage_line ++ misuse_line why) }
 {
     fault_output.write_line("zebraidx: bad usage");
     fault_output.write_line(format_args!("zebraidx: cause: {why}"));
@@ -147,21 +134,15 @@ fn run_task<W: Write, V: Write, P: Paths>(
     output: &mut Sink<W>,
     fault_output: &mut Sink<V>,
 ) -> Result<Status, AllocError>
-    ensures apart { IfOk result (λ status. output.new.failed ≡ false
-        → fault_output.new.failed ≡ false → TellsApart
-        (places_of P.Store.Store P.Paths paths.old paths.new) choice config task.now
-        (W.contents output.old.writer) (W.contents output.new.writer)
-        (V.contents fault_output.old.writer) (V.contents fault_output.new.writer) status) }
     // Memory that runs out in the program itself is found before anything is written, but that the register's file needs its log;
     // what was done stays.
-    ensures stopped { OnErr result ((output.new ≡ output.old)
-        × (fault_output.new.failed ≡ false → StopsTask
-        (places_of P.Store.Store P.Paths paths.old paths.new) choice config task.now
-        (V.contents fault_output.old.writer) (V.contents fault_output.new.writer))) }
+    ensures answer { Ends output.old output.new fault_output.old fault_output.new (TellsApart
+        (places_of P.Store.Store P.Paths paths.old paths.new) choice config task.now) (λ bytes told.
+        (bytes ≡ []) × StopsTask (places_of P.Store.Store P.Paths paths.old paths.new) choice config
+        task.now told) result }
     // What becomes of the store, whatever is written.
     ensures store { LeavesByTask (places_of P.Store.Store P.Paths paths.old paths.new) choice config
-        task.now result (IsToldSince fault_output.new.failed (V.contents fault_output.old.writer)
-        (V.contents fault_output.new.writer)) }
+        task.now result (IsToldSince fault_output.old fault_output.new) }
 {
     let named = config.clone()?;
     let Performed { told, closed } = perform(alloc, config, choice, task, paths);
@@ -178,13 +159,10 @@ fn tell_answer<W: Write, V: Write>(
     output: &mut Sink<W>,
     fault_output: &mut Sink<V>,
 ) -> Status
-    ensures text { output.new.failed ≡ false →
-        Appends (W.contents output.old.writer) (W.contents output.new.writer) told.now.text.items }
+    ensures text { Sent output.old output.new told.now.text.items }
     // A warning, and below it how the register was closed.
-    ensures told { fault_output.new.failed ≡ false → (between : _)
-        × Appends (V.contents fault_output.old.writer) between
-        (warning_bytes (option_map string_bytes told.now.warning))
-        × TellsClosed between (V.contents fault_output.new.writer) closed }
+    ensures told { Sent fault_output.old fault_output.new (warning_bytes (option_map string_bytes
+        told.now.warning) ++ closing_lines closed) }
     ensures closing { result ≡ closing_status closed }
 {
     output.write(told.text.as_slice());
@@ -194,9 +172,8 @@ fn tell_answer<W: Write, V: Write>(
 
 /// Writes a warning, where there is one.
 fn warn<V: Write>(warning: &Option<String>, fault_output: &mut Sink<V>)
-    ensures sound { fault_output.new.failed ≡ false → fault_output.old.failed ≡ false }
-    ensures told { fault_output.new.failed ≡ false → Appends (V.contents fault_output.old.writer)
-        (V.contents fault_output.new.writer) (warning_bytes (option_map string_bytes warning.now)) }
+    ensures { Sent fault_output.old fault_output.new (warning_bytes (option_map string_bytes
+        warning.now)) }
 {
     match warning {
         Some(line) => fault_output.write(line.as_bytes()),
@@ -214,24 +191,16 @@ fn run_batch<R: Source, W: Write, V: Write, P: Paths>(
     fault_output: &mut Sink<V>,
 ) -> Result<Status, AllocError>
     requires { R.has_failed input.old ≡ false }
-    ensures bounded { TakesAtMost (GREATEST_INPUT + 1) (R.remaining input.old)
-        (R.remaining input.new) }
-    ensures failed_read { R.has_failed input.new ≡ true
-        → IfOk result (λ status. status ≡ Status.Failed) }
-    ensures answer { IfOk result (λ status. output.new.failed ≡ false
-        → fault_output.new.failed ≡ false → RunsBatch
+    ensures bounded { TakesAtMost (GREATEST_INPUT + 1) (R.remaining input.old) (R.remaining
+        input.new) }
+    ensures failed_read { R.has_failed input.new ≡ true → IfOk result (λ status. status ≡
+        Status.Failed) }
+    ensures answer { Ends output.old output.new fault_output.old fault_output.new (RunsBatch
         (places_of P.Store.Store P.Paths paths.old paths.new) config (R.remaining input.old)
-        (R.has_failed input.new) (W.contents output.old.writer) (W.contents output.new.writer)
-        (V.contents fault_output.old.writer) (V.contents fault_output.new.writer) status) }
-    ensures stopped { EndsStarved result output.new.failed fault_output.new.failed
-        (V.contents fault_output.old.writer) (V.contents fault_output.new.writer)
-        (StopsBatch (places_of P.Store.Store P.Paths paths.old paths.new) config
-        (R.remaining input.old) (W.contents output.old.writer) (W.contents output.new.writer)
-        (V.contents fault_output.old.writer) (V.contents fault_output.new.writer)) }
+        (R.has_failed input.new)) (StopsBatch (places_of P.Store.Store P.Paths paths.old paths.new)
+        config (R.remaining input.old)) result }
     ensures store { LeavesByBatch (places_of P.Store.Store P.Paths paths.old paths.new) config
-        (R.remaining input.old) result
-        (IsToldSince fault_output.new.failed (V.contents fault_output.old.writer)
-        (V.contents fault_output.new.writer)) }
+        (R.remaining input.old) result (IsToldSince fault_output.old fault_output.new) }
 {
     let named = config.clone()?;
     match begin_batch(alloc, config, paths, input) {
@@ -286,20 +255,12 @@ fn serve_batch<W: Write, V: Write, P: Paths>(
     output: &mut Sink<W>,
     fault_output: &mut Sink<V>,
 ) -> Result<Status, AllocError>
-    ensures answer { IfOk result (λ status. output.new.failed ≡ false
-        → fault_output.new.failed ≡ false
-        → RunsLines (places_of P.Store.Store P.Paths paths.old paths.new) config profile text.now
-        (W.contents output.old.writer) (W.contents output.new.writer)
-        (V.contents fault_output.old.writer) (V.contents fault_output.new.writer) status) }
-    ensures stopped { EndsStarved result output.new.failed fault_output.new.failed
-        (V.contents fault_output.old.writer) (V.contents fault_output.new.writer)
-        (StopsLines (places_of P.Store.Store P.Paths paths.old paths.new) profile text.now
-        (W.contents output.old.writer) (W.contents output.new.writer)
-        (V.contents fault_output.old.writer) (V.contents fault_output.new.writer)) }
+    ensures answer { Ends output.old output.new fault_output.old fault_output.new (RunsLines
+        (places_of P.Store.Store P.Paths paths.old paths.new) config profile text.now) (StopsLines
+        (places_of P.Store.Store P.Paths paths.old paths.new) profile text.now) result }
     ensures store { LeavesAt (places_of P.Store.Store P.Paths paths.old paths.new) Unsaid profile
-        result (IsToldSince fault_output.new.failed (V.contents fault_output.old.writer)
-        (V.contents fault_output.new.writer)) (BeginsRegister text.now) (λ format c.
-        DoesBatch P.Store.Store (telling_of P.Paths paths.new) format c 0 text.now result) }
+        result (IsToldSince fault_output.old fault_output.new) (BeginsRegister text.now) (λ format
+        c. DoesBatch P.Store.Store (telling_of P.Paths paths.new) format c 0 text.now result) }
 {
     let batch = Batch {
         text,
@@ -331,26 +292,17 @@ fn run_shell<R: Source, W: Output, V: Write, P: Paths>(
     fault_output: &mut Sink<V>,
 ) -> Result<Status, AllocError>
     requires { R.has_failed input.old ≡ false }
-    ensures failed_read { R.has_failed input.new ≡ true
-        → IfOk result (λ status. status ≡ Status.Failed) }
-    ensures whole { IfOk result (λ status. status ≢ Status.Failed → IsAtEnd (R.remaining input.new)
-        ⊎ (output.new ≡ output.old)) }
-    ensures answer { IfOk result (λ status. output.new.failed ≡ false
-        → fault_output.new.failed ≡ false → RunsShell
+    ensures failed_read { R.has_failed input.new ≡ true → IfOk result (λ status. status ≡
+        Status.Failed) }
+    // A part of the input is left only with status 3, or where nothing is answered.
+    ensures answer { EndsUnfailed output.old output.new fault_output.old fault_output.new (λ bytes told
+        status. (status ≢ Status.Failed → IsAtEnd (R.remaining input.new) ⊎ (bytes ≡ [])) ×
+        RunsShell (places_of P.Store.Store P.Paths paths.old paths.new) config (R.remaining
+        input.old) (R.remaining input.new) (R.has_failed input.new) bytes told status) (StopsShell
         (places_of P.Store.Store P.Paths paths.old paths.new) config (R.remaining input.old)
-        (R.remaining input.new) (R.has_failed input.new) (W.contents output.old.writer)
-        (W.contents output.new.writer) (V.contents fault_output.old.writer)
-        (V.contents fault_output.new.writer) status) }
-    ensures stopped { EndsStarved result output.new.failed fault_output.new.failed
-        (V.contents fault_output.old.writer) (V.contents fault_output.new.writer)
-        (StopsShell (places_of P.Store.Store P.Paths paths.old paths.new) config
-        (R.remaining input.old) (R.remaining input.new) (W.contents output.old.writer)
-        (W.contents output.new.writer) (V.contents fault_output.old.writer)
-        (V.contents fault_output.new.writer)) }
+        (R.remaining input.new)) result }
     ensures store { LeavesByShell (places_of P.Store.Store P.Paths paths.old paths.new) config
-        (R.remaining input.old) result
-        (IsToldSince fault_output.new.failed (V.contents fault_output.old.writer)
-        (V.contents fault_output.new.writer)) }
+        (R.remaining input.old) result (IsToldSince fault_output.old fault_output.new) }
 {
     let named = config.clone()?;
     match open(alloc, config, paths) {

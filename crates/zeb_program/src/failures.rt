@@ -1,11 +1,10 @@
 //! Why a command that words name isn't answered, with its cause, and what is written of both.
 
-ghost use Rattle.std.specs.Prelude.{◌≡◌, false, true, None, IfOk, IsErr, OnErr, string_bytes};
+ghost use Rattle.std.specs.Prelude.{◌≡◌, None, IfOk, IsErr, string_bytes, MatchResult, ⊤};
 ghost use Rattle.std.specs.Option.{option_map};
-ghost use Rattle.zeb_program.specs.Answers.{Writes};
-ghost use Rattle.zeb_program.specs.Closings.{TellsClosed, TellsLeft};
-ghost use Rattle.zeb_program.specs.Unanswered.{TellsUnanswered};
-ghost use Rattle.zeb_program.specs.FaultLines.{IsCauseOf, TellsCaused, TellsPlaced, cause_line, cause_lines, file_lines, met_line, register_lines, unread_lines};
+ghost use Rattle.zeb_program.specs.Closings.{closing_lines, leaving_lines};
+ghost use Rattle.zeb_program.specs.Unanswered.{TellsUnanswered, TellsNamed};
+ghost use Rattle.zeb_program.specs.FaultLines.{IsCauseOf, TellsCaused, cause_line, cause_lines, file_lines, met_line, register_lines, unread_lines};
 ghost use Rattle.zeb_program.specs.declared.failures.Cause.TheVariants.{Path as PathOf, Store as StoreOf};
 ghost use Rattle.zeb_program.specs.FaultLines as lines;
 ghost use Rattle.zeb_program.specs.Explanations.{ExplainsUnread, NamesRegister, refusal_cause};
@@ -13,7 +12,9 @@ ghost use Rattle.zeb_program.specs.Diagnostics.{meaning_lines};
 ghost use Rattle.zeb_program.specs.PrivateFaults.{EndsTold};
 ghost use Rattle.zeb_program.specs.Statuses.{IsFaultStatus, closing_status};
 ghost use Rattle.zeb_program.specs.declared.faults.Fault.TheVariants.{Memory, Refused};
-ghost use Rattle.std.specs.Io.KnownBytes.{Appends};
+ghost use Rattle.zeb_program.specs.Sinks.{Sent};
+ghost use Rattle.zeb_program.specs.PrivateSinks.{Sends};
+ghost use Rattle.zeb_program.specs.PrivateShows.{Shows};
 
 use crate::diagnostics::{is_placed, meaning_of};
 use crate::faults::{Fault, tell};
@@ -144,12 +145,9 @@ pub fn tell_failure<W: Write>(
     failure: &Failure,
     output: &mut Sink<W>,
 ) -> Result<Status, AllocError>
-    ensures told { IfOk result (λ status. output.new.failed ≡ false →
-        Writes (W.contents output.old.writer) (W.contents output.new.writer)
-        (λ bytes. TellsCaused failure.now.fault failure.now.cause bytes status)) }
-    ensures sound { output.new.failed ≡ false → output.old.failed ≡ false }
+    ensures told { Sends output.old output.new (λ bytes. Shows (TellsCaused failure.now.fault
+        failure.now.cause) ⊤ bytes result) }
     ensures status { EndsTold failure.now.fault result }
-    ensures silent { OnErr result (output.new ≡ output.old) }
 {
     let status = tell(alloc, &failure.fault, output)?;
     tell_cause(&failure.cause, output);
@@ -165,14 +163,10 @@ pub fn tell_task_failure<P: Paths, W: Write>(
     failure: &Failure,
     output: &mut Sink<W>,
 ) -> Result<Status, AllocError>
-    ensures told { IfOk result (λ status. output.new.failed ≡ false →
-        Writes (W.contents output.old.writer) (W.contents output.new.writer)
-        (λ bytes. (register : _)
-        × NamesRegister (P.tells paths.now (string_bytes config)) config failure.now.fault register
-        × TellsPlaced failure.now.fault failure.now.cause register bytes status)) }
+    ensures told { Sends output.old output.new (λ bytes. Shows (TellsNamed (P.tells paths.now
+        (string_bytes config)) config failure.now.fault failure.now.cause) ⊤ bytes result) }
     ensures memory { failure.now.fault ≡ Memory → IsErr result }
     ensures status { IfOk result IsFaultStatus }
-    ensures silent { OnErr result (output.new ≡ output.old) }
 {
     let register = register_of(alloc, paths, config, &failure.fault)?;
     let status = tell_failure(alloc, failure, output)?;
@@ -213,9 +207,7 @@ fn is_of_register(fault: &Fault) -> bool
 
 /// Writes the line of a register's path, where one is told.
 fn tell_register<W: Write>(register: &Option<String>, output: &mut Sink<W>)
-    ensures told { output.new.failed ≡ false → Appends (W.contents output.old.writer)
-        (W.contents output.new.writer) (register_lines register.now) }
-    ensures sound { output.new.failed ≡ false → output.old.failed ≡ false }
+    ensures { Sent output.old output.new (register_lines register.now) }
 {
     match register {
         Some(path) => output.write_line(format_args!("zebraidx: register is {path}")),
@@ -225,9 +217,7 @@ fn tell_register<W: Write>(register: &Option<String>, output: &mut Sink<W>)
 
 /// Writes the line of a cause, where one is known.
 fn tell_cause<W: Write>(cause: &Option<Cause>, output: &mut Sink<W>)
-    ensures told { output.new.failed ≡ false → Appends (W.contents output.old.writer)
-        (W.contents output.new.writer) (cause_lines cause.now) }
-    ensures sound { output.new.failed ≡ false → output.old.failed ≡ false }
+    ensures { Sent output.old output.new (cause_lines cause.now) }
 {
     match cause {
         Some(cause) => write_cause(cause, output),
@@ -236,9 +226,7 @@ fn tell_cause<W: Write>(cause: &Option<Cause>, output: &mut Sink<W>)
 }
 
 fn write_cause<W: Write>(cause: &Cause, output: &mut Sink<W>)
-    ensures line { output.new.failed ≡ false → Appends (W.contents output.old.writer)
-        (W.contents output.new.writer) (cause_line cause.now) }
-    ensures sound { output.new.failed ≡ false → output.old.failed ≡ false }
+    ensures { Sent output.old output.new (cause_line cause.now) }
 {
     match cause {
         Cause::Path(cause) => write_met(*cause, output),
@@ -255,9 +243,7 @@ fn write_cause<W: Write>(cause: &Cause, output: &mut Sink<W>)
 
 /// Writes the line of what is told of a file, where something is.
 fn tell_met<W: Write>(met: Option<FileCause>, output: &mut Sink<W>)
-    ensures told { output.new.failed ≡ false → Appends (W.contents output.old.writer)
-        (W.contents output.new.writer) (file_lines met) }
-    ensures sound { output.new.failed ≡ false → output.old.failed ≡ false }
+    ensures { Sent output.old output.new (file_lines met) }
 {
     match met {
         Some(FileCause::Path(cause)) => write_met(cause, output),
@@ -270,9 +256,7 @@ fn tell_met<W: Write>(met: Option<FileCause>, output: &mut Sink<W>)
 
 /// Writes the line of a diagnostic's meaning, with its place in the query, if it has one.
 fn write_meaning<W: Write>(number: u32, place: usize, output: &mut Sink<W>)
-    ensures told { output.new.failed ≡ false → Appends (W.contents output.old.writer)
-        (W.contents output.new.writer) (meaning_lines number place) }
-    ensures sound { output.new.failed ≡ false → output.old.failed ≡ false }
+    ensures { Sent output.old output.new (meaning_lines number place) }
 {
     let Some(meaning) = meaning_of(number) else {
         return;
@@ -285,18 +269,14 @@ fn write_meaning<W: Write>(number: u32, place: usize, output: &mut Sink<W>)
 }
 
 fn write_met<W: Write>(cause: PathCause, output: &mut Sink<W>)
-    ensures line { output.new.failed ≡ false → Appends (W.contents output.old.writer)
-        (W.contents output.new.writer) (met_line cause) }
-    ensures sound { output.new.failed ≡ false → output.old.failed ≡ false }
+    ensures { Sent output.old output.new (met_line cause) }
 {
     output.write_line(format_args!("zebraidx: cause: {cause}"));
 }
 
 /// Writes that the input can't be read on, and why.
 pub fn tell_unread<W: Write>(cause: InputCause, output: &mut Sink<W>)
-    ensures lines { output.new.failed ≡ false → Appends (W.contents output.old.writer)
-        (W.contents output.new.writer) (unread_lines cause) }
-    ensures sound { output.new.failed ≡ false → output.old.failed ≡ false }
+    ensures { Sent output.old output.new (unread_lines cause) }
 {
     output.write_line("zebraidx: cannot read input");
     write_cause(&Cause::Input(cause), output);
@@ -312,13 +292,11 @@ pub fn tell_unanswered<P: Paths, W: Write>(
     closed: Closed,
     output: &mut Sink<W>,
 ) -> Result<Status, AllocError>
-    ensures told { IfOk result (λ status. output.new.failed ≡ false → TellsUnanswered
+    ensures told { Sends output.old output.new (λ bytes. MatchResult result (TellsUnanswered
         (P.tells paths.now (string_bytes config)) config failure.now.fault failure.now.cause closed
-        (W.contents output.old.writer) (W.contents output.new.writer) status) }
+        bytes) (λ error. bytes ≡ leaving_lines closed)) }
     ensures memory { failure.now.fault ≡ Memory → IsErr result }
     ensures status { IfOk result IsFaultStatus }
-    ensures stopped { OnErr result (output.new.failed ≡ false → TellsLeft
-        (W.contents output.old.writer) (W.contents output.new.writer) closed) }
 {
     let told = tell_task_failure(alloc, paths, config, failure, output);
     let left = tell_left(closed, output);
@@ -328,10 +306,7 @@ pub fn tell_unanswered<P: Paths, W: Write>(
 /// Writes that a part of what was done stands beside the register's file, where it does, and answers the status.
 pub fn tell_closed<W: Write>(closed: Closed, output: &mut Sink<W>) -> Status
     ensures status { result ≡ closing_status closed }
-    ensures told { output.new.failed ≡ false → TellsClosed (W.contents output.old.writer)
-        (W.contents output.new.writer) closed }
-    ensures whole { closed.is_whole ≡ true → output.new ≡ output.old }
-    ensures sound { output.new.failed ≡ false → output.old.failed ≡ false }
+    ensures told { Sent output.old output.new (closing_lines closed) }
 {
     if closed.is_whole {
         return Status::Answered;
@@ -344,9 +319,7 @@ pub fn tell_closed<W: Write>(closed: Closed, output: &mut Sink<W>) -> Status
 /// The same of what is left behind a failure, by which a command may have done nothing.
 fn tell_left<W: Write>(closed: Closed, output: &mut Sink<W>) -> Status
     ensures status { result ≡ closing_status closed }
-    ensures told { output.new.failed ≡ false → TellsLeft (W.contents output.old.writer)
-        (W.contents output.new.writer) closed }
-    ensures sound { output.new.failed ≡ false → output.old.failed ≡ false }
+    ensures told { Sent output.old output.new (leaving_lines closed) }
 {
     if closed.is_whole {
         return Status::Answered;

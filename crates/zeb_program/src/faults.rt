@@ -1,10 +1,11 @@
 //! Why a command that words or a line name isn't answered, and what is written of it.
 
-ghost use Rattle.std.specs.Prelude.{◌≡◌, false, IfOk, OnErr};
+ghost use Rattle.std.specs.Prelude.{◌≡◌, ⊤};
 ghost use Rattle.zeb_program.specs.FaultLines.{TellsFault};
 ghost use Rattle.zeb_program.specs.PrivateFaults.{EndsTold, IsUnread, fault_of};
-ghost use Rattle.zeb_program.specs.PrivateShows.{WritesUnless};
+ghost use Rattle.zeb_program.specs.PrivateShows.{Shows};
 ghost use Rattle.zeb_program.specs.declared.faults.Fault.TheVariants.{Memory};
+ghost use Rattle.zeb_program.specs.PrivateSinks.{Sends};
 
 use crate::batch::refuse;
 use crate::sinks::Sink;
@@ -61,12 +62,9 @@ pub fn tell<W: Write>(
     fault: &Fault,
     output: &mut Sink<W>,
 ) -> Result<Status, AllocError>
-    ensures told { IfOk result (λ status. WritesUnless output.new.failed
-        (W.contents output.old.writer) (W.contents output.new.writer)
-        (λ line. TellsFault fault.now line status)) }
-    ensures sound { output.new.failed ≡ false → output.old.failed ≡ false }
+    ensures told { Sends output.old output.new (λ bytes. Shows (TellsFault fault.now) ⊤ bytes
+        result) }
     ensures status { EndsTold fault.now result }
-    ensures silent { OnErr result (output.new ≡ output.old) }
 {
     match fault {
         Fault::Profile { file, fault } => {

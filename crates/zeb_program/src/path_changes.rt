@@ -1,6 +1,6 @@
 //! The lines of a batch that name a change by the path of its file.
 
-ghost use Rattle.std.specs.Prelude.{◌≡◌, ◌≢◌, false, IfNone, IfSome, OnErr};
+ghost use Rattle.std.specs.Prelude.{◌≡◌, ◌≢◌, IfNone, IfSome};
 ghost use Rattle.sqlite.specs.Held.{state};
 ghost use Rattle.sqlite.specs.State.{HasCleanDisk};
 ghost use Rattle.zeb_change.specs.declared.settings.Kind.{Kind};
@@ -8,6 +8,7 @@ ghost use Rattle.zeb_paths.specs.Walks.{telling_of};
 ghost use Rattle.zeb_program.specs.Batches.{kind_word};
 ghost use Rattle.zeb_program.specs.PrivateShows.{ShowsPath};
 ghost use Rattle.zeb_engine.specs.Sessions.{KeepsConditions, conditions_in};
+ghost use Rattle.zeb_program.specs.PrivateSinks.{Sends};
 
 use crate::faults::tell;
 use crate::sinks::Sink;
@@ -50,19 +51,15 @@ pub fn run_path_change<S: Alter, L: Layout, P: Paths, W: Write>(
     change: &PathChange,
     output: &mut Sink<W>,
 ) -> Result<Status, AllocError>
-    ensures sound { output.new.failed ≡ false → output.old.failed ≡ false }
     // It is answered as the engine says of it on any tables, whatever the paths tell; and where memory runs out it is done all the same, or
     // nothing is.
-    ensures answer { HasCleanDisk (state S.Store session.new.connection)
-        → ShowsPath S.Store (telling_of P.Paths paths.now) L.format
-        (conditions_in L.format session.old) change.now output.new.failed
-        (W.contents output.old.writer) (W.contents output.new.writer) session.old.connection
-        session.new.connection result }
-    ensures silent { OnErr result (output.new ≡ output.old) }
+    ensures shows { Sends output.old output.new (λ bytes. HasCleanDisk (state S.Store
+        session.new.connection) → ShowsPath S.Store (telling_of P.Paths paths.now) L.format
+        (conditions_in L.format session.old) change.now session.old.connection
+        session.new.connection bytes result) }
     // The session stays under its profile and its limits, and its disk was clean where it is.
-    ensures stays { KeepsConditions session.old session.new
-        × (HasCleanDisk (state S.Store session.new.connection)
-        → HasCleanDisk (state S.Store session.old.connection)) }
+    ensures stays { KeepsConditions session.old session.new × (HasCleanDisk (state S.Store
+        session.new.connection) → HasCleanDisk (state S.Store session.old.connection)) }
 {
     let named = slice::from_ref(&change.path);
     match change_by_paths(alloc, session, paths, change.kind, &change.database, named) {

@@ -1,17 +1,17 @@
 //! The program without its outside: words and input come in, output and a status go out.
 
-ghost use Rattle.std.specs.Prelude.{◌≡◌, ◌≢◌, ◌+◌, [], true, false, map, string_bytes, IfOk, IfSome, OnErr};
-ghost use Rattle.std.specs.Io.KnownBytes.{Appends, Keeps};
+ghost use Rattle.std.specs.Prelude.{◌≡◌, ◌≢◌, ◌+◌, [], true, false, map, string_bytes, IfOk, IfSome, MatchResult};
 ghost use Rattle.zeb_paths.specs.Walks.{telling_of};
 ghost use Rattle.zeb_program.specs.Inputs.{IsInput, TakesAtMost};
 ghost use Rattle.zeb_program.specs.LeftStores.{EndsLeaving};
 ghost use Rattle.zeb_program.specs.Registers.{places_of};
-ghost use Rattle.zeb_program.specs.FixedLines.{starved_line};
 ghost use Rattle.zeb_program.specs.ScriptAnswers.{AnswersScript, EndsEarly, EndsScript, TellsAtMost, fault_line, hint_of};
-ghost use Rattle.zeb_program.specs.PrivateEnding.{AnswersAs, IsLastStatus, PassesOn};
+ghost use Rattle.zeb_program.specs.PrivateEnding.{AnswersAs, IsLastStatus, PassesOn, TellsStarved, TellsEnd};
 ghost use Rattle.zeb_program.specs.Statuses.{EndsWith, ShowsFailures, fault_status};
 ghost use Rattle.zeb_program.specs.Unanswered.{IsToldSince};
 ghost use Rattle.zeb_program.specs.WordAnswers.{EndsWords, NamesLines, NamesShell};
+ghost use Rattle.zeb_program.specs.Sinks.{Sent, SendsBoth};
+ghost use Rattle.zeb_program.specs.PrivateSinks.{Sends};
 
 use crate::batch::run_in_memory;
 use crate::command_line::run_words;
@@ -66,33 +66,29 @@ pub fn run<R: Source, W: Output, V: Output, P: Paths>(
     // No store is opened without a word. With words, whatever is written, and whatever fails: what becomes of the register's store. Where
     // they name no command none is opened; and lines of a batch are left only where memory ran out for the program itself, with status 3.
     // Why a task isn't done, or none is opened for words that name a command, is told on the fault output, unless a write to that failed.
-    ensures store { (words.now ≡ [] → files.new ≡ files.old)
-        × (words.now ≢ [] → EndsLeaving (places_of P.Store.Store P.Paths files.old files.new)
-        (map string_bytes words.now) (R.remaining input.old) result
-        (IsToldSince fault_output.new.failed (V.contents fault_output.old.writer)
-        (V.contents fault_output.new.writer))) }
+    ensures store { (words.now ≡ [] → files.new ≡ files.old) × (words.now ≢ [] → EndsLeaving
+        (places_of P.Store.Store P.Paths files.old files.new) (map string_bytes words.now)
+        (R.remaining input.old) result (IsToldSince fault_output.old fault_output.new)) }
 
     // Where no write has failed, nothing of what was written is held back.
     ensures passed { (output.new.failed ≡ false → W.held_back output.new.writer ≡ [])
         × (fault_output.new.failed ≡ false → V.held_back fault_output.new.writer ≡ []) }
 
-    // Without a word: what is written, where the input tells its bytes and neither a read nor a write failed, and that nothing goes to
-    // the fault output but that memory ran out, or what is expected. Each line is answered as the engine says of it on any tables; it is
-    // told as the answer of a run up to the first line that names a file by its path of which the paths don't tell the bytes.
-    ensures script { words.now ≡ [] → fault_output.new.failed ≡ false
-        → TellsAtMost (V.contents fault_output.old.writer) (V.contents fault_output.new.writer)
-        × (R.has_failed input.new ≡ false → output.new.failed ≡ false
-        → IfSome (R.remaining input.old) (λ text. EndsWith result
-        (EndsScript (telling_of P.Paths files.old) text (W.contents output.old.writer)
-        (W.contents output.new.writer) (V.contents fault_output.old.writer)
-        (V.contents fault_output.new.writer)))) }
+    // What was sent to both outputs; where no write to one has failed, its writer got it. Without a word nothing goes to the fault output
+    // but that memory ran out, or what is expected; and where neither a read nor a write failed, each line of an input that tells its bytes
+    // is answered as the engine says of it on any tables, and as a run answers it up to the first line that names a file by its path of
+    // which the paths don't tell the bytes.
+    ensures script { words.now ≡ [] → SendsBoth output.old output.new fault_output.old
+        fault_output.new (λ bytes told. TellsAtMost told × (R.has_failed input.new ≡ false →
+        output.new.failed ≡ false → fault_output.new.failed ≡ false → IfSome (R.remaining input.old)
+        (λ text. EndsWith result (EndsScript (telling_of P.Paths files.old) text bytes told)))) }
 
     // With words: what is told of the register that they have a command carried out on is told where the paths tell what opens it.
-    ensures words { words.now ≢ [] → output.new.failed ≡ false → fault_output.new.failed ≡ false
-        → EndsWith result (EndsWords (places_of P.Store.Store P.Paths files.old files.new)
-        (map string_bytes words.now) (R.remaining input.old) (R.remaining input.new)
-        (R.has_failed input.new) (W.contents output.old.writer) (W.contents output.new.writer)
-        (V.contents fault_output.old.writer) (V.contents fault_output.new.writer)) }
+    ensures words { words.now ≢ [] → SendsBoth output.old output.new fault_output.old
+        fault_output.new (λ bytes told. output.new.failed ≡ false → fault_output.new.failed ≡ false
+        → EndsWith result (EndsWords (places_of P.Store.Store P.Paths files.old files.new) (map
+        string_bytes words.now) (R.remaining input.old) (R.remaining input.new) (R.has_failed
+        input.new) bytes told)) }
 {
     if words.is_empty() {
         let ended = run_script(alloc, files, input, output);
@@ -106,12 +102,7 @@ pub fn run<R: Source, W: Output, V: Output, P: Paths>(
 
 /// The status of a run that ended so. Where memory ran out for the program itself, that is written, for which no memory is taken.
 fn tell_starved<V: Write>(ended: Result<Status, AllocError>, fault_output: &mut Sink<V>) -> Status
-    ensures answered { IfOk ended (λ status. (result ≡ status)
-        × (fault_output.new ≡ fault_output.old)) }
-    ensures starved { OnErr ended ((result ≡ Status.Failed) × (fault_output.new.failed ≡ false
-        → Appends (V.contents fault_output.old.writer) (V.contents fault_output.new.writer)
-        starved_line)) }
-    ensures sound { fault_output.new.failed ≡ false → fault_output.old.failed ≡ false }
+    ensures { Sends fault_output.old fault_output.new (λ told. TellsStarved ended told result) }
 {
     match ended {
         Ok(status) => status,
@@ -129,12 +120,8 @@ fn finish<W: Output, V: Output>(
     fault_output: &mut Sink<V>,
 ) -> Status
     ensures status { IsLastStatus output.new.failed fault_output.new.failed status result }
-    ensures passed { output.new.failed ≡ false → PassesOn output.old.failed
-        (W.held_back output.new.writer) (W.contents output.old.writer)
-        (W.contents output.new.writer) }
-    ensures passed_fault { fault_output.new.failed ≡ false → PassesOn fault_output.old.failed
-        (V.held_back fault_output.new.writer) (V.contents fault_output.old.writer)
-        (V.contents fault_output.new.writer) }
+    ensures passed { PassesOn output.old output.new (W.held_back output.new.writer) × PassesOn
+        fault_output.old fault_output.new (V.held_back fault_output.new.writer) }
 {
     output.flush();
     fault_output.flush();
@@ -159,15 +146,8 @@ fn tell_script<W: Output, V: Write>(
     output: &mut Sink<W>,
     fault_output: &mut Sink<V>,
 ) -> Status
-    ensures answered { IfOk ended (λ end. (result ≡ end.status) × (fault_output.new.failed ≡ false
-        → Appends (V.contents fault_output.old.writer) (V.contents fault_output.new.writer)
-        (hint_of end.is_empty))) }
-    ensures starved { OnErr ended ((result ≡ Status.Failed) × (fault_output.new.failed ≡ false
-        → Appends (V.contents fault_output.old.writer) (V.contents fault_output.new.writer)
-        starved_line)) }
-    ensures kept { output.new.failed ≡ false → (output.old.failed ≡ false)
-        × Keeps (W.contents output.old.writer) (W.contents output.new.writer) }
-    ensures sound { fault_output.new.failed ≡ false → fault_output.old.failed ≡ false }
+    ensures told { Sends fault_output.old fault_output.new (λ told. TellsEnd ended told result) }
+    ensures kept { Sent output.old output.new [] }
 {
     match ended {
         Ok(end) => {
@@ -184,11 +164,8 @@ fn tell_expected<W: Output, V: Write>(
     answers: &mut Sink<W>,
     fault_output: &mut Sink<V>,
 )
-    ensures told { fault_output.new.failed ≡ false → Appends (V.contents fault_output.old.writer)
-        (V.contents fault_output.new.writer) (hint_of is_empty) }
-    ensures kept { answers.new.failed ≡ false → (answers.old.failed ≡ false)
-        × Keeps (W.contents answers.old.writer) (W.contents answers.new.writer) }
-    ensures sound { fault_output.new.failed ≡ false → fault_output.old.failed ≡ false }
+    ensures told { Sent fault_output.old fault_output.new (hint_of is_empty) }
+    ensures kept { Sent answers.old answers.new [] }
 {
     if is_empty {
         answers.flush();
@@ -206,17 +183,13 @@ fn run_script<R: Source, W: Write, P: Paths>(
     output: &mut Sink<W>,
 ) -> Result<ScriptEnd, AllocError>
     requires { R.has_failed input.old ≡ false }
-    ensures bounded { TakesAtMost (GREATEST_INPUT + 1) (R.remaining input.old)
-        (R.remaining input.new) }
-    ensures failed_read { R.has_failed input.new ≡ true
-        → IfOk result (λ end. end.status ≡ Status.Failed) }
-    ensures sound { output.new.failed ≡ false → output.old.failed ≡ false }
-    ensures answer { IfOk result (λ end. R.has_failed input.new ≡ false → output.new.failed ≡ false
-        → IfSome (R.remaining input.old) (λ text. AnswersAs (telling_of P.Paths paths.now) text
-        (W.contents output.old.writer) (W.contents output.new.writer) end)) }
-    ensures stopped { OnErr result (R.has_failed input.new ≡ false → output.new.failed ≡ false
-        → IfSome (R.remaining input.old) (λ text. EndsEarly (telling_of P.Paths paths.now) text
-        (W.contents output.old.writer) (W.contents output.new.writer))) }
+    ensures bounded { TakesAtMost (GREATEST_INPUT + 1) (R.remaining input.old) (R.remaining
+        input.new) }
+    ensures failed_read { R.has_failed input.new ≡ true → IfOk result (λ end. end.status ≡
+        Status.Failed) }
+    ensures answer { Sends output.old output.new (λ bytes. R.has_failed input.new ≡ false → IfSome
+        (R.remaining input.old) (λ text. AnswersAs (telling_of P.Paths paths.now) text bytes
+        result)) }
 {
     let text = match read_text(alloc, input, GREATEST_INPUT) {
         Ok(text) => text,
@@ -245,13 +218,9 @@ fn run_text<W: Write, P: Paths>(
     output: &mut Sink<W>,
 ) -> Result<Status, AllocError>
     requires { IsInput text.now }
-    ensures sound { output.new.failed ≡ false → output.old.failed ≡ false }
-    ensures answer { IfOk result (λ status. output.new.failed ≡ false
-        → AnswersScript (telling_of P.Paths paths.now) text.now (W.contents output.old.writer)
-        (W.contents output.new.writer) status) }
-    ensures stopped { OnErr result (output.new.failed ≡ false
-        → EndsEarly (telling_of P.Paths paths.now) text.now (W.contents output.old.writer)
-        (W.contents output.new.writer)) }
+    ensures { Sends output.old output.new (λ bytes. MatchResult result (AnswersScript (telling_of
+        P.Paths paths.now) text.now bytes) (λ error. EndsEarly (telling_of P.Paths paths.now)
+        text.now bytes)) }
 {
     let script = Script::cut(text);
     match Profile::read(alloc, script.profile) {
@@ -266,9 +235,7 @@ fn run_text<W: Write, P: Paths>(
 /// Writes a profile's fault, and answers its status.
 fn refuse_profile<W: Write>(fault: ProfileFault, output: &mut Sink<W>) -> Status
     ensures status { result ≡ fault_status fault.kind }
-    ensures line { output.new.failed ≡ false → Appends (W.contents output.old.writer)
-        (W.contents output.new.writer) (fault_line fault) }
-    ensures sound { output.new.failed ≡ false → output.old.failed ≡ false }
+    ensures line { Sent output.old output.new (fault_line fault) }
 {
     output.write_line(format_args!("zebraidx: input {fault}"));
     Status::of_profile(fault.kind)

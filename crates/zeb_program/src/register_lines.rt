@@ -1,9 +1,10 @@
 //! The lines of the input on a register that is open: they are run, and it is closed behind the last.
 
-ghost use Rattle.std.specs.Prelude.{◌≡◌, false};
+ghost use Rattle.std.specs.Prelude.{◌≡◌, false, []};
 ghost use Rattle.zeb_paths.specs.Walks.{telling_of};
-ghost use Rattle.zeb_program.specs.PrivateWordRuns.{ClosesAloud, EndsSession, RunsIn, ServesIn, format_of};
+ghost use Rattle.zeb_program.specs.PrivateWordRuns.{RunsIn, ServesIn, format_of, ClosesBelow};
 ghost use Rattle.zeb_engine.specs.Sessions.{conditions_in};
+ghost use Rattle.zeb_program.specs.PrivateSinks.{Sends};
 
 use crate::batch::run_lines;
 use crate::failures::tell_closed;
@@ -31,11 +32,10 @@ pub fn run_on<W: Write, V: Write, P: Paths>(
     output: &mut Sink<W>,
     fault_output: &mut Sink<V>,
 ) -> Result<Status, AllocError>
-    ensures { RunsIn P.Store.Store (P.leaves paths.now) (telling_of P.Paths paths.now)
-        (format_of register.1) (conditions_in (format_of register.1) register.0)
-        batch.entry.lines_before batch.entry.text.now register.0.connection output.new.failed
-        (W.contents output.old.writer) (W.contents output.new.writer) fault_output.new.failed
-        (V.contents fault_output.old.writer) (V.contents fault_output.new.writer) result }
+    ensures { RunsIn P.Store.Store (P.leaves paths.now) (telling_of P.Paths paths.now) (format_of
+        register.1) (conditions_in (format_of register.1) register.0) batch.entry.lines_before
+        batch.entry.text.now register.0.connection output.old output.new fault_output.old
+        fault_output.new result }
 {
     let (session, layout) = register;
     match layout {
@@ -58,9 +58,7 @@ fn run_in<L: Layout, W: Write, V: Write, P: Paths>(
 ) -> Result<Status, AllocError>
     ensures { RunsIn P.Store.Store (P.leaves paths.now) (telling_of P.Paths paths.now) L.format
         (conditions_in L.format session) batch.entry.lines_before batch.entry.text.now
-        session.connection output.new.failed (W.contents output.old.writer)
-        (W.contents output.new.writer) fault_output.new.failed (V.contents fault_output.old.writer)
-        (V.contents fault_output.new.writer) result }
+        session.connection output.old output.new fault_output.old fault_output.new result }
 {
     let mut session = session;
     let answered = run_lines(alloc, &mut session, paths, batch, output);
@@ -77,12 +75,10 @@ pub fn serve_on<R: Source, W: Output, V: Write, P: Paths>(
     fault_output: &mut Sink<V>,
 ) -> Result<Status, AllocError>
     requires { R.has_failed input.old ≡ false }
-    ensures { ServesIn P.Store.Store (P.leaves paths.now) (telling_of P.Paths paths.now)
-        (format_of register.1) (conditions_in (format_of register.1) register.0)
-        (R.remaining input.old) (R.remaining input.new) (R.has_failed input.new)
-        register.0.connection output.new.failed (W.contents output.old.writer)
-        (W.contents output.new.writer) fault_output.new.failed (V.contents fault_output.old.writer)
-        (V.contents fault_output.new.writer) result }
+    ensures { ServesIn P.Store.Store (P.leaves paths.now) (telling_of P.Paths paths.now) (format_of
+        register.1) (conditions_in (format_of register.1) register.0) (R.remaining input.old)
+        (R.remaining input.new) (R.has_failed input.new) register.0.connection output.old output.new
+        fault_output.old fault_output.new result }
 {
     let (session, layout) = register;
     match layout {
@@ -104,16 +100,15 @@ fn serve_in<L: Layout, R: Source, W: Output, V: Write, P: Paths>(
     fault_output: &mut Sink<V>,
 ) -> Result<Status, AllocError>
     requires { R.has_failed input.old ≡ false }
-    ensures { ServesIn P.Store.Store (P.leaves paths.now) (telling_of P.Paths paths.now)
-        L.format (conditions_in L.format session) (R.remaining input.old) (R.remaining input.new)
-        (R.has_failed input.new) session.connection output.new.failed
-        (W.contents output.old.writer) (W.contents output.new.writer) fault_output.new.failed
-        (V.contents fault_output.old.writer) (V.contents fault_output.new.writer) result }
+    ensures { ServesIn P.Store.Store (P.leaves paths.now) (telling_of P.Paths paths.now) L.format
+        (conditions_in L.format session) (R.remaining input.old) (R.remaining input.new)
+        (R.has_failed input.new) session.connection output.old output.new fault_output.old
+        fault_output.new result }
 {
     let mut session = session;
     let answered = run_shell_lines(alloc, &mut session, paths, input, output);
-    let told = tell_input(answered, fault_output);
-    end_session(paths, session, told, fault_output)
+    let ended = tell_input(answered, fault_output);
+    end_session(paths, session, ended, fault_output)
 }
 
 /// Closes the register of a session whose lines are answered so, tells where not all stands in its one file then, and answers the
@@ -124,10 +119,8 @@ fn end_session<L: Layout, V: Write, P: Paths>(
     answered: Result<Status, AllocError>,
     fault_output: &mut Sink<V>,
 ) -> Result<Status, AllocError>
-    ensures sound { fault_output.new.failed ≡ false → fault_output.old.failed ≡ false }
-    ensures ends { EndsSession answered result (ClosesAloud P.Store.Store (P.leaves paths.now)
-        session.connection fault_output.new.failed (V.contents fault_output.old.writer)
-        (V.contents fault_output.new.writer)) }
+    ensures { Sends fault_output.old fault_output.new (λ told. ClosesBelow P.Store.Store (P.leaves
+        paths.now) session.connection [] told answered result) }
 {
     let closed = tell_closed(close_register(paths, session), fault_output);
     Ok(answered?.max(closed))

@@ -1,6 +1,6 @@
 //! A shell: the lines of the input in one session, each answered before the next is read.
 
-ghost use Rattle.std.specs.Prelude.{◌≡◌, ◌↔◌, [], true, false, IfSome, OnErr};
+ghost use Rattle.std.specs.Prelude.{◌≡◌, ◌↔◌, [], true, false, IfSome};
 ghost use Rattle.std.specs.Io.KnownBytes.{IsAtEnd};
 ghost use Rattle.sqlite.specs.Held.{state};
 ghost use Rattle.sqlite.specs.State.{HasCleanDisk};
@@ -11,6 +11,7 @@ ghost use Rattle.zeb_program.specs.PrivateShows.{ShowsLine, ShowsShell};
 ghost use Rattle.zeb_engine.specs.Sessions.{KeepsConditions, conditions_in};
 ghost use Rattle.zeb_program.specs.declared.line_input.InputCause.TheVariants.{FailedRead};
 ghost use Rattle.zeb_program.specs.declared.line_input.LineFault.TheVariants.{Unreadable};
+ghost use Rattle.zeb_program.specs.PrivateSinks.{Sends};
 
 use crate::batch::{refuse_line, run_line};
 use crate::failures::tell_unread;
@@ -34,10 +35,7 @@ pub fn tell_input<V: Write>(
     answered: Result<Status, LineFault>,
     fault_output: &mut Sink<V>,
 ) -> Result<Status, AllocError>
-    ensures sound { fault_output.new.failed ≡ false → fault_output.old.failed ≡ false }
-    ensures told { TellsInput answered fault_output.new.failed
-        (V.contents fault_output.old.writer) (V.contents fault_output.new.writer) result }
-    ensures silent { OnErr result (fault_output.new ≡ fault_output.old) }
+    ensures { Sends fault_output.old fault_output.new (λ told. TellsInput answered told result) }
 {
     match answered {
         Ok(status) => Ok(status),
@@ -63,15 +61,14 @@ pub fn run_shell_lines<R: Source, S: Alter, L: Layout, P: Paths, W: Output>(
     output: &mut Sink<W>,
 ) -> Result<Status, LineFault>
     requires { R.has_failed input.old ≡ false }
-    ensures sound { output.new.failed ≡ false → output.old.failed ≡ false }
     // Whatever is written; of an input that tells its bytes.
-    ensures lines { HasCleanDisk (state S.Store session.new.connection)
-        → IfSome (R.remaining input.old) (λ text. ShowsShell S.Store (telling_of P.Paths paths.now)
-        L.format (conditions_in L.format session.old) text (R.remaining input.new)
-        output.new.failed (W.contents output.old.writer) (W.contents output.new.writer)
-        session.old.connection session.new.connection result) }
-    ensures clean { HasCleanDisk (state S.Store session.new.connection)
-        → HasCleanDisk (state S.Store session.old.connection) }
+    ensures lines { Sends output.old output.new (λ bytes. HasCleanDisk (state S.Store
+        session.new.connection) → IfSome (R.remaining input.old) (λ text. ShowsShell S.Store
+        (telling_of P.Paths paths.now) L.format (conditions_in L.format session.old) text
+        (R.remaining input.new) output.new.failed session.old.connection session.new.connection
+        bytes result)) }
+    ensures clean { HasCleanDisk (state S.Store session.new.connection) → HasCleanDisk (state
+        S.Store session.old.connection) }
     // Only where a write failed a line may be left.
     ensures ends { EndsInput (R.has_failed input.new) output.new.failed (R.remaining input.new)
         result }
@@ -104,21 +101,19 @@ fn run_next_line<R: Source, S: Alter, L: Layout, P: Paths, W: Output>(
     requires sound { R.has_failed input.old ≡ false }
     // No line is run whose answer could not be seen.
     requires seen { output.old.failed ≡ false }
-    ensures sound { output.new.failed ≡ false → output.old.failed ≡ false }
-    // At the input's end nothing is done, and nothing is written for a line that can't be read, or isn't answered.
+    // At the input's end nothing is done. Of an input that tells its bytes, on a clean disk, nothing is written for a line that can't be
+    // read, or isn't answered.
     ensures line { ComesTo (AnswersNextLine S.Store (telling_of P.Paths paths.now) L.format
         (conditions_in L.format session.old) number (R.remaining input.old) (R.remaining input.new)
-        output.new.failed (W.held_back output.new.writer) (W.contents output.old.writer)
-        (W.contents output.new.writer) session.old.connection session.new.connection)
-        (IsAtEnd (R.remaining input.old) × IsAtEnd (R.remaining input.new)
-        × (session.new ≡ session.old) × (output.new ≡ output.old))
-        (λ fault. StopsAtLine S.Store (telling_of P.Paths paths.now) L.format
-        (conditions_in L.format session.old) (R.remaining input.old) (R.remaining input.new)
-        session.old.connection session.new.connection fault × (output.new ≡ output.old)) result }
+        (W.held_back output.new.writer) output.old output.new session.old.connection
+        session.new.connection) (IsAtEnd (R.remaining input.old) × IsAtEnd (R.remaining input.new) ×
+        (session.new ≡ session.old) × (output.new ≡ output.old)) (StopsAtLine S.Store (telling_of
+        P.Paths paths.now) L.format (conditions_in L.format session.old) (R.remaining input.old)
+        (R.remaining input.new) output.old output.new session.old.connection session.new.connection)
+        result }
     // The session stays under its profile and its limits, and its disk was clean where it is.
-    ensures stays { KeepsConditions session.old session.new
-        × (HasCleanDisk (state S.Store session.new.connection)
-        → HasCleanDisk (state S.Store session.old.connection)) }
+    ensures stays { KeepsConditions session.old session.new × (HasCleanDisk (state S.Store
+        session.new.connection) → HasCleanDisk (state S.Store session.old.connection)) }
     ensures failed { result ≡ Err (Unreadable FailedRead) ↔ R.has_failed input.new ≡ true }
 {
     let bytes = read_line(alloc, input, GREATEST_INPUT)?;
@@ -139,18 +134,14 @@ fn run_bytes<S: Alter, L: Layout, P: Paths, W: Write>(
     number: u64,
     output: &mut Sink<W>,
 ) -> Result<Status, AllocError>
-    ensures sound { output.new.failed ≡ false → output.old.failed ≡ false }
     // Of bytes that are one line.
-    ensures answer { HasCleanDisk (state S.Store session.new.connection)
-        → after_first_line bytes.items ≡ [] → ShowsLine S.Store (telling_of P.Paths paths.now)
-        L.format (conditions_in L.format session.old) number (first_line bytes.items)
-        output.new.failed (W.contents output.old.writer) (W.contents output.new.writer)
-        session.old.connection session.new.connection result }
-    ensures silent { OnErr result (output.new ≡ output.old) }
+    ensures shows { Sends output.old output.new (λ written. HasCleanDisk (state S.Store
+        session.new.connection) → after_first_line bytes.items ≡ [] → ShowsLine S.Store (telling_of
+        P.Paths paths.now) L.format (conditions_in L.format session.old) number (first_line
+        bytes.items) session.old.connection session.new.connection written result) }
     // The session stays under its profile and its limits, and its disk was clean where it is.
-    ensures stays { KeepsConditions session.old session.new
-        × (HasCleanDisk (state S.Store session.new.connection)
-        → HasCleanDisk (state S.Store session.old.connection)) }
+    ensures stays { KeepsConditions session.old session.new × (HasCleanDisk (state S.Store
+        session.new.connection) → HasCleanDisk (state S.Store session.old.connection)) }
 {
     let Ok(text) = String::from_utf8(bytes) else {
         return Ok(refuse_line(number, output));

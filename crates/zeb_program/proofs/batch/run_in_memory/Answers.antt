@@ -1,33 +1,18 @@
 use Rattle.zeb_program.proofs.Cited.{refl, codes, conditions, telling_of}
 use Rattle.zeb_program.proofs.MemoryLemmas.{always_clean}
-use Rattle.zeb_program.proofs.ScriptAnswerLemmas.{refused_opening, opened_batch, run_from_nothing, stopped_batch, silent_refusal}
+use Rattle.zeb_program.proofs.ScriptAnswerLemmas.{opened_batch, refused_opening}
+use Rattle.zeb_program.proofs.SinkLemmas.{sends_so}
 use Rattle.zeb_program.proofs.batch.run_in_memory.Goals as goal
 
-pub returns-in-Ok-clause-answer : goal.returns-in-Ok-clause-answer
-returns-in-Ok-clause-answer g c =
-    let last = c.run_lines.new.session.connection in
-    let k = conditions (codes "2") c.in-Ok.session.profile c.in-Ok.session.limits in
-    let at = telling_of g.P.Paths c.args.paths.now in
-    let old = g.W.Write.contents c.args.output.now.writer in
-    let new = g.W.Write.contents c.run_lines.new.output.writer in
-    let n = c.args.batch.lines_before in
-    let text = c.args.batch.text.now in
-    opened_batch at c.args.profile old new n text c.run_lines.new.output.failed c.run_lines.result
-    (run_from_nothing at k c.args.profile c.in-Ok.session.connection last old new n text c.run_lines.new.output.failed c.run_lines.result
-    c.in-Ok.ensures.under c.in-Ok.ensures.empty (c.run_lines.ensures.lines (always_clean (λ _. refl) last)))
-
-pub returns-in-Ok-clause-stopped : goal.returns-in-Ok-clause-stopped
-returns-in-Ok-clause-stopped g c =
+pub returns-in-Ok : goal.returns-in-Ok
+returns-in-Ok g c =
     let session = c.in-Ok.session in
     let last = c.run_lines.new.session.connection in
-    let k = conditions (codes "2") session.profile session.limits in
-    stopped_batch (telling_of g.P.Paths c.args.paths.now) k c.args.profile session.connection last (g.W.Write.contents c.args.output.now.writer) (g.W.Write.contents c.run_lines.new.output.writer)
-    c.args.batch.lines_before c.args.batch.text.now c.run_lines.new.output.failed c.run_lines.result c.in-Ok.ensures.under c.in-Ok.ensures.empty (c.run_lines.ensures.lines (always_clean (λ _. refl) last))
+    sends_so c.args.output.now c.run_lines.new.output _ _
+    (λ bytes lines. opened_batch (telling_of g.P.Paths c.args.paths.now) (conditions (codes "2") session.profile session.limits) c.args.profile session.connection last c.args.batch.lines_before c.args.batch.text.now bytes
+    c.in-Ok.ensures.under c.in-Ok.ensures.empty c.run_lines.result (lines (always_clean (λ _. refl) last))) c.run_lines.ensures.lines
 
-pub returns-in-Err-clause-answer : goal.returns-in-Err-clause-answer
-returns-in-Err-clause-answer g c = refused_opening (telling_of g.P.Paths c.args.paths.now) _ _ _ _ _ _ c.in-Err.refusal c.refuse.result c.in-Err.ensures.failed c.refuse.ensures.answer
-
-pub returns-in-Err-clause-stopped : goal.returns-in-Err-clause-stopped
-returns-in-Err-clause-stopped g c =
-    silent_refusal (telling_of g.P.Paths c.args.paths.now) (λ sink. g.W.Write.contents sink.writer) c.refuse.new.output.failed c.args.output.now c.refuse.new.output c.args.profile c.args.batch.lines_before c.args.batch.text.now
-    c.refuse.result c.refuse.ensures.silent
+pub returns-in-Err : goal.returns-in-Err
+returns-in-Err g c =
+    sends_so c.args.output.now c.refuse.new.output _ _
+    (λ bytes said. refused_opening (telling_of g.P.Paths c.args.paths.now) c.args.profile c.args.batch.lines_before c.args.batch.text.now bytes c.in-Err.refusal c.refuse.result c.in-Err.ensures.failed said) c.refuse.ensures.told

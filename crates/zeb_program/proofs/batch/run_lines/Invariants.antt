@@ -1,4 +1,4 @@
-use Rattle.zeb_program.proofs.Cited.{◌≡◌, ◌+◌, ◌<◌, ◌^◌, false, length, state, HasCleanDisk, LineOver, Utf8, shadow, telling_of}
+use Rattle.zeb_program.proofs.Cited.{◌≡◌, ◌+◌, ◌<◌, ◌^◌, length, state, HasCleanDisk, LineOver, Sends, Utf8, shadow, telling_of}
 use Rattle.zeb_program.proofs.AnswerLemmas.{IsAnswered}
 use Rattle.zeb_program.proofs.batch.run_lines.Given as goal
 use Rattle.zeb_engine.specs.Sessions.{conditions_in}
@@ -10,12 +10,11 @@ invariant-loop-rest g l =
     record {
       text : shadow (Utf8 l.rest);
       room : l.number + length l.rest < 2 ^ 64;
-      sound : l.output.failed ≡ false → l.initial.output.failed ≡ false;
       under : (l.session.profile ≡ before.profile) × (l.session.limits ≡ before.limits);
       clean : HasCleanDisk (state g.S.Store l.session.connection) → HasCleanDisk (state g.S.Store before.connection);
-      lines : HasCleanDisk (state g.S.Store l.session.connection)
-          → IsAnswered (LineOver g.S.Store (telling_of g.P.Paths l.paths) g.L.Layout.format (conditions_in g.L.Layout.format before)) l.output.failed
-          (g.W.Write.contents l.initial.output.writer) (g.W.Write.contents l.output.writer) l.batch.lines_before l.batch.text.now before.connection l.number l.rest l.greatest l.session.connection;
+      lines : Sends l.initial.output l.output (λ bytes. HasCleanDisk (state g.S.Store l.session.connection)
+          → IsAnswered (LineOver g.S.Store (telling_of g.P.Paths l.paths) g.L.Layout.format (conditions_in g.L.Layout.format before)) l.batch.lines_before l.batch.text.now before.connection
+          l.number l.rest l.greatest l.session.connection bytes);
     }
 
 abbrev pub decreases-loop-rest : goal.decreases-loop-rest

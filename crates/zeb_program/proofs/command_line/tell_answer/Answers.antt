@@ -1,10 +1,10 @@
-use Rattle.zeb_program.proofs.Cited.{subst, Appends}
+use Rattle.zeb_program.proofs.Cited.{closing_lines, option_map, string_bytes, subst, Sent, warning_bytes}
+use Rattle.zeb_program.proofs.SinkLemmas.{sent_then}
 use Rattle.zeb_program.proofs.command_line.tell_answer.Goals as goal
 
 pub returns-clause-text : goal.returns-clause-text
-returns-clause-text g c = λ sound.
-    subst (Appends (g.W.Write.contents c.args.output.now.writer) (g.W.Write.contents c.write.new.self.writer)) c.as_slice.ensures.value (c.write.ensures.bytes sound)
+returns-clause-text g c = subst (Sent c.args.output.now c.write.new.self) c.as_slice.ensures.value c.write.ensures.sent
 
 pub returns-clause-told : goal.returns-clause-told
-returns-clause-told g c = λ sound.
-    (g.V.Write.contents c.warn.new.fault_output.writer, c.warn.ensures.told (c.tell_closed.ensures.sound sound), c.tell_closed.ensures.told sound)
+returns-clause-told g c =
+    sent_then c.args.fault_output.now c.warn.new.fault_output c.tell_closed.new.output (warning_bytes (option_map string_bytes c.args.told.now.warning)) (closing_lines c.args.closed) c.warn.ensures c.tell_closed.ensures.told

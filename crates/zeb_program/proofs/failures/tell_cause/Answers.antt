@@ -1,8 +1,9 @@
-use Rattle.zeb_program.proofs.FailureLemmas.{no_cause, one_cause}
+use Rattle.zeb_program.proofs.Cited.{cause_lines, subst, sym, Sent}
+use Rattle.zeb_program.proofs.SinkLemmas.{sent_none}
 use Rattle.zeb_program.proofs.failures.tell_cause.Goals as goal
 
-pub returns-in-Some-clause-told : goal.returns-in-Some-clause-told
-returns-in-Some-clause-told g c = λ sound. one_cause c.args.cause.now c.in-Some.cause _ _ c.in-Some.is (c.write_cause.ensures.line sound)
+pub returns-in-Some : goal.returns-in-Some
+returns-in-Some g c = subst (λ it. Sent c.args.output.now c.write_cause.new.output (cause_lines it)) (sym c.in-Some.is) c.write_cause.ensures
 
-pub returns-in-None-clause-told : goal.returns-in-None-clause-told
-returns-in-None-clause-told g c = λ sound. no_cause c.args.cause.now (g.W.Write.contents c.args.output.now.writer) c.in-None.is
+pub returns-in-None : goal.returns-in-None
+returns-in-None g c = subst (λ it. Sent c.args.output.now c.args.output.now (cause_lines it)) (sym c.in-None.is) (sent_none c.args.output.now)
