@@ -141,6 +141,20 @@ nothing_long bytes left byte value scale so_far more large n rest small same =
     let scaled = mul-le-mul_left scale b.0 in
     large (omega arith)
 
+-- ---- a number below 2^14 takes two bytes at most
+
+pub nothing_small : (bytes : List ℕ) → Nothing bytes → (n : ℕ) (rest : List ℕ) → n < 2 ^ 14 → bytes ≢ uleb n ++ rest
+nothing_small bytes none n rest small same = none n rest (omega arith) same
+
+pub small_ends : (first second : ℕ) (rest : List ℕ) → 128 ≤ first → first < 256 → 1 ≤ second → second < 128 → first ∷ second ∷ rest ≡ uleb (first % 128 + 128 * second) ++ rest
+small_ends first second rest large fits some low = sym (ap (λ (b : List ℕ). first ∷ (b ++ rest)) (uleb-low second low)) ∙ joins_high second first rest large fits some (omega arith)
+
+pub small_longer : (first second : ℕ) (left : List ℕ) → 128 ≤ first → 128 ≤ second → (n : ℕ) (rest : List ℕ) → n < 2 ^ 14 → first ∷ second ∷ left ≢ uleb n ++ rest
+small_longer first second left large more n rest small same =
+    let one = begins_high n first (second ∷ left) rest (omega arith) large same in
+    let two = begins_high (n / 128) second left rest (omega arith) more one.2 in
+    absurd (omega (arith, two.0))
+
 -- ---- a number takes ten bytes at most
 length-groups : (more n : ℕ) → length (groups more n) ≤ more + 1
 unfolding groups

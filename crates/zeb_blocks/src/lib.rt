@@ -10,7 +10,7 @@ mod reading;
 mod records;
 mod writing;
 
-pub use numbers::{read_number, write_number};
+pub use numbers::{read_number, read_small, write_number};
 pub use postings::{BLOCK_RECORDS, Posting};
 pub use reading::{Damaged, Postings, push_block};
 pub use records::records_in;

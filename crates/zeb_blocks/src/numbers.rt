@@ -40,17 +40,33 @@ fn read_groups<'a>(bytes: &'a [u8]) -> Option<(u64, &'a [u8])>
     }
 }
 
+/// The number below 2^14 in its shortest form at the front of the bytes, and the bytes behind it; `None` where no such number stands there.
+/// It takes one byte or two, and they are read without a call.
+#[inline(always)]
+pub fn read_small<'a>(bytes: &'a [u8]) -> Option<(u64, &'a [u8])>
+    ensures { MatchOption result ((n : ℕ) (rest : List ℕ) → n < 2 ^ 14 → bytes.now ≢ uleb n ++ rest)
+        (λ found. (found.0 < 2 ^ 14) × (bytes.now ≡ uleb found.0 ++ found.1.now)) }
+{
+    let (first, behind) = bytes.split_first()?;
+    if *first < 128 {
+        return Some((u64::from(*first), behind));
+    }
+    let (second, rest) = behind.split_first()?;
+    if *second == 0 || *second >= 128 {
+        return None;
+    }
+    Some((u64::from(*first) % GROUP + GROUP * u64::from(*second), rest))
+}
+
 /// The number in its shortest form at the front of the bytes, and the bytes behind it; `None` where no number below 2^64 stands there.
-/// Most numbers take one byte: then no call is made.
+/// Most numbers are small: then no call is made.
 #[inline(always)]
 pub fn read_number<'a>(bytes: &'a [u8]) -> Option<(u64, &'a [u8])>
     ensures { MatchOption result ((n : ℕ) (rest : List ℕ) → n < 2 ^ 64 → bytes.now ≢ uleb n ++ rest)
         (λ found. (found.0 < 2 ^ 64) × (bytes.now ≡ uleb found.0 ++ found.1.now)) }
 {
-    if let Some((first, rest)) = bytes.split_first() {
-        if *first < 128 {
-            return Some((u64::from(*first), rest));
-        }
+    if let Some(found) = read_small(bytes) {
+        return Some(found);
     }
     read_groups(bytes)
 }

@@ -1,7 +1,7 @@
 //! The parts in which an entry is told from the one before it.
 ghost use Rattle.std.specs.Prelude.{◌≡◌, ◌≢◌, ◌++◌, ◌^◌, ◌<◌, ◌↔◌, ℕ, List, IfSome, IsTrue, MatchOption, length, take};
 
-use zeb_blocks::read_number;
+use zeb_blocks::{read_number, read_small};
 
 /// The greatest block's number is below this: a system number fits 64 bits.
 const BLOCKS: u64 = 1 << 56;
@@ -43,7 +43,7 @@ fn read_counted<'a>(bytes: &'a [u8]) -> Option<(&'a [u8], &'a [u8], &'a [u8])>
 impl<'a> Told<'a> {
     ghost use Rattle.zeb_leaf.specs.PrivateTold.{AreSmall, Parts, parts_bytes, parts_told, Fit, Rises, Sound};
 
-    /// As [`Told::read`], where each number takes one byte, as nearly all do; else `None`.
+    /// As [`Told::read`], where the block's number takes one byte or two and each other number one, as nearly all do; else `None`.
     #[inline(always)]
     pub(crate) fn read_short(bytes: &'a [u8]) -> Option<(Told<'a>, &'a [u8])>
         ensures { IfSome result (λ found. AreSmall (parts_told found.0)
@@ -56,10 +56,11 @@ impl<'a> Told<'a> {
             return None;
         }
         let (suffix, behind_suffix) = onward.split_at_checked(usize::from(*count))?;
-        let [block, records, size, behind_size @ ..] = behind_suffix else {
+        let (block, behind_block) = read_small(behind_suffix)?;
+        let [records, size, behind_size @ ..] = behind_block else {
             return None;
         };
-        if *block >= 128 || *records >= 128 || *size >= 128 {
+        if *records >= 128 || *size >= 128 {
             return None;
         }
         let (bytes, behind) = behind_size.split_at_checked(usize::from(*size))?;
@@ -67,7 +68,7 @@ impl<'a> Told<'a> {
             shared: usize::from(*shared),
             suffix,
             onward,
-            block: u64::from(*block),
+            block,
             records: u64::from(*records),
             bytes,
         };
