@@ -3,7 +3,7 @@
 use crate::rows::{number, rows_hold, text_of};
 use std::alloc::{AllocError, Global};
 use std::test::Fail;
-use zeb_leaf::{Entry, Held, LeafFault, LeafReader, find, read_leaf, spell_leaf};
+use zeb_leaf::{BlockKey, Entry, Held, LeafFault, LeafReader, push_span, read_leaf, spell_leaf};
 
 /// Two terms that share three bytes, and a second block of the other: `mob` in block 0, `moby` in blocks 0 and 2, there in 256 records.
 static LEAF: &[u8] = &[
@@ -19,9 +19,9 @@ entries -> mob Held { block: 0, records: 1, bytes: [1, 2, 2] }%0a\
 moby Held { block: 0, records: 1, bytes: [1, 2, 2] }%0a\
 moby Held { block: 2, records: 256, bytes: [0, 2, 2] }%0a
 walk -> mob Held { block: 0, records: 1, bytes: [1, 2, 2] }%0a
-29 moby 2 -> Ok(Some(Held { block: 2, records: 256, bytes: [0, 2, 2] }))
-29 moby 1 -> Ok(None)
-8 moby 1 -> Err(Malformed)
+29 moby 2 -> [Held { block: 2, records: 256, bytes: [0, 2, 2] }]
+29 moby 1 -> []
+8 moby 1 -> Malformed
 ";
 
 fn push_entry(lines: &mut String, term: &[u8], held: Held<'_>) -> Result<(), AllocError> {
@@ -65,13 +65,22 @@ fn walk_line(alloc: Global) -> Result<String, AllocError> {
     Ok(line)
 }
 
-/// What is found in so many bytes of the leaf, of a term in a block.
+/// What so many bytes of the leaf have of a term in a block.
 fn found_line(alloc: Global, count: &str, text: &str) -> Result<String, AllocError> {
     let leaf = LEAF.get(..number(count)).unwrap_or(&[]);
     let (term, block) = text.split_once(' ').unwrap_or((text, ""));
-    match find(alloc, leaf, term.as_bytes(), block.parse().unwrap_or(0)) {
+    let block: u64 = block.parse().unwrap_or(0);
+    let term = term.as_bytes();
+    let first = BlockKey { term, block };
+    let end = BlockKey {
+        term,
+        block: block.saturating_add(1),
+    };
+    let mut held = Vec::new(alloc);
+    match push_span(alloc, &mut held, leaf, first, end) {
+        Ok(()) => format!(in alloc; "{held:?}"),
+        Err(LeafFault::Malformed) => String::from_str(alloc, "Malformed"),
         Err(LeafFault::Memory) => Err(AllocError),
-        found => format!(in alloc; "{found:?}"),
     }
 }
 

@@ -13,7 +13,7 @@ pub use Rattle.std.specs.Prelude.{IsUtf8, Contains, sum_by, slice_index, ◌↔�
 pub use Rattle.std.specs.Str.{IsCharBoundary, IsAscii}
 pub use Rattle.std.specs.declared.cmp.Ordering.{Ordering}
 pub use Rattle.zeb_blocks.proofs.Bytes.{uleb-low, begins_none, length-uleb, uleb-high, groups-one, groups-high}
-pub use Rattle.zeb_leaf.specs.Answers.{Answers, entry_of, IsFound, IsTold}
+pub use Rattle.zeb_leaf.specs.Answers.{Answers, entry_of, IsTold}
 pub use Rattle.zeb_leaf.specs.Cuts.{AreCut, bytes_above, TakesMore, BeginsAt, IsCutOff}
 pub use Rattle.zeb_leaf.specs.Leaves.{shared_of, leaf_bytes, IsLeaf}
 pub use Rattle.zeb_leaf.specs.Merging.{puts, AreMerged, IsOf, IsPut, IsTouched, change_cmp, entry_with}

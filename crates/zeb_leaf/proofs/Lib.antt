@@ -5,7 +5,6 @@ pub mod OneEntry
 pub mod Order
 pub mod Walked
 pub mod Pushing
-pub mod Finding
 pub mod Chosen
 pub mod Behind
 pub mod Numbers

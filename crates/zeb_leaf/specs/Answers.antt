@@ -1,6 +1,5 @@
 -- What is answered of a leaf.
-use Rattle.std.specs.Prelude.{◌≡◌, ℕ, List, Result, Ok, Err, Option, Some, None, Contains}
-use Rattle.std.specs.List.{AllByRecursion}
+use Rattle.std.specs.Prelude.{ℕ, List, Result, Ok, Err}
 use Rattle.zeb_leaf.specs.declared.entries.Entry.{Entry}
 use Rattle.zeb_leaf.specs.declared.entries.Held.{Held}
 use Rattle.zeb_leaf.specs.declared.entries.LeafFault.{LeafFault}
@@ -19,8 +18,3 @@ Answers Bad Done (Err fault) = IsTold Bad fault
 -- the entry of a term that has this beside it
 abbrev pub entry_of : List ℕ → Held → Entry
 entry_of term held = record { term = term; block = held.block; records = held.records; bytes = held.bytes.now }
-
--- what the entries have for a block of a term
-abbrev pub IsFound : List ℕ → ℕ → List Entry → Option Held → Type 0
-IsFound term block entries (Some held) = (held.block ≡ block) × Contains entries (entry_of term held)
-IsFound term block entries None = AllByRecursion (λ e. ¬ ((e.term ≡ term) × (e.block ≡ block))) entries

@@ -3,6 +3,7 @@ ghost use Rattle.std.specs.Prelude.{◌≡◌, ◌≢◌, ◌+◌, ◌<◌, ◌�
 ghost use Rattle.std.specs.List.{AllByRecursion};
 ghost use Rattle.std.specs.List.Sorted.{IsStrictlySortedBy};
 ghost use Rattle.zeb_leaf.specs.declared.entries.Entry.{Entry};
+ghost use Rattle.zeb_leaf.specs.declared.entries.TheConstants.{FULL_BYTES, LEAF_BYTES};
 ghost use Rattle.zeb_leaf.specs.Leaves.{IsLeaf, entry_bytes, leaf_bytes};
 ghost use Rattle.zeb_leaf.specs.Order.{IsEntry, entry_cmp};
 ghost use Rattle.zeb_leaf.specs.Walks.{Follows, first_place, last_place};
@@ -44,6 +45,11 @@ pub fn rising_entries_follow()
 pub fn sizes_of_entries()
     ensures { (before : List ℕ) (e : Entry)
         → length (entry_bytes before e) ≤ 50 + length e.term + length e.bytes }
+{}
+
+/// So many bytes a leaf of several entries may have, and so many one that is written.
+pub fn bytes_of_leaves()
+    ensures { (LEAF_BYTES ≡ 3000) × (FULL_BYTES ≡ 1300) }
 {}
 
 /// The definitions, tried on worked leaves and on bytes that are none.

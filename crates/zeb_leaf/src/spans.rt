@@ -1,5 +1,5 @@
 //! What a leaf has from one key to another.
-ghost use Rattle.std.specs.Prelude.{◌≡◌, ◌++◌, ◌↔◌, List, IfOk, IsTrue, OnOk};
+ghost use Rattle.std.specs.Prelude.{◌≡◌, ◌++◌, ◌↔◌, List, IfOk, IsTrue, OnErr, OnOk};
 ghost use Rattle.zeb_leaf.specs.declared.entries.Entry.{Entry};
 ghost use Rattle.zeb_leaf.specs.declared.entries.Held.{Held};
 ghost use Rattle.zeb_leaf.specs.Spans.{AreInSpan, key_cmp};
@@ -63,6 +63,7 @@ fn push_if_in_span<'a>(
         (entry_of own.now found.entry) held.old.items held.new.items) }
     ensures side { IfOk result (λ side. IsOnSide first.entry.term.now
         end.entry.term.now end.entry.block own.now found.entry.block side) }
+    ensures stays { OnErr result (held.new.items ≡ held.old.items) }
 {
     if own.cmp(first.term).is_lt() {
         return Ok(Side::Below(shared_len(own, first.term)));
@@ -83,7 +84,8 @@ fn push_if_in_span<'a>(
 /// Puts what a leaf has from the first key on and below the end behind the others. Nothing of the leaf is copied but one term at a time, and
 /// all of it is read. Before the first key few terms are compared with its own, and behind the end none is.
 ///
-/// [`LeafFault::Malformed`] exactly where the bytes are no leaf, as of [`read_leaf`](crate::read_leaf).
+/// [`LeafFault::Malformed`] exactly where the bytes are no leaf, as of [`read_leaf`](crate::read_leaf). Then, and where memory ran out, a part
+/// may have been put there.
 pub fn push_span<'a>(
     alloc: Global,
     held: &mut Vec<Held<'a>>,
@@ -91,11 +93,12 @@ pub fn push_span<'a>(
     first: BlockKey,
     end: BlockKey,
 ) -> Result<(), LeafFault>
-    ensures { Answers ((list : List Entry) → ¬ IsLeaf bytes.now list)
+    ensures answers { Answers ((list : List Entry) → ¬ IsLeaf bytes.now list)
         (λ _. (list : List Entry) × IsLeaf bytes.now list
         × ((among : List Held)
         × AreInSpan first.entry.term.now first.entry.block end.entry.term.now end.entry.block list
         among × (held.new.items ≡ held.old.items ++ among))) result }
+    ensures kept { (put : List Held) × (held.new.items ≡ held.old.items ++ put) }
 {
     if bytes.is_empty() {
         return Err(LeafFault::Malformed);

@@ -60,7 +60,7 @@ pub use Rattle.zeb_leaves.specs.PrivateNearRows.{ListsBack, ListsFront}
 pub use Rattle.zeb_leaves.specs.PrivateNearTerms.{AreEnough, CountBelow, CountRows, CountUntil, GoesDown, GoesPast, HideBelow, HideRows, HidesDown, HidesRow, MeetNoText, StopsAt, StopsDown, AreEnoughAt, CountsRow}
 pub use Rattle.zeb_leaves.specs.PrivatePieces.{HasPostings, IsPiece, LacksTurn, TurnAllEntries, TurnsEntries, block_of, LackTurn, ArePieces, ArePiecesOf, BeginsElsewhere, IsFront, PartsRun, PutsPieces, all_changes, piece_cmp, AreStorable}
 pub use Rattle.zeb_leaves.specs.PrivatePutPieces.{ArePiecesIn, IsLeafBeneath, KeepsBesideLeaves, EndsLeaf, OwnsEntries, IsCovered, AreAllDistinct}
-pub use Rattle.zeb_leaves.specs.PrivateSaid.{SayAll, SomeSaysNone, SaysBlock, SaysNoBlock, Says}
+pub use Rattle.zeb_leaves.specs.PrivateSaid.{SayAll, SomeSaysNone, Says}
 pub use Rattle.zeb_leaves.specs.PrivateSpans.{ShowsNone, ShowsKey, AreSpanLeaves, SomeShowsNoKey, IsSpanLeaf, ShowAllSpans, ShowSpans, ShowsSpan}
 pub use Rattle.zeb_leaves.specs.PrivateTermReads.{End, AreLeavesFrom, ShowsOwn, is_own, HideOwns, SayMany, SaysNone, ShowOwns, AreEntries, CountsIn, CountAll, IsNoText, IsRowFrom, IsLeafFrom, HideAllOwns, ShowAllOwns, SomeBad, is_below, HidesOwn, entry_with_records}
 pub use Rattle.zeb_leaves.specs.PrivateTurning.{CoversFirst, PutsFront, CountsLeaves}

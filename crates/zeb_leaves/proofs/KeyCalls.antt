@@ -1,16 +1,12 @@
 -- What calls that read a key answer, by the leaves that they found: the key's term is the first and the last of its neighbours.
-use Rattle.zeb_leaves.proofs.Cited.{Row, row_cmp, Has, ◌≡◌, ◌≢◌, ◌∙◌, ◌<◌, ◌+◌, ◌≤◌, ◌++◌, ◌∷◌, ℕ, ℤ, List, Ok, Err, Result, [], true, false, refl, sym, ap, subst, inl, inr, arith, Ordering, Less, Equal, Greater, nat_cmp, nat_list_cmp_total, slice_cmp, ordering_then, ordering_reverse, tied_itself, is_less, less_is, sum_by, Entry, Key, Posting, State, IsStore, Covers, HasMalformedLeaf, IsEntryOf, IsLeafOf, IsPartMalformed, IsUncovered, LacksSum, LeavesCount, LeavesReadBlock, SayPart, SaysPart, leaf_key, own_key, cases_lt, sum_by-cons, is_lt, Vec, texts_apart, leaf_shape, SayAll, SaysBlock, SaysNoBlock, SomeSaysNone, AreSpanLeaves, ShowAllSpans, ShowsSpan, SomeShowsNoKey, Answers, IfRowDamaged, IsBetween, packed_leaves, ListsUnits}
-use Rattle.std.specs.declared.alloc.Global.{Global}
+use Rattle.zeb_leaves.proofs.Cited.{Row, Has, ◌≡◌, ◌∙◌, ◌+◌, ◌≤◌, ◌++◌, ◌∷◌, ℕ, ℤ, List, [], true, false, refl, sym, ap, subst, inl, inr, arith, Ordering, Less, Equal, Greater, nat_cmp, nat_list_cmp_total, slice_cmp, ordering_reverse, tied_itself, sum_by, Entry, Key, Posting, State, IsStore, Covers, HasMalformedLeaf, IsEntryOf, IsLeafOf, IsPartMalformed, IsUncovered, LacksSum, LeavesCount, SayPart, SaysPart, leaf_key, own_key, sum_by-cons, is_lt, texts_apart, leaf_shape, SayAll, SomeSaysNone, AreSpanLeaves, ShowAllSpans, SomeShowsNoKey, IsBetween, packed_leaves, ListsUnits}
 use Rattle.zeb_leaf.specs.declared.entries.Held.{Held}
-use Rattle.zeb_register.proofs.KeyOrder.{greater_is, key_order}
-use Rattle.zeb_leaves.proofs.SaidLists.{block_said, list_of_parts}
-use Rattle.zeb_leaves.proofs.SpanEntries.{AreHeld, HeldIn, all_spans, in_leaf}
+use Rattle.zeb_leaves.proofs.SaidLists.{list_of_parts}
+use Rattle.zeb_leaves.proofs.SpanEntries.{AreHeld, HeldIn, all_spans}
 use Rattle.zeb_leaves.proofs.SpanLists.{entry_held, said_of_held}
-use Rattle.zeb_leaves.proofs.SpanRuns.{up_itself}
 use Rattle.zeb_leaves.proofs.TermEntries.{HasOwn, own_summed}
 use Rattle.zeb_leaves.proofs.OneLeaf.{one_leaf}
 use Rattle.zeb_leaves.proofs.OneCover.{covers_itself}
-use Rattle.zeb_register.specs.declared.faults.RowFault.{RowFault}
 
 -- ---- one text from itself to itself
 
@@ -117,72 +113,3 @@ module _ (s : State) (store : IsStore s) (db : ℤ) (key : Key) where
 
       pub held_counted : (records : ℕ) → records ≡ sum_by (λ (one : Held). one.records) held → LeavesCount s.now.trees db key records
       held_counted records is = own_summed Leaves key.term it.own records has (is ∙ sym (held_sum it.own held it.are))
-
--- ---- one block of a key
-
--- what entries say that a row has for it
-pub answers_said : (term : List ℕ) (block : ℕ) (row : Row) (held : List Held) → ShowsSpan term block term (block + 1) row held → (result : Result (Vec Posting Global) RowFault)
-    → Answers (IfRowDamaged (SomeSaysNone held)) (λ list. SayAll held list.items) result → Answers (IfRowDamaged (SaysNoBlock term block row)) (λ list. SaysBlock term block row list.items) result
-answers_said term block row held shows (Ok list) say = (held, shows, say)
-answers_said term block row held shows (Err fault) told = λ damaged. inr (held, shows, told damaged)
-
--- the keys from a block on and below the next one of the term are one
-within : (term : List ℕ) (block : ℕ) → ordering_then (slice_cmp nat_cmp term term) (nat_cmp block (block + 1)) ≡ Less
-within term block = ap (λ o. ordering_then o (nat_cmp block (block + 1))) (tied_itself nat_list_cmp_total term) ∙ less_is block (block + 1) (omega arith)
-
-one_key : (term t : List ℕ) (block b : ℕ) → row_cmp (leaf_key term block) (leaf_key t b) ≢ Greater → ordering_then (slice_cmp nat_cmp t term) (nat_cmp b (block + 1)) ≡ Less → (t ≡ term) × (b ≡ block)
-one_key term t block b up below = from (slice_cmp nat_cmp t term) refl
-  where
-    order : row_cmp (leaf_key term block) (leaf_key t b) ≡ ordering_then (slice_cmp nat_cmp term t) (nat_cmp block b)
-    order = key_order term t block b
-
-    from : (o : Ordering) → slice_cmp nat_cmp t term ≡ o → (t ≡ term) × (b ≡ block)
-    from Less is =
-        let back : slice_cmp nat_cmp term t ≡ Greater = nat_list_cmp_total.antisymm term t ∙ ap ordering_reverse is in
-        absurd (up (order ∙ ap (λ o. ordering_then o (nat_cmp block b)) back))
-    from Greater is = absurd (let e : Greater ≡ Less = sym (ap (λ o. ordering_then o (nat_cmp b (block + 1))) is) ∙ below in cc)
-    from Equal is =
-        let back : slice_cmp nat_cmp term t ≡ Equal = nat_list_cmp_total.antisymm term t ∙ ap ordering_reverse is in
-        let high : b < block + 1 = is_less b (block + 1) (sym (ap (λ o. ordering_then o (nat_cmp b (block + 1))) is) ∙ below) in
-        let low : block ≤ b = elim (cases_lt b block) [
-          | inl less ↦ absurd (up (order ∙ ap (λ o. ordering_then o (nat_cmp block b)) back ∙ greater_is block b less))
-          | inr more ↦ more
-        ] in
-        (texts_apart t term is, omega (arith, high, low))
-
-module _ (s : State) (store : IsStore s) (db : ℤ) (key : Key) (block : ℕ) (row : Row) (covers : Covers (IsLeafOf s.now.trees db key) (leaf_key key.term block) row) where
-  abbrev BlockLeaves : Row → Type 0
-  BlockLeaves = IsLeafOf s.now.trees db key
-
-  abbrev InBlock : List ℕ → ℕ → Type 0
-  InBlock t b = (t ≡ key.term) × (b ≡ block)
-
-  block_has : (held : List Held) → ShowsSpan key.term block key.term (block + 1) row held → HeldIn BlockLeaves InBlock held
-  block_has held shows =
-      in_leaf BlockLeaves (leaf_shape s store db key.index key.register) (one_leaf s store db key.index key.register) row InBlock key.term block key.term (block + 1) held
-      (λ t b is. subst (λ (u : List ℕ). Covers BlockLeaves (leaf_key u b) row) (sym is.0) (subst (λ (n : ℕ). Covers BlockLeaves (leaf_key key.term n) row) (sym is.1) covers))
-      (λ t b is. (
-        λ above. up_itself (leaf_key key.term block) (ap (row_cmp (leaf_key key.term block)) (sym (ap (λ u. leaf_key u b) is.0 ∙ ap (leaf_key key.term) is.1)) ∙ above),
-        ap (λ u. ordering_then (slice_cmp nat_cmp u key.term) (nat_cmp b (block + 1))) is.0 ∙ ap (λ n. ordering_then (slice_cmp nat_cmp key.term key.term) (nat_cmp n (block + 1))) is.1 ∙ within key.term block,
-      ))
-      (λ t b up below. one_key key.term t block b up below) shows
-
-  block_own : (held : List Held) (it : HeldIn BlockLeaves InBlock held) → HasOwn BlockLeaves key.term (λ b. b ≡ block) it.own
-  block_own held it =
-      let own = own_of s store db key InBlock held it (λ t b is. is.0) in
-      record {
-        whole = λ b is. own.whole b (refl, is);
-        rising = own.rising;
-        each = λ e. (λ h. let known = (own.each e).0 h in (known.0.1, known.1), λ h. (own.each e).1 ((refl, h.0), h.1));
-      }
-
-  pub block_listed : (list : List Posting) → SaysBlock key.term block row list → LeavesReadBlock s.now.trees db key block list
-  block_listed list says =
-      let it = block_has says.0 says.1 in
-      block_said BlockLeaves key.term block it.own (block_own says.0 it) list (said_of_held it.own says.0 list it.are says.2)
-
-  pub block_malformed : SaysNoBlock key.term block row → IsPartMalformed BlockLeaves key.term block
-  block_malformed (inl none) = inl (inl (row, covers, none))
-  block_malformed (inr it) =
-      let found = unsaid s store db key InBlock it.0 (block_has it.0 it.1) (λ t b is. is.0) it.2 in
-      subst (IsPartMalformed BlockLeaves key.term) found.1.1 found.2

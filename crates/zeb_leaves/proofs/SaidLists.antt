@@ -105,12 +105,3 @@ list_of_parts trees db key own has list parts =
       units = λ sysno. (part_in (sysno / 256) list, reads (sysno / 256), ap (map place_of) (own_part sysno list));
       whole = λ block. (part_in block list, reads block);
     }
-
--- ---- one block
-
-pub block_said : (Leaves : Row → Type 0) (term : List ℕ) (block : ℕ) (own : List Entry) → HasOwn Leaves term (λ b. b ≡ block) own → (list : List Posting) → SayParts own list → PartReads Leaves term block list
-block_said Leaves term block own has list parts =
-    let here = posting_near Leaves term (λ b. b ≡ block) own has list parts in
-    let up = rises Leaves term (λ b. b ≡ block) own has list parts in
-    let same : part_in block list ≡ list = same_list posting_total (part_in block list) list (kept_rises posting_total (λ q. nat_eq (q.sysno / 256) block) list up) up (λ p h. part_in_list block list p h) (λ p h. in_part block list p h (here p h)) in
-    subst (PartReads Leaves term block) same (block_reads Leaves term (λ b. b ≡ block) own has list parts block refl)

@@ -11,9 +11,9 @@ use Rattle.zeb_leaf.specs.Order.{entry_cmp}
 use Rattle.zeb_leaf.specs.declared.entries.Entry.{Entry}
 use Rattle.zeb_register.specs.Between.{IsBetween}
 use Rattle.zeb_register.specs.Clauses.{Tells}
-use Rattle.zeb_register.specs.LeafUnits.{AreLeavesMiscounted, IsLeafOf, LeavesCount, LeavesReadBlock}
+use Rattle.zeb_register.specs.LeafUnits.{AreLeavesMiscounted, IsLeafOf, LeavesCount}
 use Rattle.zeb_register.specs.Occurring.{key_in}
-use Rattle.zeb_register.specs.Readings.{IsEntryOf, IsPartMalformed, SaysPart}
+use Rattle.zeb_register.specs.Readings.{IsEntryOf, SaysPart}
 use Rattle.zeb_register.specs.Answers.{TellsOr}
 use Rattle.zeb_register.specs.declared.faults.RegFault.{RegFault}
 use Rattle.zeb_register.specs.declared.registers.RegisterOf.{RegisterOf}
@@ -21,11 +21,6 @@ use Rattle.zeb_register.specs.declared.registers.RegisterOf.{RegisterOf}
 -- a call tells how many records have the key, or is refused
 abbrev pub CountsLeafKey : ℤ → Key → State → State → Result ℕ RegFault → Type 0
 CountsLeafKey db key = TellsOr (λ trees. AreLeavesMiscounted trees db key) (λ trees records. LeavesCount trees db key records)
-
--- it tells the postings of one block of the key
-abbrev pub TellsLeafBlock : ℤ → Key → ℕ → State → State → Result (Vec Posting Global) RegFault → Type 0
-TellsLeafBlock db key block =
-    TellsOr (λ trees. IsPartMalformed (IsLeafOf trees db key) key.term block) (λ (trees : Trees) (list : Vec Posting Global). LeavesReadBlock trees db key block list.items)
 
 -- ---- neighbouring terms, in turn
 

@@ -1,6 +1,6 @@
 -- What only the contracts of private functions speak of; no public clause reaches it: what statements show of leaves inside a transaction,
 -- and which leaf is found behind a key.
-use Rattle.std.specs.Prelude.{◌≡◌, ℕ, ℤ, false, List, [], Option, Some, None, Result, IfOk}
+use Rattle.std.specs.Prelude.{◌≡◌, ℕ, ℤ, false, List, Option, Some, None, Result, IfOk}
 use Rattle.std.specs.Option.{option_map}
 use Rattle.std.specs.Ordering.{is_lt}
 use Rattle.sqlite.specs.declared.error.Error.{Error}

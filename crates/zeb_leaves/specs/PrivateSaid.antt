@@ -1,11 +1,9 @@
 -- What only the contracts of private functions speak of; no public clause reaches it: what entries say.
-use Rattle.std.specs.Prelude.{◌≡◌, ◌⊎◌, ◌+◌, ◌++◌, ◌∷◌, ℕ, List, []}
-use Rattle.sqlite.specs.Order.{Row}
+use Rattle.std.specs.Prelude.{◌≡◌, ◌++◌, ◌∷◌, List, []}
 use Rattle.sqlite_rules.specs.Lists.{Has}
 use Rattle.zeb_blocks.specs.Blocks.{BlockSpells}
 use Rattle.zeb_blocks.specs.declared.postings.Posting.{Posting}
 use Rattle.zeb_leaf.specs.declared.entries.Held.{Held}
-use Rattle.zeb_leaves.specs.PrivateSpans.{ShowsNone, ShowsSpan}
 use Rattle.zeb_register.specs.Readings.{HasRecordOf}
 use Rattle.zeb_register.specs.Occurring.{IsCount}
 
@@ -21,12 +19,3 @@ SayAll (held ∷ more) list = (part : List Posting) × (rest : List Posting) × 
 -- one of them says nothing
 abbrev pub SomeSaysNone : List Held → Type 0
 SomeSaysNone held = (one : Held) × Has held one × ((part : List Posting) → ¬ Says one part)
-
--- ---- one block of a term
-
--- what the row has for it says these postings; and the row shows no entries, or says nothing of the block
-abbrev pub SaysBlock : List ℕ → ℕ → Row → List Posting → Type 0
-SaysBlock term block row list = (held : List Held) × ShowsSpan term block term (block + 1) row held × SayAll held list
-
-abbrev pub SaysNoBlock : List ℕ → ℕ → Row → Type 0
-SaysNoBlock term block row = ShowsNone row ⊎ ((held : List Held) × ShowsSpan term block term (block + 1) row held × SomeSaysNone held)

@@ -33,7 +33,7 @@ mod writes;
 
 pub use agreeing_tables::leaves_agree;
 pub use between::postings_between;
-pub use key_reads::{block_list, key_count, key_list};
+pub use key_reads::{key_count, key_list};
 pub use laws::{each_key_counts_or_is_miscounted, leaves_of_several_entries_are_small};
 pub use leaves::Leaves;
 pub use near_terms::{terms_before, terms_from};

@@ -148,7 +148,7 @@ pub(crate) fn told_of_leaf(fault: LeafFault) -> RowFault
 
 /// Puts what a row has from the first key on and below the end behind the others. A row without bytes has nothing; it is refused where the
 /// bytes are no leaf, or its own term is no text.
-pub(crate) fn push_row_span<'a>(
+fn push_row_span<'a>(
     alloc: Global,
     held: &mut Vec<Held<'a>>,
     row: &'a Row,

@@ -7,16 +7,16 @@ use Rattle.zeb_leaf.proofs.Numbers.{step_shorter}
 use Rattle.zeb_leaf.proofs.Walked.{empty_leaf, reaches_end, reaches_first, reaches_more, reaches_stuck}
 use Rattle.zeb_leaf.proofs.spans.push_span.Goals as goal
 
-pub returns-then-is_empty : goal.returns-then-is_empty
-returns-then-is_empty c =
+pub returns-then-is_empty-clause-answers : goal.returns-then-is_empty-clause-answers
+returns-then-is_empty-clause-answers c =
     let none : length c.args.bytes.now ≡ 0 = grind (arith, common_steps) in
     empty_leaf c.args.bytes.now none
 
 pub loop-reader-init : goal.loop-reader-init
 loop-reader-init c = ([], rw c.new-reader.ensures (reaches_first c.args.bytes.now), ([], refl, sym (append-nil c.args.held.now.items)), tt)
 
-pub returns-in_err-step : goal.returns-in_err-step
-returns-in_err-step c =
+pub returns-in_err-step-clause-answers : goal.returns-in_err-step-clause-answers
+returns-in_err-step-clause-answers c =
     let fault = c.in_err-step.field-0.0 in
     let told : c.from_residual.result ≡ Err fault = search rules in
     rw told (told_worse (IsStuck c.loop-reader.reader) ((list : List Entry) → ¬ IsLeaf c.args.bytes.now list) fault (reaches_stuck c.args.bytes.now c.loop-reader.invariant.0 c.loop-reader.reader c.loop-reader.invariant.1) c.in_err-step.ensures.answers)
@@ -68,9 +68,12 @@ loop-reader-preserved c =
       subst (StandsAt first least end number c.loop-reader.side) (sym step.place) out.1,
     )
 
-pub returns : goal.returns
-returns c =
+pub returns-clause-answers : goal.returns-clause-answers
+returns-clause-answers c =
     let some : 0 < length c.args.bytes.now = grind (arith, common_steps) in
     let ended = rw c.in_default.is at c.in_ok-step.ensures.answers in
     let done = c.loop-reader.invariant.0 in
     (done, reaches_end c.args.bytes.now done c.loop-reader.reader c.loop-reader.invariant.1 ended.0 some, c.loop-reader.invariant.2)
+
+pub returns-clause-kept : goal.returns-clause-kept
+returns-clause-kept c = (c.loop-reader.invariant.2.0, c.loop-reader.invariant.2.2)

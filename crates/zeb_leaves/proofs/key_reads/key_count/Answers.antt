@@ -19,7 +19,7 @@ returns-clause-count g c clean store =
     let are = subst (λ (t : List ℕ). AreSpanLeaves Leaves t t rows) c.as_str-term.ensures found in
     let shows = rw (c.deref.ensures.value, c.as_bytes.ensures.value, c.as_bytes-2.ensures.value, c.as_str-2.ensures.value, c.in_ok-end.ensures, c.as_str-term.ensures) at c.in_ok-held.ensures in
     let records = c.in_ok-records_said.field-0 in
-    held_counted s0 store c.args.db.0 key rows are held shows records (subst (λ (h : List Held). records ≡ sum_by (λ (one : Held). one.records) h) c.deref-2.ensures.value c.in_ok-records_said.ensures)
+    held_counted s0 store c.args.db.0 key rows are held shows records (subst (λ (h : List Held). records ≡ sum_by (λ (one : Held). one.records) h) c.deref-2.ensures.value c.in_ok-records_said.ensures.ok)
 
 pub returns-in_err-held-clause-count : goal.returns-in_err-held-clause-count
 returns-in_err-held-clause-count g c clean store =

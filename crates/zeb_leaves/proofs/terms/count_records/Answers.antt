@@ -10,7 +10,7 @@ returns-then-is_term c =
     let some : 0 < vec_len c.args.counts.now = c.in-Some.ensures.variant.0 (search rules) in
     let long : length items ≡ suc n = omega (arith, c.args.counts.now.ok.0, some) in
     let same : last.term ≡ c.args.term.now = search rules in
-    inl (take n items, last, last_view n items last long c.in-Some.ensures.value, same, last_set n items (term_with last.term c.in_ok-last.field-0) long ∙ ap (λ r. take n items ++ term_with last.term r ∷ []) c.in_ok-last.ensures)
+    inl (take n items, last, last_view n items last long c.in-Some.ensures.value, same, last_set n items (term_with last.term c.in_ok-last.field-0) long ∙ ap (λ r. take n items ++ term_with last.term r ∷ []) c.in_ok-last.ensures.ok)
 
 pub returns : goal.returns
 returns c =
