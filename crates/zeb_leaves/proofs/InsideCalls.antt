@@ -1,9 +1,13 @@
 -- Calls that look for a leaf inside a transaction, one after the other.
-use Rattle.zeb_leaves.proofs.Cited.{Row, Trees, State, Shown, HasCleanDisk, ◌≡◌, ◌⊎◌, ◌∙◌, ◌∷◌, ℕ, List, [], Ok, Err, Result, Some, None, Option, arith, IsLastOf, IsStore, ShowsLast, ShowsSome, TellsSome, FailsToQuery, IsTooLate, Survives, never_last, goes_keeps, query_keeps, reads_goes, quiet_then, Inside, OnlyReads, TellsInside}
+use Rattle.zeb_leaves.proofs.Cited.{Row, Trees, State, Shown, HasCleanDisk, ◌≡◌, ◌⊎◌, ◌∙◌, ◌∷◌, ℕ, List, [], Ok, Err, Result, subst, Some, None, Option, arith, IsLastOf, IsStore, ShowsLast, ShowsSome, TellsSome, FailsToQuery, IsTooLate, Survives, never_last, goes_keeps, query_keeps, reads_goes, quiet_then, Inside, OnlyReads, TellsInside}
 use Rattle.sqlite.specs.declared.error.Error.{Error}
 use Rattle.zeb_register.specs.Queries.{IsSilent}
 
 -- ---- one query
+
+-- what a statement shows with its parameters it shows with what they are bound as
+pub shows_last_so : {sql : List ℕ} {params row : Row} {old new : State} {r : Result (Option Row) Error} → ShowsLast sql params old new r → params ≡ row → ShowsLast sql row old new r
+shows_last_so {sql} {params} {row} {old} {new} {r} it same = subst (λ (p : Row). ShowsLast sql p old new r) same it
 
 -- a query that is refused tells nothing
 pub shows_none : (sql : List ℕ) (params : Row) (old new : State) (e : Error) (result : Result (Option Row) Error) → result ≡ Err e → IsSilent sql → (HasCleanDisk new → FailsToQuery sql params old new e ⊎ IsTooLate sql params old new e)

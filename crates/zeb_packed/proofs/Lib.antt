@@ -30,3 +30,4 @@ pub mod HeldRuns
 pub mod NewKeys
 pub mod HeldPuts
 pub mod Cited
+pub mod BoundShown

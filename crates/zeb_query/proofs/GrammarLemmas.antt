@@ -1,5 +1,8 @@
 -- Steps of a reader of queries, in the words of the grammar.
-use Rattle.zeb_query.proofs.Cited.{◌≡◌, ◌≢◌, ℕ, suc, ◌<◌, ◌+◌, true, false, List, [], ◌∷◌, ◌++◌, Option, Some, None, length, cond, eqb, refl, ap, sym, subst, ◌∙◌, arith, append_assoc, ◌-◌, zero, nil_from_length, operator_step, IsQuery, option_and_then, nat_lt, map, list_all, before_first, after_first, position_or_len, nat_tests, length-map, length-append, Rest, Spelling, Plain, Quoted, Bad, OperatorWord, Keyword, AttributeSet, Attribute, TermType, ResultSet, Operator, number_of, keyword_of, if_any, is_equals_sign, has_equals, is_good, is_good_spelling, IsStructure, is_attribute, is_attribute_of_set, under, heads, no_head, or_else, with_type, text_of, is_term, is_named, is_pair, parameter_count, is_structure, is_structure_of_set, AttributeValue, HeadValue, TreeValue, TermValue, NamedValue, PairValue, Word, left, word_of, fault_of, first_keyword, ReadsText, ReadsWord, IsSpec, SpellsAttribute, SpellsHead, SpellsMore, SpellsParameters, SpellsOperator, SpellsSet, Spells, SpellsUnder, Due, Start, Structures, MoreWords, words_then, fault, Step, Allowed, Refused, step, structure_step, start_step, And, Or, Not, Proximity, ConnectiveValue, connective_of, ◌&&◌}
+use Rattle.zeb_query.proofs.Cited.{◌≡◌, ◌≢◌, ℕ, suc, ◌<◌, ◌+◌, true, false, List, [], ◌∷◌, ◌++◌, Option, Some, None, length, cond, eqb, refl, ap, sym, subst, ◌∙◌, arith, append_assoc, ◌-◌, zero, nil_from_length, operator_step, IsQuery, option_and_then, nat_lt, map, list_all, before_first, after_first, position_or_len, nat_tests, length-map, length-append, Rest, Spelling, Plain, Quoted, Bad, OperatorWord, Keyword, AttributeSet, Attribute, TermType, ResultSet, Operator, number_of, keyword_of, if_any, is_equals_sign, has_equals, is_good, is_good_spelling, IsStructure, is_attribute, is_attribute_of_set, under, heads, no_head, or_else, with_type, text_of, is_term, is_named, is_pair, parameter_count, is_structure, is_structure_of_set, AttributeValue, HeadValue, TreeValue, TermValue, NamedValue, PairValue, Word, left, word_of, fault_of, first_keyword, ReadsText, ReadsWord, IsSpec, SpellsAttribute, SpellsHead, SpellsMore, SpellsParameters, SpellsOperator, SpellsSet, Spells, SpellsUnder, Due, Start, Structures, MoreWords, words_then, fault, Step, Allowed, Refused, step, structure_step, start_step, And, Or, Not, Proximity, ConnectiveValue, connective_of, ◌&&◌, QueryFault, Diagnostic, Memory, IsFault, IsDiagnostic, Result, Ok, Err, IfErr, Bool}
+use Rattle.std.specs.Result.{IsErrAnd}
+use Rattle.zeb_query.specs.PrivateReading.{first_place}
+use Rattle.zeb_query.specs.declared.words.Word.{Word as WordOfText}
 use Rattle.zeb_query.specs.Grammar.{kind_and_value}
 
 -- the type and value of a word without `=`, and of one with it
@@ -243,6 +246,13 @@ is_proximity Or e = absurd cc
 is_proximity Not e = absurd cc
 is_proximity Proximity e = refl
 
+-- the words that are due after that one
+pub proximity_goes : (operator : OperatorWord) (rest middle : Rest) (w : Word) → ReadsWord rest middle w → keyword_of w ≡ Some (Operator operator) → (middle.room ≡ 0 → ⊥) → connective_of operator [] ≡ None → (n : ℕ)
+    → fault_of rest (Structures (suc n)) ≡ fault middle.end (middle.room - 1) (words_then 6 (suc (suc n))) (left middle)
+proximity_goes operator rest middle w reads found ne none n =
+    operator_goes operator rest middle w reads found ne n
+    ∙ ap (λ word. fault middle.end (middle.room - 1) (words_then (parameter_count word) (suc (suc n))) (left middle)) (is_proximity operator none)
+
 pub spells_pair : (rest first middle after : Rest) (head : HeadValue) (word : OperatorWord) (place : ℕ) (connective : ConnectiveValue) (x y : TreeValue) → SpellsOperator rest first word place connective → Spells first middle x → Spells middle after y → SpellsUnder rest after head (PairValue place head connective x y)
 spells_pair rest first middle after head word place connective x y o l r = record {
   bare = PairValue o.operator.place no_head connective x y;
@@ -282,3 +292,38 @@ spells_set rest middle after keyword text reads found name =
       is = reads.is ∙ ap (λ ws. keyword ∷ ws) name.reads.is;
       spells = λ more tree spelled. is_structure_of_set keyword name.word more tree found name.good spelled;
     })
+
+-- ---- faults
+
+-- a diagnostic without an addinfo
+pub told_as : (fault : QueryFault) (number place : ℕ) (expected : Option (ℕ × ℕ)) → IsDiagnostic fault number place [] → expected ≡ Some (number, place) → IsFault fault expected
+told_as Memory number place expected is e = tt
+told_as (Diagnostic n p a) number place expected is e =
+    (e ∙ ap (λ m. Some (m, place)) (sym is.0) ∙ ap (λ at. Some (n, at)) (sym is.1), is.2)
+
+-- a call hands on an error
+pub handed_on : {A : Type 0} (r : Result A QueryFault) (e : QueryFault) (P : QueryFault → Type 0) → IsErrAnd r (λ met. met ≡ e) → P e → IfErr r P
+handed_on (Ok x) e P failed p = absurd failed
+handed_on (Err f) e P is p = subst P (sym is) p
+
+-- which is the fault of a part, and so that of the whole
+pub passes_on : {A N : Type 0} (r : Result A QueryFault) (e : QueryFault) (whole part : N → Option (ℕ × ℕ)) → IsErrAnd r (λ met. met ≡ e) → ((n : N) → whole n ≡ part n) → ((n : N) → IsFault e (part n)) → IfErr r (λ f. (n : N) → IsFault f (whole n))
+passes_on {N = N} r e whole part failed same fails =
+    handed_on r e (λ f. (n : N) → IsFault f (whole n)) failed (λ n. subst (λ expected. IsFault e expected) (sym (same n)) (fails n))
+
+-- no word may follow
+pub unended : (end room : ℕ) (words : List WordOfText) → false ≡ eqb (length words) 0 → fault end room (Structures 0) (map word_of words) ≡ Some (108, first_place end (map word_of words))
+unended end room [] e = absurd cc
+unended end room (w ∷ ws) e = fault-step end room (Structures 0) (word_of w) (map word_of ws) (Refused 108) (refusal (is_good (word_of w)))
+  where
+    refusal : (good : Bool) → cond good (Refused 108) (Refused 108) ≡ Refused 108
+    refusal true = refl
+    refusal false = refl
+
+-- an operator for which there is no room
+pub operator_crowded : (operator : OperatorWord) (rest middle : Rest) (w : Word) → ReadsWord rest middle w → keyword_of w ≡ Some (Operator operator) → middle.room ≡ 0 → (n : ℕ) → fault_of rest (Structures (suc n)) ≡ Some (6, w.place)
+operator_crowded operator rest middle w reads found none n =
+    ap (λ ws. fault rest.end rest.room (Structures (suc n)) ws) reads.is
+    ∙ fault-step rest.end rest.room (Structures (suc n)) w (left middle) (Refused 6)
+    (step-structure rest.room n w (good_from_keyword w (Operator operator) found) ∙ ap (λ key. structure_step rest.room key n) found
+    ∙ ap (λ room. operator_step room operator n) (sym reads.room ∙ none))

@@ -1,6 +1,7 @@
 pub mod StatementForms
 pub mod ValueKinds
 pub mod Columns
+pub mod BoundColumns
 pub mod RowLemmas
 pub mod Scans
 pub mod EditedRows
@@ -71,6 +72,7 @@ pub mod OwnerStatements
 pub mod OwnersListed
 pub mod Malformed
 pub mod Answered
+pub mod HandedOn
 pub mod KeyPlaces
 pub mod BlockUnits
 pub mod BlockContents

@@ -1,8 +1,8 @@
 -- Units of plain rows, changed one after the other.
-use Rattle.zeb_register.proofs.Cited.{suc, ◌≡◌, ◌≢◌, ◌⊎◌, ◌∙◌, ◌++◌, ◌==◌, ℕ, ℤ, pos, Bool, Result, Ok, Err, List, [], ◌∷◌, drop, refl, sym, ap, subst, inl, inr, if◌then◌else◌, eq-eqb, eqb_tells, IsUtf8, AllByRecursion, Int, Row, column, Trees, Key, RegFault, Damaged, Place, RecordChange, plain_rows, HasRow, key_row, postings_tree, IsPlaceIn, zero, State, OnOk, place_cmp, IsStore, Loses, KeepsBesidePostings, Puts, RowsRead, TurnsRows, AllowsChanges, IsChanged, IsRefusedAs, IsStorableChange, KeyUnits, PutsAny, PutsPlaces, PutsUnits, TurnsUnit, TurnsUnits}
+use Rattle.zeb_register.proofs.Cited.{suc, ◌≡◌, ◌≢◌, ◌⊎◌, ◌∙◌, ◌++◌, ◌==◌, ℕ, ℤ, pos, Bool, Result, Ok, Err, List, [], ◌∷◌, drop, refl, sym, ap, subst, inl, inr, if◌then◌else◌, eq-eqb, eqb_tells, IsUtf8, AllByRecursion, Int, Row, column, Trees, Key, RegFault, Damaged, Place, RecordChange, plain_rows, HasRow, key_row, postings_tree, IsPlaceIn, zero, State, place_cmp, IsStore, Loses, KeepsBesidePostings, Puts, RowsRead, TurnsRows, AllowsChanges, IsChanged, IsRefusedAs, IsStorableChange, KeyUnits, PutsAny, PutsPlaces, PutsUnits, TurnsUnit, TurnsUnits}
 use Rattle.std.specs.List.Sorted.{IsStrictlySortedBy}
 use Rattle.zeb_register.proofs.UnitRows.{rows_turned}
-use Rattle.zeb_register.specs.Answers.{Answers, IfDamaged}
+use Rattle.zeb_register.specs.Answers.{Answers}
 use Rattle.zeb_register.proofs.Malformed.{row_same}
 use Rattle.zeb_register.proofs.RowUnits.{one_rows_read}
 

@@ -1,6 +1,6 @@
 -- What the clauses of many calls say, of a connection: the state that it had before the call, and the one that it has now. Each of these unfolds
 -- by itself.
-use Rattle.std.specs.Prelude.{ℕ, Bool, Option, Result}
+use Rattle.std.specs.Prelude.{ℕ, Bool, Result}
 use Rattle.std.specs.Borrow.{MutBor}
 use Rattle.sqlite.specs.declared.error.Error.{Error}
 use Rattle.sqlite.specs.Held.{Held, state}

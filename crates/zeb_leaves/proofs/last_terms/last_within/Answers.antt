@@ -1,5 +1,6 @@
-use Rattle.zeb_leaves.proofs.Cited.{◌++◌, ap, ap₂, arith, length, state, sym, HasCleanDisk, store_same, reasoned_after, rows_told}
+use Rattle.zeb_leaves.proofs.Cited.{◌++◌, ap, ap₂, arith, length, state, sym, HasCleanDisk, store_same, reading_then, reasoned_after, rows_told}
 use Rattle.zeb_leaves.proofs.LastTold.{answers_leafless, last_found, last_hidden, more_there, none_there, some_there}
+use Rattle.zeb_leaves.proofs.HandedOn.{answered_so, error_told, failed_reading, later_reading}
 use Rattle.zeb_leaves.proofs.last_terms.last_within.Goals as goal
 
 pub returns-then-is_empty-clause-tells : goal.returns-then-is_empty-clause-tells
@@ -39,3 +40,19 @@ returns-in_err-terms_below-clause-tells g c clean store =
     let hidden = (rw (c.deref-2.ensures.value, c.as_bytes.ensures.value) at c.in_err-terms_below.ensures) listed.1 (λ yes'. listed.4 (whole.0 yes')) in
     rows_told c.in_err-terms_below.field-0.0 c.from_residual-in_err-terms_below.result c.from_residual-in_err-terms_below.ensures.1 _ _ _
     (λ told. last_hidden s0 store c.args.at c.args.start.now c.args.n c.requires.0 listed.0 listed.2 (rows.items ++ listed.1) listed.3 s1 (more_there rows.items listed.1 some) (hidden told))
+
+pub returns-in_err-rows-clause-call : goal.returns-in_err-rows-clause-call
+returns-in_err-rows-clause-call g c = failed_reading _ _ _ _ c.from_residual.result _ _ c.in_err-rows.ensures.call c.from_residual.ensures.1
+
+pub returns-in_err-rows-clause-tells : goal.returns-in_err-rows-clause-tells
+returns-in_err-rows-clause-tells g c clean store =
+    error_told _ _ (state g.S.Store c.args.conn.now) (state g.S.Store c.last_rows.new.conn) c.in_err-rows.field-0.0 c.from_residual.result c.from_residual.ensures.1 (c.in_err-rows.ensures.err clean store)
+
+pub returns-then-is_empty-clause-call : goal.returns-then-is_empty-clause-call
+returns-then-is_empty-clause-call g c = reading_then _ _ _ c.in_ok-rows.rows c.no_leaf_terms.result (answered_so _ _ _ _ _ c.in_ok-rows.ensures.call (λ h. h.0)) c.no_leaf_terms.ensures.call
+
+pub returns-in_err-terms_below-clause-call : goal.returns-in_err-terms_below-clause-call
+returns-in_err-terms_below-clause-call g c = later_reading _ _ _ _ c.from_residual-in_err-terms_below.result _ _ c.in_ok-rows.ensures.call c.from_residual-in_err-terms_below.ensures.1
+
+pub returns-clause-call : goal.returns-clause-call
+returns-clause-call g c = answered_so _ _ _ _ _ c.in_ok-rows.ensures.call (λ h. h.0)

@@ -1,4 +1,4 @@
-use Rattle.zeb_leaves.proofs.Cited.{◌≡◌, ℕ, List, length, refl, sym, subst, state, IsUnchanged, HidesBeside, IsSide, ListsBeside, Below, packed_leaves, Comes, HidesBefore, ListsBefore}
+use Rattle.zeb_leaves.proofs.Cited.{◌≡◌, ℕ, IfOk-weaker, List, length, refl, sym, subst, state, IsUnchanged, HidesBeside, IsSide, ListsBeside, Below, packed_leaves, Comes, HidesBefore, ListsBefore}
 use Rattle.zeb_leaves.proofs.LastTold.{none_before, none_there, some_there}
 use Rattle.zeb_leaves.proofs.NearTold.{answers_none, none_asked, on_side}
 use Rattle.std.proofs.Common.{Global, Vec}
@@ -27,3 +27,11 @@ returns-clause-units g c clean store =
     let start = c.args.start.now in
     on_side s0 s1 (IsSide at start c.args.n Below s0.now.trees) (HidesBeside at start c.args.n Below s0.now.trees) (λ (list : Vec TermCount Global). ListsBeside at start c.args.n Below s0.now.trees list.items) c.terms_beside.result
     (some_there start (length start) refl (sym c.if-is_empty.ensures)) (c.terms_beside.ensures.tells clean store)
+
+pub returns-then-n-eq0-clause-call : goal.returns-then-n-eq0-clause-call
+returns-then-n-eq0-clause-call g c =
+    let it = c.no_terms.ensures.call in
+    record { idle = it.idle; ok = λ clean. IfOk-weaker c.no_terms.result _ _ (λ list h. h.1) (it.ok clean); same = it.same; crash = it.crash }
+
+pub returns-clause-call : goal.returns-clause-call
+returns-clause-call g c = c.terms_beside.ensures.call

@@ -1,8 +1,9 @@
-use Rattle.zeb_leaves.proofs.Cited.{◌≤◌, Err, TermCount, HasCleanDisk, ap, arith, rules, state, subst, sym, IsUnchanged, HidesBeside, IsSide, ListsBeside, refused_so, reading_then, packed_leaves, Comes, HidesFrom, ListsFrom}
+use Rattle.zeb_leaves.proofs.Cited.{IfOk-weaker, ◌≤◌, Err, TermCount, HasCleanDisk, ap, arith, rules, state, subst, sym, IsUnchanged, HidesBeside, IsSide, ListsBeside, reading_then, packed_leaves, Comes, HidesFrom, ListsFrom}
 use Rattle.std.proofs.Common.{Global, Vec}
 use Rattle.zeb_leaves.proofs.NearTold.{answers_none, leafless_from, none_asked, on_side, tells_behind, uncovered_from}
 use Rattle.zeb_leaves.proofs.NearTurns.{none_yet, one_more}
 use Rattle.zeb_leaves.specs.declared.near_terms.Side.TheVariants.{From}
+use Rattle.zeb_leaves.proofs.HandedOn.{answered, failed_reading, refused_met}
 use Rattle.zeb_leaves.proofs.near_terms.terms_from.Goals as goal
 
 pub returns-then-n-eq0-clause-units : goal.returns-then-n-eq0-clause-units
@@ -17,7 +18,7 @@ pub returns-in_err-leaf-clause-units : goal.returns-in_err-leaf-clause-units
 returns-in_err-leaf-clause-units g c clean store =
     let s0 = state g.S.Store c.args.conn.now in
     let some : 1 ≤ c.args.n = omega arith in
-    refused_so _ _ c.from_residual.result c.in_err-leaf.field-0.0 (search rules) (
+    refused_met _ _ c.from_residual.result c.in_err-leaf.field-0.0 c.from_residual.ensures.1 (
       λ told. uncovered_from s0 store c.args.at c.args.start.now c.args.n some (c.in_err-leaf.ensures.finds clean store told),
       λ failed. c.in_err-leaf.ensures.refused clean store (ap Err failed),
     )
@@ -46,3 +47,14 @@ returns-in-None-clause-units g c clean store =
     let some : 1 ≤ c.args.n = omega arith in
     let none = rw c.in-None.is at (c.in_ok-leaf.ensures.finds clean store) in
     subst (ListsFrom packed_leaves s0.now.trees at.db.0 at.index at.register c.args.start.now c.args.n) (sym c.new.ensures.items) (leafless_from s0 store at c.args.start.now c.args.n some none)
+
+pub returns-in_err-leaf-clause-call : goal.returns-in_err-leaf-clause-call
+returns-in_err-leaf-clause-call g c = failed_reading _ _ _ _ c.from_residual.result _ _ c.in_err-leaf.ensures.call c.from_residual.ensures.1
+
+pub returns-in-None-clause-call : goal.returns-in-None-clause-call
+returns-in-None-clause-call g c = answered _ _ _ _ c.in_ok-leaf.ensures.call
+
+pub returns-then-n-eq0-clause-call : goal.returns-then-n-eq0-clause-call
+returns-then-n-eq0-clause-call g c =
+    let it = c.no_terms.ensures.call in
+    record { idle = it.idle; ok = λ clean. IfOk-weaker c.no_terms.result _ _ (λ list h. h.1) (it.ok clean); same = it.same; crash = it.crash }

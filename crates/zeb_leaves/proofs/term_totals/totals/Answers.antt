@@ -1,6 +1,7 @@
-use Rattle.zeb_leaves.proofs.Cited.{Row, List, [], Err, ap, arith, inl, subst, rules, state, HideAllOwns, IsNoText, SaysNone, ShowAllOwns, refused_so, rows_told}
+use Rattle.zeb_leaves.proofs.Cited.{Row, List, [], Err, ap, arith, inl, subst, state, HideAllOwns, IsNoText, SaysNone, ShowAllOwns, rows_told}
 use Rattle.zeb_leaves.proofs.SpotsSaid.{sums_hidden, sums_told, terms_hidden}
 use Rattle.zeb_leaves.proofs.TermsTold.{uncovered_hides}
+use Rattle.zeb_leaves.proofs.HandedOn.{answered, failed_reading, later_reading, refused_met}
 use Rattle.zeb_leaves.proofs.term_totals.totals.Goals as goal
 
 pub returns-clause-units : goal.returns-clause-units
@@ -27,7 +28,19 @@ returns-in_err-counts-clause-units g c clean store =
 pub returns-in_err-rows-clause-units : goal.returns-in_err-rows-clause-units
 returns-in_err-rows-clause-units g c clean store =
     let s0 = state g.S.Store c.args.conn.now in
-    refused_so _ _ c.from_residual.result c.in_err-rows.field-0.0 (search rules) (
+    refused_met _ _ c.from_residual.result c.in_err-rows.field-0.0 c.from_residual.ensures.1 (
       λ told. let it = uncovered_hides s0 store c.args.at (c.in_err-rows.ensures.finds clean store told) in (it.0, inl it.1),
       λ failed. c.in_err-rows.ensures.refused clean store (ap Err failed),
     )
+
+pub returns-in_err-rows-clause-call : goal.returns-in_err-rows-clause-call
+returns-in_err-rows-clause-call g c = failed_reading _ _ _ _ c.from_residual.result _ _ c.in_err-rows.ensures.call c.from_residual.ensures.1
+
+pub returns-in_err-counts-clause-call : goal.returns-in_err-counts-clause-call
+returns-in_err-counts-clause-call g c = later_reading _ _ _ _ c.from_residual-in_err-counts.result _ _ c.in_ok-rows.ensures.call c.from_residual-in_err-counts.ensures.1
+
+pub returns-in_err-occurrences-clause-call : goal.returns-in_err-occurrences-clause-call
+returns-in_err-occurrences-clause-call g c = later_reading _ _ _ _ c.from_residual-in_err-occurrences.result _ _ c.in_ok-rows.ensures.call c.from_residual-in_err-occurrences.ensures.1
+
+pub returns-clause-call : goal.returns-clause-call
+returns-clause-call g c = answered _ _ _ _ c.in_ok-rows.ensures.call

@@ -1,5 +1,7 @@
-use Rattle.zeb_leaves.proofs.Cited.{HasCleanDisk, ◌∙◌, ◌+◌, arith, length, refl, rules, state, refused_so, stays_still, stays_then, quiet_still, quiet_then, both_leaves, leaves_still, more_leaves}
+use Rattle.zeb_leaves.proofs.Cited.{HasCleanDisk, ◌∙◌, ◌+◌, arith, length, refl, state, stays_still, stays_then, quiet_still, quiet_then, both_leaves, leaves_still, more_leaves}
 use Rattle.zeb_leaves.proofs.PiecesLeft.{all_put, count_within, leads_more, left_are, left_refused, some_left}
+use Rattle.zeb_leaves.proofs.HandedOn.{does_none, refused_met}
+use Rattle.zeb_leaves.proofs.TurningCalls.{stays_failed, stays_on}
 use Rattle.zeb_leaves.proofs.turning.pieces_turned.Goals as goal
 
 pub loop-done-init : goal.loop-done-init
@@ -67,7 +69,7 @@ returns-in_err-done-clause-units g c clean inside store =
     let so_far = c.loop-done.invariant in
     let was : HasCleanDisk mid = omega (arith, c.front_turned.ensures.call.crash.clean) in
     let fault = c.in_err-done.field-0.0 in
-    refused_so _ _ c.from_residual.result fault (search rules)
+    refused_met _ _ c.from_residual.result fault c.from_residual.ensures.1
     (left_refused c.args.pieces.now c.loop-done.done c.requires c.args.db.0 first.now.trees mid.now.trees (so_far.leads was inside store) fault
     (c.in_err-done.ensures.turned clean (so_far.stays was inside).inside (so_far.store was inside store)))
 
@@ -77,3 +79,14 @@ returns-clause-work g c clean inside store =
     let now = state g.S.Store c.loop-done.tx.conn.now in
     let so_far = c.loop-done.invariant in
     more_leaves c.loop-done.done (length c.args.pieces.now) first.now.trees now.now.trees c.args.work.now c.loop-done.work so_far.within (so_far.work clean inside store)
+
+pub returns-clause-call : goal.returns-clause-call
+returns-clause-call g c = let so_far = c.loop-done.invariant in stays_on _ _ so_far.crash so_far.stays tt
+
+pub returns-in_err-done-clause-call : goal.returns-in_err-done-clause-call
+returns-in_err-done-clause-call g c =
+    let so_far = c.loop-done.invariant in
+    stays_failed _ _ so_far.crash so_far.stays _ _ _ c.from_residual.result _ _ c.in_err-done.ensures.call c.from_residual.ensures.1
+
+pub returns-in_err-done-clause-work : goal.returns-in_err-done-clause-work
+returns-in_err-done-clause-work g c clean inside store = does_none _ c.from_residual.result _ c.from_residual.ensures.1

@@ -1,5 +1,5 @@
-use Rattle.zeb_query.proofs.Cited.{[], ◌∷◌, ◌∙◌, ◌-◌, refl, ap, sym, suc, first_keyword, word_of, connective_of, Proximity, words_then, parameter_count, fault, left, map, text_of}
-use Rattle.zeb_query.proofs.GrammarLemmas.{operator_goes, is_proximity, words_count}
+use Rattle.zeb_query.proofs.Cited.{[], ◌∷◌, ◌∙◌, ◌-◌, refl, ap, sym, suc, first_keyword, word_of, connective_of, Proximity, words_then, fault, left, map, text_of, Structures}
+use Rattle.zeb_query.proofs.GrammarLemmas.{operator_goes, operator_crowded, proximity_goes, is_proximity, words_count, handed_on, passes_on, told_as}
 use Rattle.zeb_query.proofs.grammar.connective_of.Goals as goal
 
 pub returns-in-Some-clause-goes : goal.returns-in-Some-clause-goes
@@ -27,8 +27,7 @@ pub returns-in_ok-parameters-in-None-clause-goes : goal.returns-in_ok-parameters
 returns-in_ok-parameters-in-None-clause-goes c = λ n.
     let after = c.in_ok-word.after in
     let reads = c.in_ok-word.ensures.reads in
-    operator_goes c.args.operator c.args.rest after (word_of c.in_ok-word.word.now) reads (sym (ap first_keyword reads.is) ∙ c.requires) c.if-after-eq0.false n
-    ∙ ap (λ operator. fault after.end (after.room - 1) (words_then (parameter_count operator) (suc (suc n))) (left after)) (is_proximity c.args.operator (sym c.in-None.ensures))
+    proximity_goes c.args.operator c.args.rest after (word_of c.in_ok-word.word.now) reads (sym (ap first_keyword reads.is) ∙ c.requires) c.if-after-eq0.false (sym c.in-None.ensures) n
     ∙ c.in_ok-parameters-in-None.ensures.goes (suc (suc n))
 
 pub returns-in_ok-parameters-in-None-clause-spelled : goal.returns-in_ok-parameters-in-None-clause-spelled
@@ -45,3 +44,20 @@ returns-in_ok-parameters-in-None-clause-spelled c =
       good = spelled.good;
       connective_is = ap (λ operator. connective_of operator (map text_of spelled.words)) (is_proximity c.args.operator (sym c.in-None.ensures)) ∙ ap (connective_of Proximity) spelled.texts_are;
     }
+
+pub returns-in_err-word-clause-fails : goal.returns-in_err-word-clause-fails
+returns-in_err-word-clause-fails c =
+    handed_on c.from_residual.result _ _ c.from_residual.ensures.1 (λ n. c.in_err-word.ensures.fails (Structures (suc n)) refl)
+
+pub returns-then-after-eq0-clause-fails : goal.returns-then-after-eq0-clause-fails
+returns-then-after-eq0-clause-fails c = λ n.
+    let reads = c.in_ok-word.ensures.reads in
+    told_as c.refused.result 6 c.in_ok-word.word.now.place _ c.refused.ensures
+    (operator_crowded c.args.operator c.args.rest c.in_ok-word.after (word_of c.in_ok-word.word.now) reads (sym (ap first_keyword reads.is) ∙ c.requires) c.if-after-eq0.true n)
+
+pub returns-in_err-parameters-in-None-clause-fails : goal.returns-in_err-parameters-in-None-clause-fails
+returns-in_err-parameters-in-None-clause-fails c =
+    let reads = c.in_ok-word.ensures.reads in
+    passes_on c.from_residual-in_err-parameters-in-None.result _ _ _ c.from_residual-in_err-parameters-in-None.ensures.1
+    (proximity_goes c.args.operator c.args.rest c.in_ok-word.after (word_of c.in_ok-word.word.now) reads (sym (ap first_keyword reads.is) ∙ c.requires) c.if-after-eq0.false (sym c.in-None.ensures))
+    (λ n. c.in_err-parameters-in-None.ensures.fails (suc (suc n)))

@@ -1,7 +1,8 @@
-use Rattle.zeb_register.proofs.Cited.{Database, Error, state, HasCleanDisk, ◌≡◌, ◌∙◌, true, false, inl, inr, slice_get, get_or, sym, ap, subst, refl, arith, ListedDatabase, AsExpected}
+use Rattle.zeb_register.proofs.Cited.{Database, Error, state, HasCleanDisk, ◌≡◌, ◌∙◌, true, false, inl, inr, slice_get, get_or, sym, ap, subst, refl, arith, ListedDatabase, AsExpected, Bool, Reading, Ok, IsUnchanged}
 use Rattle.zeb_register.proofs.ListsInStep.{at_or_below, got_in, got_is, got_same}
 use Rattle.zeb_register.proofs.Calls.{reading_behind, store_same}
 use Rattle.zeb_register.proofs.ContentLemmas.{has_at}
+use Rattle.zeb_register.proofs.HandedOn.{shows_none, failed_reading, failed_behind, error_reasoned, error_behind}
 use Rattle.zeb_register.proofs.agreeing.each_agrees.Goals as goal
 
 pub loop-at-init : goal.loop-at-init
@@ -65,3 +66,30 @@ returns-clause-value g c clean store order = (
 pub returns-then-not-branch-clause-call : goal.returns-then-not-branch-clause-call
 returns-then-not-branch-clause-call g c =
     let inv = c.loop-at.invariant in reading_behind _ _ _ c.in_ok-database_agrees.field-0 _ _ inv.idle inv.ok inv.same inv.crash c.in_ok-database_agrees.ensures.call (λ same. same)
+
+pub returns-in_err-nothing_of-clause-call : goal.returns-in_err-nothing_of-clause-call
+returns-in_err-nothing_of-clause-call g c = failed_reading _ _ _ _ c.from_residual.result _ _ c.in_err-nothing_of.ensures.call c.from_residual.ensures.1
+
+pub returns-in_err-nothing_of-clause-value : goal.returns-in_err-nothing_of-clause-value
+returns-in_err-nothing_of-clause-value g c clean store order = shows_none _ c.from_residual.result _ c.from_residual.ensures.1
+
+pub returns-in_err-nothing_of-clause-refused : goal.returns-in_err-nothing_of-clause-refused
+returns-in_err-nothing_of-clause-refused g c = error_reasoned _ _ _ c.from_residual.result _ c.in_err-nothing_of.ensures.call c.in_err-nothing_of.ensures.err c.from_residual.ensures.1
+
+pub returns-in_err-database_agrees-clause-call : goal.returns-in_err-database_agrees-clause-call
+returns-in_err-database_agrees-clause-call g c = let inv = c.loop-at.invariant in let first : Reading {A = Bool} {E = Error} (state g.S.Store c.args.conn.now) (state g.S.Store c.loop-at.conn) (Ok true) (λ _. IsUnchanged) = record { idle = inv.idle; ok = inv.ok; same = inv.same; crash = inv.crash } in failed_behind _ _ _ _ _ _ c.from_residual-in_err-database_agrees.result _ _ first c.in_err-database_agrees.ensures.call c.from_residual-in_err-database_agrees.ensures.1
+
+pub returns-in_err-database_agrees-clause-value : goal.returns-in_err-database_agrees-clause-value
+returns-in_err-database_agrees-clause-value g c clean store order = shows_none _ c.from_residual-in_err-database_agrees.result _ c.from_residual-in_err-database_agrees.ensures.1
+
+pub returns-in_err-database_agrees-clause-refused : goal.returns-in_err-database_agrees-clause-refused
+returns-in_err-database_agrees-clause-refused g c = let inv = c.loop-at.invariant in let first : Reading {A = Bool} {E = Error} (state g.S.Store c.args.conn.now) (state g.S.Store c.loop-at.conn) (Ok true) (λ _. IsUnchanged) = record { idle = inv.idle; ok = inv.ok; same = inv.same; crash = inv.crash } in error_behind _ _ _ _ _ c.from_residual-in_err-database_agrees.result first c.database_agrees.ensures.call.crash c.in_err-database_agrees.ensures.refused c.from_residual-in_err-database_agrees.ensures.1
+
+pub returns-then-not-branch-clause-refused : goal.returns-then-not-branch-clause-refused
+returns-then-not-branch-clause-refused g c clean store = tt
+
+pub returns-clause-call : goal.returns-clause-call
+returns-clause-call g c = let inv = c.loop-at.invariant in record { idle = inv.idle; ok = inv.ok; same = inv.same; crash = inv.crash }
+
+pub returns-clause-refused : goal.returns-clause-refused
+returns-clause-refused g c clean store = tt

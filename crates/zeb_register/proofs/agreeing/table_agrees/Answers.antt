@@ -1,6 +1,8 @@
 use Rattle.zeb_register.proofs.Cited.{Database, state, HasCleanDisk, arith, ◌≡◌, ◌↔◌, true, false, IsTrue, subst, IfOk-weaker, BelongsTo, EachAsExpected, tree_of}
 use Rattle.zeb_register.proofs.Calls.{reading_then, store_same}
 use Rattle.zeb_register.proofs.YesNoAnswers.{both_told, first_told}
+use Rattle.zeb_register.proofs.HandedOn.{shows_none, failed_reading, told_reading, error_reasoned}
+use Rattle.zeb_register.proofs.Causes.{failed_after}
 use Rattle.zeb_register.proofs.agreeing.table_agrees.Goals as goal
 
 pub returns-then-not-branch-clause-value : goal.returns-then-not-branch-clause-value
@@ -25,3 +27,21 @@ returns-clause-value g c clean store order =
     let each = EachAsExpected c.args.table c.args.listed.now c.args.expected.now s0.now.trees in
     let owned = λ (d : Database). BelongsTo (tree_of c.args.table) c.args.listed.now d.trees in
     IfOk-weaker c.belongs.result _ _ (λ b second. both_told each (owned s0.now) b (subst (λ t. IsTrue t ↔ each) yes' first) (subst (λ (d : Database). IsTrue b ↔ BelongsTo (tree_of c.args.table) c.args.listed.now d.trees) at second)) (c.belongs.ensures.value clean (store_same s0 s1 at store))
+
+pub returns-in_err-each_agrees-clause-call : goal.returns-in_err-each_agrees-clause-call
+returns-in_err-each_agrees-clause-call g c = failed_reading _ _ _ _ c.from_residual.result _ _ c.in_err-each_agrees.ensures.call c.from_residual.ensures.1
+
+pub returns-in_err-each_agrees-clause-value : goal.returns-in_err-each_agrees-clause-value
+returns-in_err-each_agrees-clause-value g c clean store order = shows_none _ c.from_residual.result _ c.from_residual.ensures.1
+
+pub returns-in_err-each_agrees-clause-refused : goal.returns-in_err-each_agrees-clause-refused
+returns-in_err-each_agrees-clause-refused g c = error_reasoned _ _ _ c.from_residual.result _ c.in_err-each_agrees.ensures.call c.in_err-each_agrees.ensures.refused c.from_residual.ensures.1
+
+pub returns-then-not-branch-clause-call : goal.returns-then-not-branch-clause-call
+returns-then-not-branch-clause-call g c = told_reading _ _ _ _ _ (λ same. same) c.in_ok-each_agrees.ensures.call
+
+pub returns-then-not-branch-clause-refused : goal.returns-then-not-branch-clause-refused
+returns-then-not-branch-clause-refused g c clean store = tt
+
+pub returns-clause-refused : goal.returns-clause-refused
+returns-clause-refused g c = let first = c.in_ok-each_agrees.ensures.call in failed_after _ _ _ c.belongs.result first.crash first.ok c.belongs.ensures.call.crash c.belongs.ensures.refused

@@ -1,8 +1,7 @@
-use Rattle.zeb_register.proofs.Cited.{state, HasCleanDisk, IsUnchanged, rules, ◌≡◌, true, false, ◌+◌, FitsSigned, w64, to_z, sym, subst, arith, to_z-of_z, ints, Bool, Err, err_from_is_err_and, Reading, IsReasonedError, tree_of}
-use Rattle.zeb_register.proofs.Calls.{nothing_then, reading_behind}
-use Rattle.zeb_register.proofs.CallsInTurn.{quiet_then}
+use Rattle.zeb_register.proofs.Cited.{state, HasCleanDisk, rules, ◌≡◌, true, false, ◌+◌, FitsSigned, w64, to_z, sym, subst, arith, to_z-of_z, ints, tree_of}
+use Rattle.zeb_register.proofs.Calls.{reading_behind}
 use Rattle.zeb_register.proofs.OwnersListed.{IsReached, all_reached, below_few, first_reached, found_next, next_reached, none_next}
-use Rattle.zeb_register.proofs.Causes.{failed_after}
+use Rattle.zeb_register.proofs.HandedOn.{shows_none, failed_reading, failed_behind, told_reading, error_reasoned, error_behind}
 use Rattle.zeb_register.proofs.belonging.belongs.Goals as goal
 
 pub returns-in_default-clause-value : goal.returns-in_default-clause-value
@@ -34,28 +33,10 @@ returns-then-id-ends-clause-value g c clean store = (
 )
 
 pub returns-in_err-next-clause-call : goal.returns-in_err-next-clause-call
-returns-in_err-next-clause-call g c =
-    let before = c.ids.invariant.call in
-    let s0 = state g.S.Store c.args.conn.now in
-    let s1 = state g.S.Store c.ids.conn in
-    let s2 = state g.S.Store c.next_id.new.conn in
-    let it : Reading s0 s2 c.from_residual-in_err-next.result (λ _. IsUnchanged) = record {
-      idle = λ i. c.next_id.ensures.call.idle (before.idle i);
-      ok = λ clean. search rules;
-      same = λ clean i. nothing_then s0 s1 s2 (before.same (omega (arith, c.next_id.ensures.call.crash.clean)) i) (c.next_id.ensures.call.same clean (before.idle i));
-      crash = quiet_then s0 s1 s2 before.crash c.next_id.ensures.call.crash;
-    } in
-    it
+returns-in_err-next-clause-call g c = failed_behind _ _ _ _ _ _ c.from_residual-in_err-next.result _ _ c.ids.invariant.call c.in_err-next.ensures.call c.from_residual-in_err-next.ensures.1
 
 pub returns-in_err-next-clause-refused : goal.returns-in_err-next-clause-refused
-returns-in_err-next-clause-refused g c =
-    let before = c.ids.invariant.call in
-    let s0 = state g.S.Store c.args.conn.now in
-    let s1 = state g.S.Store c.ids.conn in
-    let s2 = state g.S.Store c.next_id.new.conn in
-    let is = err_from_is_err_and c.from_residual-in_err-next.result c.from_residual-in_err-next.ensures.1 in
-    let it : IsReasonedError s0 s2 c.from_residual-in_err-next.result = rw (is.1, is.2) (failed_after {A = Bool} s0 s1 s2 (Err c.in_err-next.field-0.0) before.crash before.ok c.next_id.ensures.call.crash c.in_err-next.ensures.refused) in
-    it
+returns-in_err-next-clause-refused g c = error_behind _ _ _ _ _ c.from_residual-in_err-next.result c.ids.invariant.call c.next_id.ensures.call.crash c.in_err-next.ensures.refused c.from_residual-in_err-next.ensures.1
 
 pub returns-in_default-2-clause-call : goal.returns-in_default-2-clause-call
 returns-in_default-2-clause-call g c = let before = c.ids.invariant.call in reading_behind _ _ _ c.in_ok-next.field-0 _ _ before.idle before.ok before.same before.crash c.in_ok-next.ensures.call (λ same. same)
@@ -101,3 +82,39 @@ returns-in-Some-2-clause-value g c clean store =
     let found = found_next (tree_of c.args.table) id s0 s1 c.in_ok-next.field-0 (c.ids.invariant.call.ok clean1) store (c.in_ok-next.ensures.value clean) (omega (arith, ints, c.ids.id-is, c.if-id-ends.false, fits)) in
     let reached = next_reached (tree_of c.args.table) s0.now.trees c.args.listed.now c.in-Some.ends.last id c.ids._turn (c.ids.invariant.reached clean1 store) (c.is_listed.ensures.same c.if-not-is_listed.false) c.in-Some-2.next (rw c.in-Some-2.is at found) in
     absurd (omega (arith, reached.turns, below_few c.args.listed.now c.in-Some-2.next, c.if-turn-turn-end.false))
+
+pub returns-in_err-ends-clause-call : goal.returns-in_err-ends-clause-call
+returns-in_err-ends-clause-call g c = failed_reading _ _ _ _ c.from_residual.result _ _ c.in_err-ends.ensures.call c.from_residual.ensures.1
+
+pub returns-in_err-ends-clause-value : goal.returns-in_err-ends-clause-value
+returns-in_err-ends-clause-value g c clean store = shows_none _ c.from_residual.result _ c.from_residual.ensures.1
+
+pub returns-in_err-ends-clause-refused : goal.returns-in_err-ends-clause-refused
+returns-in_err-ends-clause-refused g c = error_reasoned _ _ _ c.from_residual.result _ c.in_err-ends.ensures.call c.in_err-ends.ensures.refused c.from_residual.ensures.1
+
+pub returns-in_default-clause-call : goal.returns-in_default-clause-call
+returns-in_default-clause-call g c = told_reading _ _ _ true _ (λ same. same) c.in_ok-ends.ensures.call
+
+pub returns-in_default-clause-refused : goal.returns-in_default-clause-refused
+returns-in_default-clause-refused g c clean store = tt
+
+pub returns-then-not-is_listed-clause-call : goal.returns-then-not-is_listed-clause-call
+returns-then-not-is_listed-clause-call g c = told_reading _ _ _ _ _ (λ same. same) c.ids.invariant.call
+
+pub returns-then-not-is_listed-clause-refused : goal.returns-then-not-is_listed-clause-refused
+returns-then-not-is_listed-clause-refused g c clean store = tt
+
+pub returns-then-id-ends-clause-call : goal.returns-then-id-ends-clause-call
+returns-then-id-ends-clause-call g c = told_reading _ _ _ _ _ (λ same. same) c.ids.invariant.call
+
+pub returns-then-id-ends-clause-refused : goal.returns-then-id-ends-clause-refused
+returns-then-id-ends-clause-refused g c clean store = tt
+
+pub returns-in_err-next-clause-value : goal.returns-in_err-next-clause-value
+returns-in_err-next-clause-value g c clean store = shows_none _ c.from_residual-in_err-next.result _ c.from_residual-in_err-next.ensures.1
+
+pub returns-in_default-2-clause-refused : goal.returns-in_default-2-clause-refused
+returns-in_default-2-clause-refused g c clean store = tt
+
+pub returns-in-Some-2-clause-refused : goal.returns-in-Some-2-clause-refused
+returns-in-Some-2-clause-refused g c clean store = tt

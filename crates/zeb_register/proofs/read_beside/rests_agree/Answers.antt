@@ -1,4 +1,4 @@
-use Rattle.zeb_register.proofs.Cited.{unchanged_then, HasGiven, state, Row, HasCleanDisk, Int, rules, ◌≡◌, ◌∙◌, ◌↔◌, ◌++◌, List, [], ◌∷◌, Bool, false, not, Ok, Err, ◌<◌, ◌≤◌, nat_eq, refl, sym, ap, subst, w64, to_z, of_z, arith, to_z-of_z, Decides-eqb, err_from_is_err_and, RegFault, Error, Reading, IsReasonedError, IsInOrder, Fits, ReadsRests, rests_text, size_of}
+use Rattle.zeb_register.proofs.Cited.{unchanged_then, HasGiven, state, Row, HasCleanDisk, Int, rules, ◌≡◌, ◌∙◌, ◌↔◌, ◌++◌, List, [], ◌∷◌, Bool, false, not, Ok, Err, ◌<◌, ◌≤◌, nat_eq, refl, sym, ap, subst, w64, to_z, of_z, arith, to_z-of_z, Decides-eqb, err_from_is_err_and, Error, Reading, IsReasonedError, IsInOrder, Fits, ReadsRests, rests_text, size_of}
 use Rattle.sqlite.specs.State.{Shown}
 use Rattle.zeb_register.proofs.Calls.{IsSilent, nothing, quiet, store_same}
 use Rattle.zeb_register.proofs.Causes.{may_after}
