@@ -118,6 +118,16 @@ fn ran<L: Layout>(alloc: Global, left_out: usize, printed: &mut String) -> Resul
     Ok(lacking)
 }
 
+/// None of the commands lacks memory: behind one that lacked it, since one allocation at most is refused in a run of this test.
+fn lacks_none<L: Layout>(alloc: Global) -> Done {
+    let mut printed = String::new(alloc);
+    if ran::<L>(alloc, NONE, &mut printed)? == NONE {
+        return Ok(());
+    }
+    let what = String::from_str(alloc, "a command lacks memory again")?;
+    Err(Stopped::Otherwise(what))
+}
+
 /// The list is answered, or one of its commands lacks memory: then the same is printed, and all rows are the same, as where that isn't given.
 fn is_answered<L: Layout>(alloc: Global) -> Done {
     let mut printed = String::new(alloc);
@@ -127,7 +137,8 @@ fn is_answered<L: Layout>(alloc: Global) -> Done {
     }
     let mut wanted = String::new(alloc);
     ran::<L>(alloc, lacking, &mut wanted)?;
-    compare(alloc, &printed, &wanted)
+    compare(alloc, &printed, &wanted)?;
+    lacks_none::<L>(alloc)
 }
 
 /// The same, again where memory was refused beside the commands.

@@ -15,8 +15,9 @@ mod stories;
 mod texts;
 
 use crate::book::Book;
+use std::fs;
+use std::io::{self, Write};
 use std::process::ExitCode;
-use std::{fs, io};
 
 fn main(rt: HostRuntime) -> ExitCode {
     match run_files(&rt) {
@@ -35,16 +36,25 @@ fn run_files(rt: &HostRuntime) -> io::Result<bool> {
     Ok(are_well)
 }
 
+/// Prints a line of a row that differs, also on standard error: of standard output the gate says only at which byte it differs.
+fn print_differing(rt: &HostRuntime, line: &str) -> io::Result<()> {
+    println!(rt; "{line}")?;
+    let _shown = writeln!(rt.stderr(), "{line}");
+    Ok(())
+}
+
 /// Runs the rows of a file below the working folder, and prints how many there were over each layout, behind those that differ.
 fn run_file(rt: &HostRuntime, name: &str) -> io::Result<bool> {
+    let alloc = rt.alloc();
     let text = fs::read_to_string(rt, name)?;
-    let mut book = Book::new(rt.alloc());
+    let mut book = Book::new(alloc);
     let read = book.read(text.as_str());
     for line in &book.differing {
-        println!(rt; "{name}:{line}")?;
+        print_differing(rt, &format!(in alloc; "{name}:{line}")?)?;
     }
     if let Err(fault) = &read {
-        println!(rt; "{name}:{}: {fault}", book.number)?;
+        let line = format!(in alloc; "{name}:{}: {fault}", book.number)?;
+        print_differing(rt, &line)?;
     }
     println!(rt; "{name}: {}", book.counts)?;
     Ok(read.is_ok() && book.differing.is_empty())
