@@ -8,7 +8,6 @@ mod agreeing_rows;
 mod agreeing_tables;
 mod agreeing_walk;
 mod between;
-mod database_laws;
 mod first_terms;
 mod inside;
 mod key_reads;

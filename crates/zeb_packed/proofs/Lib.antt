@@ -30,4 +30,3 @@ pub mod HeldRuns
 pub mod NewKeys
 pub mod HeldPuts
 pub mod Cited
-pub mod BoundShown

@@ -80,7 +80,8 @@ as_met {A} {B} {E} r fault told failed is =
 abbrev pub HasReason : State → State → Error → Type 0
 HasReason a b e = HasCleanDisk b → IsStore a → fault_of e ≡ Store → MayRefuse a b
 
-not_damaged : (e : Error) → fault_of e ≢ Damaged
+-- no error of the store is told as damage
+pub not_damaged : (e : Error) → fault_of e ≢ Damaged
 not_damaged e is = search rules
 
 module _ {A : Type 0} (e : Error) (r : Result A RegFault) (failed : IsErrAnd r (λ met. met ≡ fault_of e)) where

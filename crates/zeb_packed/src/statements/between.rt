@@ -8,6 +8,7 @@ ghost use Rattle.zeb_register.specs.Store.{blocks_tree};
 
 use sqlite::{Alter, Connection, Error, Row, params};
 use zeb_register::RegisterOf;
+use zeb_register::for_layouts::look_up;
 
 /// The blocks of the terms that are not below `first` and are below `end`: the term, the number of the block, and its bytes.
 pub(crate) fn block_rows_between<S: Alter>(
@@ -20,11 +21,10 @@ pub(crate) fn block_rows_between<S: Alter>(
         (IsRestBetween blocks_tree (register_columns at) first.now end.now) a b rows.items) }
     ensures err { IsReasonedErrorOf S.Store conn.old conn.new result }
 {
-    // What is seen outside a transaction is what was committed.
-    let _idle = conn.is_autocommit();
     let db = at.db.column();
     let reg = u32::from(at.register.code());
-    conn.query_all(
+    look_up(
+        conn,
         "SELECT term, block, data FROM blocks WHERE db = ?1 AND idx = ?2 AND reg = ?3 AND term >= ?4 AND term < ?5 ORDER BY term, block",
         params![db, at.index, reg, first, end],
     )

@@ -10,6 +10,7 @@ ghost use Rattle.zeb_register.specs.PrivateRowStatements.{Lists};
 
 use sqlite::{Alter, Connection, Error, Row, params};
 use zeb_register::RegisterOf;
+use zeb_register::for_layouts::look_up;
 
 /// The first of a register's terms that are not below a text, so many at most.
 pub(crate) const TERMS_FROM: &str =
@@ -25,11 +26,10 @@ pub(crate) fn block_rows<S: Alter>(
         (IsRest blocks_tree (register_columns at ++ Text term.now ∷ [])) a b rows.items) }
     ensures err { IsReasonedErrorOf S.Store conn.old conn.new result }
 {
-    // What is seen outside a transaction is what was committed.
-    let _idle = conn.is_autocommit();
     let db = at.db.column();
     let reg = u32::from(at.register.code());
-    conn.query_all(
+    look_up(
+        conn,
         "SELECT block, data FROM blocks WHERE db = ?1 AND idx = ?2 AND reg = ?3 AND term = ?4 ORDER BY block",
         params![db, at.index, reg, term],
     )
@@ -44,11 +44,10 @@ pub(crate) fn dict_rows<S: Alter>(
         (IsRest dict_tree (register_columns at)) a b rows.items) }
     ensures err { IsReasonedErrorOf S.Store conn.old conn.new result }
 {
-    // What is seen outside a transaction is what was committed.
-    let _idle = conn.is_autocommit();
     let db = at.db.column();
     let reg = u32::from(at.register.code());
-    conn.query_all(
+    look_up(
+        conn,
         "SELECT term, records FROM dict WHERE db = ?1 AND idx = ?2 AND reg = ?3 ORDER BY term",
         params![db, at.index, reg],
     )
@@ -65,11 +64,9 @@ pub(crate) fn dict_rows_from<S: Alter>(
         (IsRestFrom dict_tree (register_columns at) start.now) a b rows.items) }
     ensures err { IsReasonedErrorOf S.Store conn.old conn.new result }
 {
-    // What is seen outside a transaction is what was committed.
-    let _idle = conn.is_autocommit();
     let db = at.db.column();
     let reg = u32::from(at.register.code());
-    conn.query_all(TERMS_FROM, params![db, at.index, reg, start, limit])
+    look_up(conn, TERMS_FROM, params![db, at.index, reg, start, limit])
 }
 
 /// The last of the terms that are below `start`, the last first, with the numbers of their records: at most `limit`, or all where
@@ -84,11 +81,10 @@ pub(crate) fn dict_rows_before<S: Alter>(
         (IsRestBefore dict_tree (register_columns at) start.now) a b rows.items) }
     ensures err { IsReasonedErrorOf S.Store conn.old conn.new result }
 {
-    // What is seen outside a transaction is what was committed.
-    let _idle = conn.is_autocommit();
     let db = at.db.column();
     let reg = u32::from(at.register.code());
-    conn.query_all(
+    look_up(
+        conn,
         "SELECT term, records FROM dict WHERE db = ?1 AND idx = ?2 AND reg = ?3 AND term < ?4 ORDER BY term DESC LIMIT ?5",
         params![db, at.index, reg, start, limit],
     )

@@ -7,7 +7,7 @@ use Rattle.zeb_register.proofs.ContentLemmas.{has_at}
 use Rattle.zeb_register.proofs.ListsInStep.{at_or_below, got_in, got_is, got_same}
 use Rattle.zeb_register.proofs.YesNoAnswers.{first_told}
 use Rattle.sqlite.specs.declared.error.Error.{Error}
-use Rattle.zeb_leaves.proofs.HandedOn.{answered, failed_behind, failed_reading, failed_reason, reason_behind, shows_none}
+use Rattle.zeb_leaves.proofs.HandedOn.{answered, error_behind, error_reasoned, failed_behind, failed_reading, shows_none}
 use Rattle.zeb_leaves.proofs.agreeing_tables.ids_agree.Goals as goal
 
 pub returns-then-not-branch-clause-value : goal.returns-then-not-branch-clause-value
@@ -92,7 +92,7 @@ pub returns-in_err-others_are_empty-clause-value : goal.returns-in_err-others_ar
 returns-in_err-others_are_empty-clause-value g c clean store up = shows_none _ c.from_residual.result _ c.from_residual.ensures.1
 
 pub returns-in_err-others_are_empty-clause-refused : goal.returns-in_err-others_are_empty-clause-refused
-returns-in_err-others_are_empty-clause-refused g c = failed_reason _ _ c.from_residual.result _ _ c.in_err-others_are_empty.ensures.call c.in_err-others_are_empty.ensures.refused c.from_residual.ensures.1
+returns-in_err-others_are_empty-clause-refused g c = error_reasoned _ _ _ c.from_residual.result _ c.in_err-others_are_empty.ensures.call c.in_err-others_are_empty.ensures.refused c.from_residual.ensures.1
 
 pub returns-then-not-branch-clause-call : goal.returns-then-not-branch-clause-call
 returns-then-not-branch-clause-call g c = answered _ _ _ false c.in_ok-others_are_empty.ensures.call
@@ -113,7 +113,7 @@ pub returns-in_err-leaves_hold-clause-refused : goal.returns-in_err-leaves_hold-
 returns-in_err-leaves_hold-clause-refused g c =
     let inv = c.loop-at.invariant in
     let first : Reading {A = Bool} {E = Error} (state g.S.Store c.args.conn.now) (state g.S.Store c.loop-at.conn) (Ok true) (λ _. IsUnchanged) = record { idle = inv.idle; ok = inv.ok; same = inv.same; crash = inv.crash } in
-    reason_behind _ _ c.from_residual-in_err-leaves_hold.result _ _ _ true first c.in_err-leaves_hold.ensures.call c.in_err-leaves_hold.ensures.refused c.from_residual-in_err-leaves_hold.ensures.1
+    error_behind _ _ _ true _ c.from_residual-in_err-leaves_hold.result first c.in_err-leaves_hold.ensures.call.crash c.in_err-leaves_hold.ensures.refused c.from_residual-in_err-leaves_hold.ensures.1
 
 pub returns-then-not-branch-2-clause-call : goal.returns-then-not-branch-2-clause-call
 returns-then-not-branch-2-clause-call g c =

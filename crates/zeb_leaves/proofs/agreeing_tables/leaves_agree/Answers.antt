@@ -2,7 +2,7 @@ use Rattle.zeb_leaves.proofs.Cited.{state, HasCleanDisk, ◌≡◌, ◌↔◌, �
 use Rattle.std.specs.Bool.{IsTrue}
 use Rattle.zeb_leaves.proofs.ExpectedLeaves.{leaves_agree, leaves_expected}
 use Rattle.zeb_leaves.proofs.LeavesOfIds.{by_list, by_names}
-use Rattle.zeb_leaves.proofs.HandedOn.{answered, failed_reading, failed_reason, shows_none}
+use Rattle.zeb_leaves.proofs.HandedOn.{answered, error_reasoned, failed_reading, shows_none}
 use Rattle.zeb_leaves.proofs.agreeing_tables.leaves_agree.Goals as goal
 
 pub returns-in_default-clause-value : goal.returns-in_default-clause-value
@@ -40,7 +40,7 @@ pub returns-in_err-listed-clause-value : goal.returns-in_err-listed-clause-value
 returns-in_err-listed-clause-value g c clean store ordered = shows_none _ c.from_residual.result _ c.from_residual.ensures.1
 
 pub returns-in_err-listed-clause-refused : goal.returns-in_err-listed-clause-refused
-returns-in_err-listed-clause-refused g c = failed_reason _ _ c.from_residual.result _ _ c.in_err-listed.ensures.call c.in_err-listed.ensures.refused c.from_residual.ensures.1
+returns-in_err-listed-clause-refused g c = error_reasoned _ _ _ c.from_residual.result _ c.in_err-listed.ensures.call c.in_err-listed.ensures.refused c.from_residual.ensures.1
 
 pub returns-in_default-clause-call : goal.returns-in_default-clause-call
 returns-in_default-clause-call g c = answered _ _ _ false c.in_ok-listed.ensures.call

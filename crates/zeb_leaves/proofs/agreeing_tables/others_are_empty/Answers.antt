@@ -4,7 +4,7 @@ use Rattle.zeb_leaves.proofs.LeavesOfIds.{next_there, others_empty, told_empty}
 use Rattle.zeb_leaves.proofs.OpenCalls.{open_then}
 use Rattle.zeb_leaves.proofs.ReachedIds.{IsReached, all_reached, first_reached, next_reached, none_next}
 use Rattle.sqlite.specs.declared.error.Error.{Error}
-use Rattle.zeb_leaves.proofs.HandedOn.{answered, failed_behind, failed_reading, failed_reason, reason_behind, shows_none}
+use Rattle.zeb_leaves.proofs.HandedOn.{answered, error_behind, error_reasoned, failed_behind, failed_reading, shows_none}
 use Rattle.zeb_leaves.proofs.agreeing_tables.others_are_empty.Goals as goal
 
 pub returns-in_default-clause-value : goal.returns-in_default-clause-value
@@ -147,7 +147,7 @@ pub returns-in_err-ends-clause-value : goal.returns-in_err-ends-clause-value
 returns-in_err-ends-clause-value g c clean store = shows_none _ c.from_residual.result _ c.from_residual.ensures.1
 
 pub returns-in_err-ends-clause-refused : goal.returns-in_err-ends-clause-refused
-returns-in_err-ends-clause-refused g c = failed_reason _ _ c.from_residual.result _ _ c.in_err-ends.ensures.call c.in_err-ends.ensures.refused c.from_residual.ensures.1
+returns-in_err-ends-clause-refused g c = error_reasoned _ _ _ c.from_residual.result _ c.in_err-ends.ensures.call c.in_err-ends.ensures.refused c.from_residual.ensures.1
 
 pub returns-in_default-clause-call : goal.returns-in_default-clause-call
 returns-in_default-clause-call g c = answered _ _ _ true c.in_ok-ends.ensures.call
@@ -170,7 +170,7 @@ returns-in_err-is_empty_beside-clause-refused g c =
     let inv = c.ids.invariant in
     let s0 = state g.S.Store c.args.conn.now in
     let so_far : Reading {A = Bool} {E = Error} s0 (state g.S.Store c.ids.conn) (Ok true) (λ _. IsUnchanged) = record { idle = inv.idle; ok = inv.ok; same = inv.same; crash = inv.crash } in
-    reason_behind _ _ c.from_residual-in_err-is_empty_beside.result _ _ _ true so_far c.in_err-is_empty_beside.ensures.call c.in_err-is_empty_beside.ensures.refused c.from_residual-in_err-is_empty_beside.ensures.1
+    error_behind _ _ _ true _ c.from_residual-in_err-is_empty_beside.result so_far c.in_err-is_empty_beside.ensures.call.crash c.in_err-is_empty_beside.ensures.refused c.from_residual-in_err-is_empty_beside.ensures.1
 
 pub returns-then-not-branch-clause-refused : goal.returns-then-not-branch-clause-refused
 returns-then-not-branch-clause-refused g c clean store = tt

@@ -1,7 +1,7 @@
 use Rattle.zeb_leaves.proofs.Cited.{state, HasCleanDisk, ◌≡◌, ◌↔◌, subst, arith, Database, false, true, IfOk-weaker, EachHasLeaves, OthersAreEmpty, failed_after, reading_then, store_same, LacksPostingsAndDict}
 use Rattle.std.specs.Bool.{IsTrue}
 use Rattle.zeb_register.proofs.YesNoAnswers.{both_told, first_told}
-use Rattle.zeb_leaves.proofs.HandedOn.{answered, failed_reading, failed_reason, shows_none}
+use Rattle.zeb_leaves.proofs.HandedOn.{answered, error_reasoned, failed_reading, shows_none}
 use Rattle.zeb_leaves.proofs.agreeing_tables.registers_agree.Goals as goal
 
 pub returns-then-not-branch-clause-value : goal.returns-then-not-branch-clause-value
@@ -33,7 +33,7 @@ pub returns-in_err-postings_and_dict_lack_rows-clause-value : goal.returns-in_er
 returns-in_err-postings_and_dict_lack_rows-clause-value g c clean store up = shows_none _ c.from_residual.result _ c.from_residual.ensures.1
 
 pub returns-in_err-postings_and_dict_lack_rows-clause-refused : goal.returns-in_err-postings_and_dict_lack_rows-clause-refused
-returns-in_err-postings_and_dict_lack_rows-clause-refused g c = failed_reason _ _ c.from_residual.result _ _ c.in_err-postings_and_dict_lack_rows.ensures.call c.in_err-postings_and_dict_lack_rows.ensures.refused c.from_residual.ensures.1
+returns-in_err-postings_and_dict_lack_rows-clause-refused g c = error_reasoned _ _ _ c.from_residual.result _ c.in_err-postings_and_dict_lack_rows.ensures.call c.in_err-postings_and_dict_lack_rows.ensures.refused c.from_residual.ensures.1
 
 pub returns-then-not-branch-clause-call : goal.returns-then-not-branch-clause-call
 returns-then-not-branch-clause-call g c = answered _ _ _ false c.in_ok-postings_and_dict_lack_rows.ensures.call

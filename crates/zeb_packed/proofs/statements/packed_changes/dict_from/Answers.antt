@@ -1,6 +1,5 @@
 use Rattle.zeb_packed.proofs.Cited.{◌≡◌, rules, pos, List, Row, take, register_code, IsRestFrom, IsListOf, dict_tree, register_of, query_keeps, read_inside, Text, ◌∙◌, ap, refl}
-use Rattle.zeb_packed.proofs.BoundShown.{shown_so}
-use Rattle.zeb_register.proofs.BoundColumns.{none_bound, register_bound, value_bound}
+use Rattle.zeb_register.proofs.BoundColumns.{none_bound, register_bound, shown_so, value_bound}
 use Rattle.zeb_packed.proofs.PackedStatements.{from_silent, lists_from}
 use Rattle.zeb_packed.proofs.statements.packed_changes.dict_from.Goals as goal
 

@@ -1,6 +1,5 @@
 use Rattle.zeb_packed.proofs.Cited.{IsUtf8, rules, pos, subst, register_code, IsRest, dict_tree, key_of, lists_inside, query_keeps, Text, ◌∙◌, ap, refl}
-use Rattle.zeb_packed.proofs.BoundShown.{shown_so}
-use Rattle.zeb_register.proofs.BoundColumns.{none_bound, register_bound, value_bound}
+use Rattle.zeb_register.proofs.BoundColumns.{none_bound, register_bound, shown_so, value_bound}
 use Rattle.zeb_packed.proofs.PackedRowStatements.{lists_records, records_silent}
 use Rattle.zeb_packed.proofs.statements.packed_changes.dict_records.Goals as goal
 
