@@ -8,7 +8,7 @@ use crate::outcomes::{Outcome, shown};
 use crate::records::record_of;
 use crate::rows::{Line, Row, batch_of, lines_of, script_of};
 use crate::runs::{run_batch, run_input, run_words};
-use crate::stories::told;
+use crate::stories::{Told, tell_story};
 use crate::texts::{bytes_of, expanded};
 use std::alloc::Global;
 use std::{mem, slice};
@@ -27,7 +27,7 @@ pub struct Book<'a> {
     alloc: Global,
     folder: Folder,
     part: Part<'a>,
-    /// How many lines were read, or the number of the line that is at fault.
+    /// The number of the line that is read, or of the one that is at fault.
     pub number: usize,
     /// How many rows were run.
     pub counts: Counts,
@@ -54,8 +54,9 @@ impl<'a> Book<'a> {
 
     /// Reads a whole file. Its last part is a line `end`, so that a file that was cut isn't passed over.
     pub fn read(&mut self, text: &'a str) -> Result<(), Fault> {
-        for line in text.split_terminator('\n') {
-            self.number = self.number.saturating_add(1);
+        for (count, line) in text.split_terminator('\n').enumerate() {
+            // A part that was run has left the number of one of its own lines here.
+            self.number = count.saturating_add(1);
             self.read_line(line)?;
         }
         if self.part.head == "end" && self.part.lines.is_empty() {
@@ -308,7 +309,11 @@ impl<'a> Book<'a> {
         lines: &[Line<'_>],
         either: Option<Kept>,
     ) -> Result<Vec<Kept>, Fault> {
-        let (answered, number, result) = told(&self.folder, either, lines)?;
+        let Told {
+            answered,
+            number,
+            result,
+        } = tell_story(&self.folder, either, lines)?;
         self.number = number;
         let mut layouts = Vec::new(self.alloc);
         for it in &answered {

@@ -71,11 +71,11 @@ impl<'a> Damages<'a> {
         let check = self.check;
         let own = if check == DAMAGED { SOUND } else { check };
         let (packed, leaves) = match kept {
-            Kept::Plain => (check, check),
-            Kept::Packed => (own, check),
-            Kept::Leaves => (SOUND, own),
+            Kept::Plain => (Some(check), check),
+            Kept::Packed => (Some(own), check),
+            Kept::Leaves => (None, own),
         };
-        if !matches!(kept, Kept::Leaves) {
+        if let Some(packed) = packed {
             write!(story, "packed zebra.cfg\nupgrade -> {packed}\nsame\n")?;
         }
         write!(story, "leaves zebra.cfg\nupgrade -> {leaves}\nsame\n")

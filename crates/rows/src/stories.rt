@@ -21,11 +21,23 @@ pub struct Answered {
     pub kept: Kept,
 }
 
-/// What the lines of a story were answered; the number of the last one that was carried out; and why no further one was.
-pub type Told = (Vec<Answered>, usize, Result<(), Fault>);
+/// What came of a story.
+#[derive(Drop)]
+pub struct Told {
+    /// What its lines were answered.
+    pub answered: Vec<Answered>,
+    /// The number of the last line that was begun: the one at fault, if there is a fault.
+    pub number: usize,
+    /// Why it wasn't told to its end.
+    pub result: Result<(), Fault>,
+}
 
 /// Takes a new store through these lines, of which `either` stands for this layout, if for one.
-pub fn told(folder: &Folder, either: Option<Kept>, lines: &[Line<'_>]) -> Result<Told, Fault> {
+pub fn tell_story(
+    folder: &Folder,
+    either: Option<Kept>,
+    lines: &[Line<'_>],
+) -> Result<Told, Fault> {
     let mut story = Story::new(folder, either)?;
     let result = story.tell(lines);
     let Story {
@@ -33,7 +45,11 @@ pub fn told(folder: &Folder, either: Option<Kept>, lines: &[Line<'_>]) -> Result
         number,
         ..
     } = story;
-    Ok((answered, number, result))
+    Ok(Told {
+        answered,
+        number,
+        result,
+    })
 }
 
 /// A store, and what is known of its story.
