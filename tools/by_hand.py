@@ -29,7 +29,7 @@ MADE_BY_HAND = {
     "crates/zeb_register/src/record_parts.rt": (["parted_at d47f688b"], "no failure: room for as many postings as there are, and four more"),
     "crates/zeb_register/src/checked_changes.rt": (["check_numbers b9ddc21a", "check_place 773bf948"], "a number or a place that no row has"),
     "crates/zeb_leaf/src/merging.rt": (["merge 813182fa"], "no failure: room for as many entries as there are, and one for each change"),
-    "crates/zeb_leaf/src/writing.rt": (["with_room 3845d6af"], "no failure: room for as many bytes as a full leaf has"),
+    "crates/zeb_leaf/src/writing.rt": (["new ecb0e233"], "no failure: room for as many bytes as a full leaf has"),
     "crates/zeb_leaves/src/near_terms.rt": (["terms_beside e4ea2284"], "so many leaves that no memory holds them"),
     "crates/zeb_leaf/src/counting.rt": (["records_with a8dcde23"], "more records than a number counts"),
     "crates/zeb_leaves/src/agreeing_tables.rt": (["others_are_empty 127595d1"], "more ids than there are numbers"),
@@ -63,7 +63,7 @@ MADE_BY_HAND = {
     ),
     "crates/zeb_program/src/memory.rt": (["open_in_memory ce0a36a4", "open_in_memory ce0a36a4"], "whatever fails as a store is opened"),
     "crates/zeb_program/src/opening.rt": (["unopened 635eec66", "kept_layout 2342966f"], "an open that failed, as a clause says; and what a look is refused for by no call"),
-    "crates/zeb_program/src/program.rt": (["tell_starved 63d4a1ef", "finish c2331064", "run_script d71d4852"], "the status of want of memory, of a failed write, of an input that is no text"),
+    "crates/zeb_program/src/program.rt": (["tell_starved 63d4a1ef", "finish c2331064", "run_script 70d7831f"], "the status of want of memory, of a failed write, of an input that is no text"),
     "crates/zeb_program/src/shell.rt": (
         ["tell_input 29146d99", "run_shell_lines 9bf77771", "run_shell_lines 9bf77771"],
         "the status of an input that can't be read on and of a failed write, as clauses say; and more lines than there are numbers",

@@ -64,7 +64,7 @@ def by_level(crates):
 def failures(said):
     """The lines of a log that say why a crate isn't proved, or else its last ones."""
     told = r"error|not proved|no proof|NOT PROVED|not in the layout"
-    return [it for it in said if re.search(told, it) and not it.endswith(": proved\n")] or said[-20:]
+    return [it for it in said if re.search(told, it) and not it.rstrip().endswith(": proved")] or said[-20:]
 
 
 def path_of_rt():

@@ -7,4 +7,3 @@ mod naming;
 
 pub use entries::occurrences;
 pub use naming::{IdentFault, identifier};
-pub use zeb_keys::{Key, Occurrence};

@@ -105,19 +105,8 @@ impl Model for LeafWriter {
 }
 
 impl LeafWriter {
-    /// A leaf without entries. Nothing is allocated yet.
-    pub fn new(alloc: Global) -> LeafWriter
-        ensures { result ≡ draft_of [] }
-    {
-        LeafWriter {
-            term: Vec::new(alloc),
-            least: 0,
-            bytes: Vec::new(alloc),
-        }
-    }
-
     /// A leaf without entries, with room for those of a full one. The only refusal is want of memory.
-    fn with_room(alloc: Global) -> Result<LeafWriter, AllocError>
+    pub fn new(alloc: Global) -> Result<LeafWriter, AllocError>
         ensures { IfOk result (λ writer. writer ≡ draft_of []) }
     {
         Ok(LeafWriter {
@@ -125,13 +114,6 @@ impl LeafWriter {
             least: 0,
             bytes: Vec::with_capacity(alloc, FULL_BYTES)?,
         })
-    }
-
-    /// How many bytes the leaf takes so far.
-    pub fn len(&self) -> usize
-        ensures { result ≡ length self.now.bytes }
-    {
-        self.bytes.len()
     }
 
     /// Puts an entry at the end, which has to be above the last one. Where memory ran out, the leaf stays as it was.
@@ -164,7 +146,7 @@ pub fn spell_leaf(alloc: Global, entries: &[Entry]) -> Result<Vec<u8>, AllocErro
     requires each { AllByRecursion IsEntry entries.now }
     ensures { IfOk result (λ bytes. bytes.items ≡ leaf_bytes entries.now) }
 {
-    let mut writer = LeafWriter::with_room(alloc)?;
+    let mut writer = LeafWriter::new(alloc)?;
     for entry in entries {
         writer.push(entry)?;
     }

@@ -1,5 +1,5 @@
 //! The indexing profile: the text that says which subfields of a record go into which index
-//! (Zebra manual, "Abstract syntaxes", the directives `melm` and `att`).
+//! (Zebra manual, "The Abstract Syntax (.abs) Files", `melm` and `all`; "The Attribute Set (.att) Files", `att`).
 //!
 //! A profile is read line by line, and [`Profile`] answers what its directives say of indexes and of units.
 #![tactic(auto)]
@@ -21,4 +21,3 @@ pub use faults::{ProfileFault, ProfileFaultKind};
 pub use lookups::Profile;
 pub use patterns::UnitPattern;
 pub use unit_targets::Targets;
-pub use zeb_keys::Register;

@@ -107,7 +107,7 @@ pub use Rattle.zeb_program.specs.declared.statuses.Status.TheVariants.{Answered,
 pub use Rattle.zeb_program.specs.declared.tasks.Served.{Served}
 pub use Rattle.zeb_program.specs.declared.tasks.Task.{Task}
 pub use Rattle.zeb_program.specs.declared.tasks.Task.TheVariants.{Ask}
-pub use Rattle.zeb_program.specs.declared.warnings.Place.{Place}
+pub use Rattle.zeb_analysis.specs.declared.faults.Place.{Place}
 pub use Rattle.zeb_register.proofs.Calls.{on_err}
 pub use Rattle.zeb_register.specs.Calls.{ChangesNothing}
 pub use Rattle.zeb_register.specs.Formats.{Format, version_of, packed_blocks, packed_leaves}

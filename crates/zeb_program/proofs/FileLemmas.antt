@@ -1,21 +1,21 @@
 -- What is answered where the profile in a file is read.
 use Rattle.zeb_program.proofs.Cited.{◌≡◌, ◌≤◌, ℕ, Bool, true, false, List, Vec, arith, refl, subst, sym, Option, Some, None, Result, Ok, Err, IfOk, IfSome, String, string_bytes, string_len, Global, IsUtf8-string_bytes, IsShort, IsTextWithin, Fault, ReadsContent, IsProfileText, ReadsProfile}
 use Rattle.zeb_program.specs.declared.faults.Fault.TheVariants as fault
-use Rattle.zeb_program.specs.declared.input.InputFault.{InputFault}
-use Rattle.zeb_program.specs.declared.input.InputFault.TheVariants.{Unreadable, Memory}
+use Rattle.zeb_program.specs.declared.input.SourceFault.{SourceFault}
+use Rattle.zeb_program.specs.declared.input.SourceFault.TheVariants.{Unreadable, Memory}
 
 -- the text that was read may be the file's
 pub profile_text : (told : Option (List ℕ)) (text : String Global) → IfSome told (λ bytes. string_bytes text ≡ bytes) → string_len text ≤ 1048576 → IsProfileText told (string_bytes text)
 profile_text told text is short = ((omega (arith, short, text.bytes.ok.0), IsUtf8-string_bytes text), is)
 
 -- it wasn't read
-pub unread_profile : (told : Option (List ℕ)) (path : String Global) (why : InputFault) (given : Fault) → (why ≡ Unreadable → given ≡ fault.Unreadable path) → (why ≡ Memory → given ≡ fault.Memory)
+pub unread_profile : (told : Option (List ℕ)) (path : String Global) (why : SourceFault) (given : Fault) → (why ≡ Unreadable → given ≡ fault.Unreadable path) → (why ≡ Memory → given ≡ fault.Memory)
     → (why ≡ Unreadable → IfSome told (λ bytes. ¬ IsTextWithin 1048576 bytes)) → ReadsProfile told path (Err given)
 unread_profile told path Unreadable given at memory bytes = subst (λ it. ReadsProfile told path (Err it)) (sym (at refl)) (refl, bytes refl)
 unread_profile told path Memory given at memory bytes = subst (λ it. ReadsProfile told path (Err it)) (sym (memory refl)) tt
 
 -- the same of a file that is read whole
-pub unread_content : (told : Option (List ℕ)) (path : String Global) (why : InputFault) (given : Fault) → (why ≡ Unreadable → given ≡ fault.Unreadable path) → (why ≡ Memory → given ≡ fault.Memory)
+pub unread_content : (told : Option (List ℕ)) (path : String Global) (why : SourceFault) (given : Fault) → (why ≡ Unreadable → given ≡ fault.Unreadable path) → (why ≡ Memory → given ≡ fault.Memory)
     → (why ≡ Unreadable → IfSome told (λ bytes. ¬ IsShort bytes)) → ReadsContent told path (Err given)
 unread_content told path Unreadable given at memory bytes = subst (λ it. ReadsContent told path (Err it)) (sym (at refl)) (refl, bytes refl)
 unread_content told path Memory given at memory bytes = subst (λ it. ReadsContent told path (Err it)) (sym (memory refl)) tt

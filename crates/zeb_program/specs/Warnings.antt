@@ -8,7 +8,7 @@ use Rattle.zeb_program.specs.TaskAnswers.{AreTold, ReadsWhole, paths_of}
 use Rattle.zeb_program.specs.WalkedFiles.{AreTexts, FindsFiles}
 use Rattle.zeb_program.specs.declared.tasks.Task.{Task}
 use Rattle.zeb_program.specs.declared.tasks.Task.TheVariants.{Ask, Change, Analyse}
-use Rattle.zeb_program.specs.declared.warnings.Place.{Place}
+use Rattle.zeb_analysis.specs.declared.faults.Place.{Place}
 
 -- ---- the records
 

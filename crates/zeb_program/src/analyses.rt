@@ -12,9 +12,10 @@ ghost use Rattle.zeb_program.specs.declared.faults.Fault.TheVariants.{Memory};
 
 use crate::faults::Fault;
 use crate::files::content_of;
-use crate::warnings::{Place, note_unmarked};
+use crate::warnings::note_unmarked;
 use sqlite::Alter;
 use std::alloc::{AllocError, Global};
+use zeb_analysis::Place;
 use zeb_engine::{AnalysedLines, Refusal, Session};
 use zeb_marc::RecordBuf;
 use zeb_paths::{Paths, Walk};

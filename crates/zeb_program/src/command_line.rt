@@ -59,9 +59,9 @@ pub fn run_words<R: Source, W: Output, V: Write, P: Paths>(
         fault_output.new) }
     ensures failed_read { R.has_failed input.new ≡ true → IfOk result (λ status. status ≡
         Status.Failed) }
-    ensures answer { EndsUnfailed output.old output.new fault_output.old fault_output.new (AnswersWords
-        (places_of P.Store.Store P.Paths paths.old paths.new) (map string_bytes words.now)
-        (R.remaining input.old) (R.remaining input.new) (R.has_failed input.new)) (StopsWords
+    ensures answer { EndsUnfailed output.old output.new fault_output.old fault_output.new
+        (AnswersWords (places_of P.Store.Store P.Paths paths.old paths.new) (map string_bytes
+        words.now) (R.remaining input.old) (R.remaining input.new) (R.has_failed input.new)) (StopsWords
         (places_of P.Store.Store P.Paths paths.old paths.new) (map string_bytes words.now)
         (R.remaining input.old) (R.remaining input.new)) result }
 {
@@ -295,9 +295,9 @@ fn run_shell<R: Source, W: Output, V: Write, P: Paths>(
     ensures failed_read { R.has_failed input.new ≡ true → IfOk result (λ status. status ≡
         Status.Failed) }
     // A part of the input is left only with status 3, or where nothing is answered.
-    ensures answer { EndsUnfailed output.old output.new fault_output.old fault_output.new (λ bytes told
-        status. (status ≢ Status.Failed → IsAtEnd (R.remaining input.new) ⊎ (bytes ≡ [])) ×
-        RunsShell (places_of P.Store.Store P.Paths paths.old paths.new) config (R.remaining
+    ensures answer { EndsUnfailed output.old output.new fault_output.old fault_output.new
+        (λ bytes told status. (status ≢ Status.Failed → IsAtEnd (R.remaining input.new)
+        ⊎ (bytes ≡ [])) × RunsShell (places_of P.Store.Store P.Paths paths.old paths.new) config (R.remaining
         input.old) (R.remaining input.new) (R.has_failed input.new) bytes told status) (StopsShell
         (places_of P.Store.Store P.Paths paths.old paths.new) config (R.remaining input.old)
         (R.remaining input.new)) result }

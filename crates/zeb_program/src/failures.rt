@@ -156,7 +156,7 @@ pub fn tell_failure<W: Write>(
 
 /// Writes the lines of a task's failure, and below them the path of its register, where the fault is about that, and answers the
 /// status. For want of memory nothing is written.
-pub fn tell_task_failure<P: Paths, W: Write>(
+fn tell_task_failure<P: Paths, W: Write>(
     alloc: Global,
     paths: &P,
     config: String,

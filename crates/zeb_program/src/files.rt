@@ -11,7 +11,7 @@ ghost use Rattle.zeb_program.specs.WalkedFiles.{FindsNthFile};
 ghost use Rattle.zeb_program.specs.declared.faults.Fault.TheVariants.{Memory, Unreadable};
 
 use crate::faults::Fault;
-use crate::input::{GREATEST_INPUT, InputFault, read_text, read_whole};
+use crate::input::{GREATEST_INPUT, SourceFault, read_text, read_whole};
 use std::alloc::{AllocError, Global};
 use zeb_marc::Source;
 use zeb_paths::{Paths, Walk, WalkFault};
@@ -50,14 +50,14 @@ fn profile_from<R: Source>(alloc: Global, source: &mut R, file: String) -> Resul
 }
 
 /// Why what is at this path isn't read whole.
-pub fn unread(fault: InputFault, path: String) -> Fault
+pub fn unread(fault: SourceFault, path: String) -> Fault
     ensures unread { IsUnread result }
-    ensures path { fault ≡ InputFault.Unreadable → result ≡ Unreadable path }
-    ensures memory { fault ≡ InputFault.Memory → result ≡ Memory }
+    ensures path { fault ≡ SourceFault.Unreadable → result ≡ Unreadable path }
+    ensures memory { fault ≡ SourceFault.Memory → result ≡ Memory }
 {
     match fault {
-        InputFault::Unreadable => Fault::Unreadable(path),
-        InputFault::Memory => Fault::Memory,
+        SourceFault::Unreadable => Fault::Unreadable(path),
+        SourceFault::Memory => Fault::Memory,
     }
 }
 

@@ -3,7 +3,7 @@
 ghost use Rattle.std.specs.Prelude.{◌≡◌, false, string_bytes, IfOk};
 ghost use Rattle.zeb_program.specs.Forms as spec;
 
-use crate::input::{InputFault, read_bytes};
+use crate::input::{SourceFault, read_bytes};
 use std::alloc::{AllocError, Global};
 use std::fmt;
 use zeb_marc::Source;
@@ -68,7 +68,7 @@ fn form_from<R: Source>(alloc: Global, source: &mut R) -> Result<Option<Form>, A
 {
     match read_bytes(alloc, source, BEGINNING - 1) {
         Ok(bytes) => Ok(form_of(&bytes)),
-        Err(InputFault::Unreadable) => Ok(None),
-        Err(InputFault::Memory) => Err(AllocError),
+        Err(SourceFault::Unreadable) => Ok(None),
+        Err(SourceFault::Memory) => Err(AllocError),
     }
 }

@@ -5,7 +5,7 @@ ghost use Rattle.std.specs.Io.KnownBytes.{Consumes, IsAtEnd};
 ghost use Rattle.zeb_program.specs.Inputs.{IsTextWithin, TakesAtMost};
 ghost use Rattle.zeb_program.specs.InputCauses.{IsTextCause};
 ghost use Rattle.zeb_program.specs.PrivateFiles.{IsWholeText};
-ghost use Rattle.zeb_program.specs.declared.input.InputFault.TheVariants.{Unreadable, Memory};
+ghost use Rattle.zeb_program.specs.declared.input.SourceFault.TheVariants.{Unreadable, Memory};
 ghost use Rattle.zeb_program.specs.declared.input.TextCause.{TextCause};
 ghost use Rattle.zeb_program.specs.declared.input.TextCause.TheVariants.{FailedRead};
 ghost use Rattle.zeb_program.specs.declared.input.TextFault.TheVariants.{Unreadable as TextUnreadable};
@@ -22,25 +22,25 @@ const PORTION: usize = 8192;
 
 /// Why a source isn't read.
 #[derive(Clone, Copy, PartialEq, Eq)]
-pub enum InputFault {
+pub enum SourceFault {
     /// A read failed, there are too many bytes, or a text was wanted and the bytes aren't UTF-8.
     Unreadable,
     Memory,
 }
 
-impl From<AllocError> for InputFault {
+impl From<AllocError> for SourceFault {
     ghost from_gives = { λ _ fault. fault ≡ Memory };
 
-    fn from(_error: AllocError) -> InputFault {
-        InputFault::Memory
+    fn from(_error: AllocError) -> SourceFault {
+        SourceFault::Memory
     }
 }
 
-impl From<ReadFailed> for InputFault {
+impl From<ReadFailed> for SourceFault {
     ghost from_gives = { λ _ fault. fault ≡ Unreadable };
 
-    fn from(_error: ReadFailed) -> InputFault {
-        InputFault::Unreadable
+    fn from(_error: ReadFailed) -> SourceFault {
+        SourceFault::Unreadable
     }
 }
 
@@ -93,11 +93,11 @@ pub fn read_input<R: Source>(alloc: Global, input: &mut R) -> Result<String, Tex
             Ok(text) => Ok(text),
             Err(_) => Err(TextFault::Unreadable(TextCause::NoText)),
         },
-        Err(InputFault::Unreadable) if input.has_failed() => {
+        Err(SourceFault::Unreadable) if input.has_failed() => {
             Err(TextFault::Unreadable(TextCause::FailedRead))
         }
-        Err(InputFault::Unreadable) => Err(TextFault::Unreadable(TextCause::TooLong)),
-        Err(InputFault::Memory) => Err(TextFault::Memory),
+        Err(SourceFault::Unreadable) => Err(TextFault::Unreadable(TextCause::TooLong)),
+        Err(SourceFault::Memory) => Err(TextFault::Memory),
     }
 }
 
@@ -107,7 +107,7 @@ pub fn read_text<R: Source>(
     alloc: Global,
     source: &mut R,
     most: usize,
-) -> Result<String, InputFault>
+) -> Result<String, SourceFault>
     requires sound { R.has_failed source.old ≡ false }
     requires bounded { most ≤ GREATEST_INPUT }
     ensures text { IfOk result (IsWholeText most (R.remaining source.old)) }
@@ -120,7 +120,7 @@ pub fn read_text<R: Source>(
     ensures taken { TakesAtMost (most + 1) (R.remaining source.old) (R.remaining source.new) }
 {
     let bytes = read_whole(alloc, source, most)?;
-    String::from_utf8(bytes).map_err(|_| InputFault::Unreadable)
+    String::from_utf8(bytes).map_err(|_| SourceFault::Unreadable)
 }
 
 /// Reads the source to its end, where there are at most so many bytes. At most one byte above that is taken
@@ -129,7 +129,7 @@ pub fn read_whole<R: Source>(
     alloc: Global,
     source: &mut R,
     most: usize,
-) -> Result<Vec<u8>, InputFault>
+) -> Result<Vec<u8>, SourceFault>
     requires sound { R.has_failed source.old ≡ false }
     requires bounded { most ≤ GREATEST_INPUT }
     ensures whole { IfOk result (λ bytes. (vec_len bytes ≤ most)
@@ -142,7 +142,7 @@ pub fn read_whole<R: Source>(
 {
     let bytes = read_bytes(alloc, source, most)?;
     if bytes.len() > most {
-        return Err(InputFault::Unreadable);
+        return Err(SourceFault::Unreadable);
     }
     Ok(bytes)
 }
@@ -152,7 +152,7 @@ pub fn read_bytes<R: Source>(
     alloc: Global,
     source: &mut R,
     most: usize,
-) -> Result<Vec<u8>, InputFault>
+) -> Result<Vec<u8>, SourceFault>
     requires sound { R.has_failed source.old ≡ false }
     requires bounded { most ≤ GREATEST_INPUT }
     ensures taken { IfOk result (λ bytes.

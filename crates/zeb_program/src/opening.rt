@@ -84,7 +84,7 @@ pub fn layout_of<S: Alter>(
     ensures told { HasCleanDisk (state S.Store session.new.connection)
         → TellsLayout choice (state S.Store session.new.connection) result }
     ensures failed { IfErr result IsOpeningFailure }
-    // Where it is asked for nothing can fail.
+    // Where leaves are asked for, nothing can fail.
     ensures asked { choice ≡ LayoutChoice.Leaves → result ≡ Ok UsedLayout.Leaves }
     ensures looked { OnlyLooked (state S.Store session.old.connection)
         (state S.Store session.new.connection) result }

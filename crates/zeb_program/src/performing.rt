@@ -63,7 +63,7 @@ pub struct Performed {
 #[derive(Drop)]
 pub struct Unopened {
     pub failure: Failure,
-    /// How its store was closed, if it was open; else what it met stands here.
+    /// How its store was closed. One that wasn't opened, or was let go, counts as whole, with what it met as the cause.
     pub closed: Closed,
 }
 
@@ -374,7 +374,7 @@ pub fn close_register<L: Layout, P: Paths>(paths: &P, session: Session<P::Store,
     ensures { ClosesStore P.Store.Store (P.leaves paths.now) session.connection result }
 {
     let connection = session.release();
-    // What is shown is what was committed.
+    // Called for its clause alone: no transaction is open, so what is shown is what was committed.
     let _settled = connection.is_autocommit();
     paths.close(connection.into_store())
 }

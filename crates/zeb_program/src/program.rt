@@ -15,7 +15,7 @@ ghost use Rattle.zeb_program.specs.PrivateSinks.{Sends};
 
 use crate::batch::run_in_memory;
 use crate::command_line::run_words;
-use crate::input::{GREATEST_INPUT, InputFault, read_text};
+use crate::input::{GREATEST_INPUT, SourceFault, read_text};
 use crate::outputs::Output;
 use crate::script::Script;
 use crate::sinks::Sink;
@@ -193,14 +193,14 @@ fn run_script<R: Source, W: Write, P: Paths>(
 {
     let text = match read_text(alloc, input, GREATEST_INPUT) {
         Ok(text) => text,
-        Err(InputFault::Unreadable) => {
+        Err(SourceFault::Unreadable) => {
             output.write_line("zebraidx: cannot read input");
             return Ok(ScriptEnd {
                 status: Status::Failed,
                 is_empty: false,
             });
         }
-        Err(InputFault::Memory) => return Err(AllocError),
+        Err(SourceFault::Memory) => return Err(AllocError),
     };
     let text = text.as_str();
     let status = run_text(alloc, paths, text, output)?;

@@ -50,7 +50,7 @@ pub fn tell_input<V: Write>(
 /// Runs the lines of the input in a session, and answers the greatest status met.
 ///
 /// Each line is answered, and the answer passed on, before a byte behind the line is read; so whoever writes the lines may
-/// wait for each answer. A line that isn't UTF-8 is a bad one. It ends at the input's end, or with status 3 where a write fails:
+/// wait for each answer. A line that isn't UTF-8 is a bad one. The shell ends at the input's end, or with status 3 where a write fails:
 /// no line is read whose answer could not be seen. A failed read, and a line that is longer than an input may be, are
 /// `Unreadable`; the answers of the lines before stay.
 pub fn run_shell_lines<R: Source, S: Alter, L: Layout, P: Paths, W: Output>(
@@ -74,7 +74,7 @@ pub fn run_shell_lines<R: Source, S: Alter, L: Layout, P: Paths, W: Output>(
         result }
 {
     let mut greatest = Status::Answered;
-    // It has no measure: only its writer ends an input, and a line's number is told.
+    // Turns are counted up to the greatest number in place of a measure: only its writer ends an input. The count numbers the lines, too.
     for lines_before in 0..u64::MAX {
         if output.has_failed() {
             return Ok(Status::Failed);

@@ -6,16 +6,8 @@ ghost use Rattle.zeb_marc.specs.Splits.{split_of};
 ghost use Rattle.zeb_program.specs.Warnings as spec;
 
 use std::alloc::{AllocError, Global};
+use zeb_analysis::Place;
 use zeb_marc::{RecordBuf, Slice, next_record};
-
-/// The place of a record in files.
-#[derive(Clone, Copy)]
-pub struct Place {
-    /// The file that it stands in, from 1.
-    pub file: u64,
-    /// Its place in its file, from 1.
-    pub nth: u64,
-}
 
 /// Whether position 9 of a record's leader says that it is in Unicode.
 fn says_unicode(bytes: &[u8]) -> bool

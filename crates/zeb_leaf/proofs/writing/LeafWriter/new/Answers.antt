@@ -5,4 +5,4 @@ use Rattle.zeb_leaf.proofs.writing.LeafWriter.new.Goals as goal
 
 pub returns : goal.returns
 unfolding entries_bytes
-returns c = rw (c.new.ensures.items, c.new-2.ensures.items) refl
+returns c = rw (c.new.ensures.items, c.in_ok-with_capacity.ensures.items) refl
