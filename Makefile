@@ -2,7 +2,7 @@
 # make try        runs the first example interpreted, with nothing proved, in some two minutes: SCRIPT=file for a script of your own
 # make run        runs the first example with the program, proved and built
 # make quick      the daily check: layout, edits, names, pages, and the proofs of the crates that changed
-# make check      the gate: every proof, every test and the edits of must-fail/, from nothing; some hours of processor time
+# make check      the gate: every proof, every test and the edits of must-fail/; some hours of processor time where nothing passed before
 # make words      runs the built program by words over folders and altered registers, installs it and moves to it from Zebra; installs lowdown, yaz, idzebra-2.0
 # make session    runs the session of README.md as it stands there; installs Debian's yaz and idzebra-2.0-examples where they aren't there
 # make real       takes in real records and compares what is found in them with another count; installs the same packages

@@ -19,7 +19,7 @@ pub struct Place {
 /// Why an analysis ends.
 #[derive(Clone, Copy, Debug, PartialEq, Eq)]
 pub enum AnalysisFault {
-    /// A record is none, or a fault stands in its place; never `ReadFault`.
+    /// What stands at the place is no record; never `ReadFault`, for the files are in memory.
     Marc { place: Place, fault: MarcFault },
     /// A record has no sound identifier; never `IdentFault::Memory`.
     Ident { place: Place, fault: IdentFault },

@@ -65,6 +65,7 @@ fn record_text(alloc: Global, analysis: &Analysis) -> Result<String, AllocError>
 /// number's term is printed without leading zeros.
 ///
 /// `names`: the names of the indexes, each at its number. An index that has none there is printed with no name.
+/// `AllocError` says that memory was refused.
 pub fn analysis_lines(
     alloc: Global,
     names: &[String],

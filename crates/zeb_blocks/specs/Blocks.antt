@@ -31,7 +31,7 @@ gaps_in_record before p =
     then record { sysno = 0; seq = 0; pos = p.pos - before.pos }
     else record { sysno = 0; seq = p.seq - before.seq; pos = p.pos }
 
--- the three numbers that tell any posting from the one before it: of system number, unit and word, 0 for those that are the same, the gap for the
+-- the three numbers that tell any posting from the one before it: of system number, unit and place, 0 for those that are the same, the gap for the
 -- first that differs, and those behind it as they are
 abbrev pub gaps_of : Posting → Posting → Gaps
 gaps_of before p =

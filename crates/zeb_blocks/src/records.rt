@@ -5,7 +5,8 @@ ghost use Rattle.zeb_blocks.specs.Records.{record_count};
 
 use crate::postings::Posting;
 
-/// How many records postings are of: the last is of the record `sysno`, and those before it are of so many, the last of them of `newest`.
+/// How many records postings are of, where those before the last are of `records`, the last of these being of `newest`, and the last of all is of
+/// `sysno`.
 #[inline]
 pub(crate) fn records_after(records: u64, newest: u64, sysno: u64) -> u64
     requires { records + 1 < 2 ^ 64 }

@@ -70,7 +70,7 @@ pub record IsNewAt (profile : List Directive) (last : ℕ) (trees : Trees) (db :
   pub named : IsNamed profile bytes ident
   pub unkept : (sysno : ℤ) (kept : List ℕ) → HasRecord trees db sysno ident kept → IsUpTo last sysno → NamesAny profile before ident
 
--- a strict delete meets such a record there
+-- a `Delete` meets such a record there
 abbrev pub IsUnknown : List Directive → Kind → (last : ℕ) → Trees → ℤ → (file nth : ℕ) → (before behind : List (List ℕ)) → Refusal → Type 0
 IsUnknown profile kind last trees db file nth before behind refusal =
     (kind ≡ Delete) × (refusal ≡ Unknown file nth) × IsNewAt profile last trees db before behind

@@ -5,7 +5,8 @@ ghost use Rattle.std.specs.Prelude.{◌≡◌, ◌≢◌, ℕ};
 use std::fmt;
 use zeb_marc::MarcFault;
 
-/// Why a record is refused: what breaks its structure (ISO 2709), or what is wrong with its identifier.
+/// Why a record is refused. `NoIdentifier`: the profile finds none in it. `BadIdentifier`: what it finds can't be one. The others are the faults of
+/// the same names in `zeb_marc::MarcFault`, which says of each what it is (ISO 2709).
 #[derive(Clone, Copy, Debug, PartialEq, Eq)]
 pub enum RecordFault {
     LengthDigits,

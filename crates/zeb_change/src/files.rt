@@ -228,7 +228,7 @@ fn take_files<S: Alter, L: Layout, R: Source>(
 
 /// Folds in the records of all files, in their order, inside the caller's transaction. Files are counted from 1, and
 /// records from 1 within their file. It ends at the first that is refused: `ReadFault` of a reader that fails, `Record` of
-/// a record or an identifier at fault, `Unknown` of a strict delete that finds none, `TooManyRecords` and `DatabaseFull`
+/// a record or an identifier at fault, `Unknown` of a `Delete` that finds none, `TooManyRecords` and `DatabaseFull`
 /// at the limits, `Damaged` of tables that no command leaves, and `Store` and `Memory`. The transaction then holds some of
 /// what the records before it made, and is to be given up. The changes of keys are written when the last file is through,
 /// or earlier where they take much memory.

@@ -10,7 +10,7 @@ use crate::words::{Words, put_number, put_places, take_number, take_places};
 use std::alloc::{AllocError, Global};
 use zeb_register::{Place, RecordChange};
 
-/// A record, and how many places of a key stood there and stand there then.
+/// A changed record by its number, and how many places a key has in it before the change and after it.
 #[derive(Clone, Copy)]
 pub(crate) struct PlaceCounts {
     pub sysno: u64,

@@ -11,7 +11,8 @@ use zeb_keys::{Key, order_is_by_parts};
 use zeb_register::{Place, RecordChange};
 
 /// With how many changes a run of keys is long enough. Out of its words a change takes some 80 bytes, eight times what it takes in them, and
-/// its key 160 more: those of a whole command could take 640 MB, and these take 1 MB. A layout reads and writes at most one row more a run.
+/// its key 160 more. So a run takes 1 MB, where all that an update notes before it writes could take 920. A layout reads and writes at most
+/// one row more a run.
 const RUN_CHANGES: usize = 4096;
 
 /// How many bytes a key takes in the map, whose nodes are two thirds full or more. Its term's bytes and the memory of words that its notes have no
@@ -106,6 +107,7 @@ impl Pending {
             }
         }
     }
+
     /// Takes out the least keys with their changes, up to the one with which these are enough for a run; all where they are fewer. None
     /// where nothing is noted.
     pub(crate) fn take_run(&mut self) -> Result<Vec<TakenKey>, AllocError>

@@ -109,15 +109,15 @@ fn insert<S: Alter>(
     Ok(Fate::Inserted)
 }
 
-/// Whether the elder has these bytes: then its postings are those of the bytes too.
+/// Whether the elder has these bytes.
 fn has_bytes(elder: &Elder, bytes: &[u8]) -> bool
     ensures { IsTrue result ↔ (elder.now.bytes.items ≡ bytes.now) }
 {
     elder.bytes.as_slice() == bytes
 }
 
-/// The record takes its elder's place, under the same number. Where the elder has the same bytes its postings are those of the bytes too,
-/// and nothing is changed.
+/// The record takes its elder's place, under the same number. Where the elder has the same bytes nothing is changed: what it is found by is
+/// what these bytes give.
 fn replace<S: Alter>(
     tx: &mut Transaction<'_, S>,
     setting: &Setting<'_>,
@@ -170,7 +170,7 @@ fn withdraw<S: Alter>(
     Ok(Fate::Deleted)
 }
 
-/// Does with a record what the change's kind says, beside its elder. `Unknown` is told of a strict delete without one, `DatabaseFull` of a
+/// Does with a record what the change's kind says, beside its elder. `Unknown` is told of a `Delete` without one, `DatabaseFull` of a
 /// new record where the limits leave no number; neither touches the tables, so the store and the memory can't fail then.
 fn turn_record<S: Alter>(
     tx: &mut Transaction<'_, S>,

@@ -19,7 +19,8 @@ pub enum Refusal {
     OldFormat,
     /// The register was initialised under another profile.
     ProfileChanged,
-    /// A diagnostic of Bib-1: its number, the byte of the query that it is about, and the text that it names.
+    /// A diagnostic of Bib-1: its number, the byte of the query that it is about, counted from 0, and the text
+    /// that it names.
     Diagnostic {
         number: u32,
         place: usize,
@@ -27,7 +28,7 @@ pub enum Refusal {
     },
     /// A database of that name is there.
     Exists,
-    /// A record is no record, or has no identifier.
+    /// What stands in a record's place is none, or has no sound identifier.
     Record {
         file: u64,
         nth: u64,

@@ -11,12 +11,11 @@ pub enum Fate {
     Updated,
     /// The one with its identifier is kept no longer.
     Deleted,
-    /// A lenient delete found none with its identifier.
+    /// An `Adelete` found none with its identifier.
     PassedOver,
 }
 
-/// How many records a change has taken, at most 1,000,000, and what became of them. Those that were passed over are
-/// counted among all alone.
+/// How many records a change has taken, at most 1,000,000, and what became of them. One that was passed over counts in `records` alone.
 #[derive(Clone, Copy, Debug)]
 pub struct Tally {
     pub records: u64,

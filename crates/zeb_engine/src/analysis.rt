@@ -25,7 +25,7 @@ fn index_names(alloc: Global, profile: &Profile) -> Result<Vec<String>, AllocErr
     Ok(names)
 }
 
-/// What the records of the files are found by, or the first refusal. Whatever else it meets, memory may run out.
+/// What the records of the files are found by, or the first refusal. `Memory` where memory ran out, whatever stands in the files.
 pub(crate) fn analyse_files(
     alloc: Global,
     profile: &Profile,

@@ -160,7 +160,7 @@ fn apply<S: Alter, L: Layout, R: Source>(
     Ok(changed(fold.tally))
 }
 
-/// The reply is there before the commit, which is the last that the store is asked.
+/// Does a change in one transaction. The reply is there before the commit, which is the last that the store is asked.
 fn transact<S: Alter, L: Layout, R: Source>(
     connection: &mut Connection<S>,
     work: &mut Work,

@@ -6,21 +6,21 @@ use zeb_image::DbName;
 /// One command. Records are files of ISO 2709 slices, given as their bytes.
 #[derive(Debug, Drop)]
 pub enum Command {
-    /// No database, under the session's profile.
+    /// Takes out all that the register holds, and begins it anew: without a database, under the session's profile, in its layout.
     Init,
     /// Whether the tables are the image of what is held: `Damaged` where they aren't. Reads every row and every kept record.
     Check,
-    /// The session's profile in the place of the register's, whose rule for identifiers it has to have; the registers are made anew by it.
+    /// Puts the session's profile in the place of the register's, whose rule for identifiers it has to have, and makes the registers anew by it.
     Reindex,
-    /// The session's layout in the place of an earlier one: the registers are made anew in it. Nothing changes where it is the session's.
+    /// Puts the session's layout in the place of another one, and makes the registers anew in it. Nothing changes where it is the session's.
     Upgrade,
-    /// An empty database of this name.
+    /// Makes an empty database of this name; `Exists` where there is one.
     Create(DbName),
     /// Takes away the database with its records and postings.
     Drop(DbName),
-    /// Counts of records, terms and occurrences.
+    /// Counts records, terms and occurrences.
     Stat(DbName),
-    /// The kept bytes of all records.
+    /// Answers the kept bytes of all records, in the order of their system numbers.
     Dump(DbName),
     /// Updates or deletes by the records of the files, in order.
     Change {
@@ -28,15 +28,16 @@ pub enum Command {
         database: DbName,
         files: Vec<Vec<u8>>,
     },
-    /// A query in Prefix Query Format. Of the records that it finds, those from the `first`-th on (1 to
-    /// 999,999,999) are shown, at most `count` (0 to 1,000,000) of them.
+    /// A query in Prefix Query Format. Of the records that it finds, those from the `first`-th on are shown, at most `count` of them. All numbers
+    /// are taken, 0 as a `first` of 1; the program gives 1 to 999,999,999 and 0 to 1,000,000.
     Find {
         database: DbName,
         query: String,
         first: u32,
         count: u32,
     },
-    /// Terms around a start: `number` (1 to 1,000) of them, the start at `position` (1 to `number`).
+    /// Terms around a start: the `position` - 1 nearest before it, and `number` + 1 - `position` from it on. All numbers are taken, and less than
+    /// none is none; the program gives 1 to 1,000, and 1 to `number`.
     Scan {
         database: DbName,
         query: String,

@@ -65,7 +65,7 @@ fn show<S: Alter>(
     Ok(shown)
 }
 
-/// Those of the hits that are asked for; diagnostic 13 where the first is past the last hit.
+/// Those of the hits that are asked for; diagnostic 13 where the first is past the last hit, unless it is 1.
 fn asked_for<'a>(
     alloc: Global,
     hits: &'a [u64],

@@ -1,4 +1,4 @@
-//! Looks at the texts of a store, before a command makes its registers anew.
+//! Looks at the texts of a store: its layout's version, its profile, and its rule for identifiers.
 
 ghost use Rattle.std.specs.Prelude.{◌≡◌, false, codes, string_bytes, IfErr};
 ghost use Rattle.sqlite.specs.Held.{state};

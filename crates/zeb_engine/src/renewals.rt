@@ -30,8 +30,7 @@ use zeb_profile::Profile;
 use zeb_register::{Layout, RegFault, Rows};
 
 /// Puts the session's profile in the place of the register's, and makes the registers anew by it. `IdentifierRuleChanged` where the
-/// profiles have other rules for identifiers; `Damaged` where a kept record isn't one, or hasn't its identifier, or where what the store
-/// lists can't be read.
+/// profiles have other rules for identifiers; `Damaged` where `rebuild` tells it, or where the texts of the store can't be read.
 pub(crate) fn reindex<S: Alter, L: Layout>(
     alloc: Global,
     connection: &mut Connection<S>,

@@ -81,7 +81,7 @@ impl<S: Alter, L: Layout> Session<S, L> {
     }
 
     /// The work on the registers that the last command counted. In packed blocks a change, a find, a scan and a stat count theirs. In leaves a
-    /// change alone does, and in single rows nothing is counted. No other command counts any.
+    /// change alone does, and in plain rows nothing is counted. No other command counts any.
     pub fn work(&self) -> Work
         ensures { result ≡ self.now.work }
     {

@@ -1,4 +1,4 @@
-//! The commands that write without reading records, each in one transaction.
+//! The commands that write and take in no records, each in one transaction.
 
 ghost use Rattle.std.specs.Prelude.{◌≡◌, ◌≢◌, Err, [], codes, false, IsTrue, OnOk, IfErr};
 ghost use Rattle.sqlite.specs.Held.{state};
@@ -32,7 +32,7 @@ use zeb_image::{DbName, rebuild};
 use zeb_profile::Profile;
 use zeb_register::{DatabaseId, Layout, RegFault, database_of, database_put, meta_put, wipe};
 
-/// A command that writes.
+/// A command that writes, other than a change by the records of files.
 #[derive(Clone, Copy)]
 pub(crate) enum Write<'a> {
     /// No database, under this profile, of whose identifier rule this is the pattern.
@@ -179,7 +179,7 @@ fn apply<S: Alter, L: Layout>(
     }
 }
 
-/// The commit is the last that the store is asked.
+/// Does a write in one transaction. The commit is the last that the store is asked.
 pub(crate) fn transact<S: Alter, L: Layout>(
     connection: &mut Connection<S>,
     write: &Write<'_>,

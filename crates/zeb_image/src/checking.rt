@@ -49,7 +49,7 @@ pub fn is_image<S: Alter, L: Layout>(
     Ok(L::agrees(alloc, connection, &expected)?)
 }
 
-/// What the tables have to hold beside the databases and records that they hold, or `None` where these are none that can be held.
+/// All that the tables have to hold, by the databases and records that they list; `None` where these can't be held.
 fn expectation<S: Alter, L: Layout>(
     alloc: Global,
     connection: &mut Connection<S>,

@@ -17,18 +17,19 @@ use zeb_register::{
     DatabaseId, Layout, RegFault, Work, databases_inside, record_from_inside, registers_wipe,
 };
 
-/// How many bytes of memory what is noted of keys takes before it is written: 256 MB. That is four times as many as in an update, since
-/// the store takes least time for keys that are written once, each behind the ones below it.
+/// How many bytes of memory what is noted of keys takes before it is written: 2^28, some 268 MB. That is more than twice as many as in an
+/// update, since the store takes least time for keys that are written once, each behind the ones below it.
 const MOST_NOTED: usize = 268_435_456;
 
 /// Takes every row of the registers out, in whichever format, and puts in this layout's rows of what the kept records have under the
 /// profile. Texts, databases and records stay.
 ///
-/// Three things no clause says, and so they aren't proved: one record is held at a time; what is noted of keys takes some 256 MB at most;
+/// Three things no clause says, and so they aren't proved: one record is held at a time; what is noted of keys takes some 268 MB at most;
 /// and each key of a database is written once each time that so much is noted, and once at the end, in the order of keys.
 ///
 /// `Damaged` where a record isn't one of ISO 2709 with the identifier that it is kept under, where its number isn't 1 to 999,999,999, and
-/// where a row of the lists can't be read.
+/// where a row of the lists can't be read; `Store` where the store failed, `Memory` where memory ran out. The transaction is to be given up
+/// then.
 pub fn rebuild<S: Alter, L: Layout>(
     alloc: Global,
     tx: &mut Transaction<'_, S>,

@@ -16,7 +16,7 @@ key_order a b =
     ordering_then (nat_cmp a.index b.index)
     (ordering_then (nat_cmp (register_code a.register) (register_code b.register)) (slice_cmp nat_cmp a.term b.term))
 
--- key, then unit, then place in the unit
+-- key, then `seq`, then `pos`
 abbrev pub occurrence_order : Occurrence → Occurrence → Ordering
 occurrence_order a b =
     ordering_then (key_order a.key b.key) (ordering_then (nat_cmp a.seq b.seq) (nat_cmp a.pos b.pos))

@@ -6,7 +6,7 @@ ghost use Rattle.zeb_keys.specs.Order.{key_order, occurrence_order};
 
 use crate::{Key, Occurrence};
 
-/// Keys compare by index, then register, then the bytes of the term; occurrences by key, then unit, then place.
+/// Keys compare by index, then register, then the bytes of the term; occurrences by key, then `seq`, then `pos`.
 pub fn order_is_by_parts()
     ensures keys { (a b : Key) → ⟦<Key as Ord>⟧.cmp a b ≡ key_order a b }
     ensures occurrences { (a b : Occurrence)

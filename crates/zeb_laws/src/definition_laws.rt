@@ -92,7 +92,7 @@ pub fn a_stat_counts_each_register_once()
 {}
 
 /// The counts of an accepted change add up: they are those of all records of its files, folded into its database. Each record of the
-/// files is taken, and counted once, unless a lenient delete passes it over. As many records are kept as were kept before, with those
+/// files is taken, and counted once, unless an `Adelete` passes it over. As many records are kept as were kept before, with those
 /// inserted and without those deleted; and the last number given has risen by just the number of those inserted, so that no number is
 /// lost or given twice. So a reader can check a reply against the files and against the database.
 pub fn counts_add_up()

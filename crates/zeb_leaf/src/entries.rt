@@ -13,7 +13,7 @@ pub const LEAF_BYTES: usize = 3_000;
 pub const FULL_BYTES: usize = 1_300;
 
 /// Bytes of a leaf that are kept: contracts see their list. Most terms are short, and so are the blocks of most terms: up to 24 bytes are kept in
-/// the value, since a leaf has hundreds of entries, and memory for each of them would take longer than all else.
+/// the value, since a leaf has a hundred entries and more, and memory for each of them would take longer than all else.
 #[derive(Debug, Drop)]
 pub struct Bytes {
     kept: SmallVec<u8, 24>,

@@ -83,8 +83,8 @@ fn fitting(entries: &[Entry], most: usize) -> usize
     entries.len()
 }
 
-/// How many bytes the next leaf takes at most, where what is left takes so many together: half of them where that is less than two full
-/// leaves.
+/// How many bytes the next leaf takes at most, where what is left takes so many together: half of them where they are more than one full leaf
+/// and less than two, and else a full leaf.
 fn even_share(left: usize) -> usize
     ensures { (FULL_BYTES / 2 ≤ result) × (result ≤ FULL_BYTES) }
 {

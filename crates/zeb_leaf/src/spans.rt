@@ -16,7 +16,9 @@ use std::cmp::Ordering;
 /// A block of a term, by which entries rise.
 #[derive(Clone, Copy, Debug)]
 pub struct BlockKey<'a> {
+    /// The term's bytes.
     pub term: &'a [u8],
+    /// The number of a block, 0 to 2^64 - 1: that of an end may be of no system number.
     pub block: u64,
 }
 

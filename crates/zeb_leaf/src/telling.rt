@@ -1,13 +1,10 @@
 //! The parts in which an entry is told from the one before it.
 ghost use Rattle.std.specs.Prelude.{◌≡◌, ◌≢◌, ◌++◌, ◌^◌, ◌<◌, ◌↔◌, ℕ, List, IfSome, IsTrue, MatchOption, length, take};
 
-use zeb_blocks::{read_number, read_small};
+use zeb_blocks::{BLOCK_RECORDS, read_number, read_small};
 
 /// The greatest block's number is below this: a system number fits 64 bits.
 const BLOCKS: u64 = 1 << 56;
-
-/// So many records are in a block at most.
-const BLOCK_RECORDS: u64 = zeb_blocks::BLOCK_RECORDS;
 
 /// The parts of an entry, read but not yet compared with the entry before it.
 #[derive(Clone, Copy)]
@@ -125,7 +122,8 @@ impl<'a> Told<'a> {
         }
     }
 
-    /// Whether they tell an entry that may come behind one with this term, its block no less than the least where the term is the same.
+    /// Whether they tell an entry that may come behind one with this term, if its own term is text, its block no less than the least where the term
+    /// is the same.
     #[inline(always)]
     pub(crate) fn fits(&self, term: &[u8], least: u64) -> bool
         ensures { IsTrue result

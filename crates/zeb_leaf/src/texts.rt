@@ -80,7 +80,8 @@ impl Text {
         Ok(())
     }
 
-    /// As [`Text::set_behind`], of bytes with which others begin: of these so many are copied as can be at once.
+    /// As [`Text::set_behind`], where `onward` begins with these bytes: then eight bytes of it are copied at once, if there are so many and room
+    /// for them. What is too much of them lies behind the end.
     #[inline(always)]
     pub(crate) fn set_front(
         &mut self,

@@ -139,7 +139,7 @@ fn set_text(text: &mut Text, tried: &mut Vec<u8>, told: Told) -> Result<(), Leaf
         × IsUtf8 text.new) result }
     ensures stays { OnErr result (text.new ≡ text.old) }
 {
-    // What stands at the cut is below a byte of ASCII, or nothing does: so it isn't within a character.
+    // The suffix is ASCII, and the old byte at the cut is less than its first, or the old text ends there: so the cut isn't within a character.
     if is_ascii(told.suffix) {
         text.set_front(told.shared, told.suffix, told.onward)?;
         return Ok(());

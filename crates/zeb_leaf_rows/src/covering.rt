@@ -51,7 +51,7 @@ pub(crate) fn leaf_of_terms_below<S: Alter>(
     Ok(last_row(rows))
 }
 
-/// The leaf that covers a block of a term: the greatest one of the register that isn't above them. `None` where each leaf is above them, or
+/// The leaf that covers a block of a term: the greatest one of the register that isn't above it. `None` where each leaf is above it, or
 /// there is none.
 fn covering_leaf<S: Alter>(
     conn: &mut Connection<S>,
@@ -89,7 +89,7 @@ pub fn no_leaf<S: Alter>(conn: &mut Connection<S>, at: RegisterOf) -> Result<Opt
     Err(RegFault::Damaged)
 }
 
-/// The leaf that covers a block of a term; `None` where the register has no leaf. `Damaged` just where it has one, and none covers them.
+/// The leaf that covers a block of a term; `None` where the register has no leaf. `Damaged` just where it has one, and none covers it.
 ///
 /// On a store's tables `Store` is answered only where the store may refuse, and `Memory` for want of memory. It changes nothing.
 pub fn leaf_at<S: Alter>(

@@ -131,7 +131,7 @@ fn entries_of(alloc: Global, columns: Columns<'_>) -> Result<Option<Vec<Entry>>,
     }
 }
 
-/// Whether entries, of which several are to take at most 3,000 bytes, don't take too many.
+/// Whether a leaf with these entries and bytes isn't too large: several entries take at most 3,000 bytes.
 fn are_few(entries: &[Entry], bytes: &[u8]) -> bool
     ensures { IsTrue result ↔ (2 ≤ length entries.now → length bytes.now ≤ most_leaf_bytes) }
 {

@@ -49,7 +49,8 @@ fn leaf_behind(
     Ok(Some(Taken { leaf, end }))
 }
 
-/// Whether the leaves of a database hold these postings and nothing else. One leaf is held at a time, and the one before it.
+/// Whether the leaves of a database hold these postings and nothing else. Two leaves are held at most: that of the
+/// row which is read, and the one before it.
 pub(crate) fn leaves_walked<S: Alter>(
     alloc: Global,
     conn: &mut Connection<S>,
@@ -59,7 +60,7 @@ pub(crate) fn leaves_walked<S: Alter>(
     ensures call { ReadingOf S.Store conn.old conn.new result (ReadsLeaves db postings.now) }
     ensures refused { IsReasonedErrorOf S.Store conn.old conn.new result }
 {
-    // What is seen outside a transaction is what was committed.
+    // Nobody reads it. Its contract says that what is seen outside a transaction is what was committed.
     let _idle = conn.is_autocommit();
     let mut rows = conn.query(LEAVES, params![db])?;
     let mut before: Option<ShownLeaf> = None;

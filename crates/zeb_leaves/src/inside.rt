@@ -25,7 +25,7 @@ use zeb_leaf::BlockKey;
 use zeb_register::for_layouts::text_above;
 use zeb_register::{RegFault, RegisterOf};
 
-/// Whether the own key of a leaf isn't above a key; so, too, where there is no leaf.
+/// Whether the own key of a leaf isn't above a key; so, too, where there is no leaf. `false` where the row shows no key.
 fn is_up_to(found: &Option<Row>, key: BlockKey) -> bool
     ensures { IsTrue result → (leaf : _) → found.now ≡ Some leaf
         → IsUpTo (leaf_key key.entry.term.now key.entry.block) leaf }
@@ -39,7 +39,7 @@ fn is_up_to(found: &Option<Row>, key: BlockKey) -> bool
     }
 }
 
-/// Whether the own key of a leaf is above a key; so, too, where there is no leaf.
+/// Whether the own key of a leaf is above a key; so, too, where there is no leaf. `false` where the row shows no key.
 fn is_above(found: &Option<Row>, key: BlockKey) -> bool
     ensures { IsTrue result → (leaf : _) → found.now ≡ Some leaf
         → ¬ IsUpTo (leaf_key key.entry.term.now key.entry.block) leaf }
@@ -74,7 +74,7 @@ fn covering_by_term<S: Alter>(
     }
 }
 
-/// The leaf that covers a block of a term. `None` where each leaf is above them, or there is none.
+/// The leaf that covers a block of a term. `None` where each leaf is above it, or there is none.
 fn covering_leaf<S: Alter>(
     alloc: Global,
     tx: &mut Transaction<'_, S>,
@@ -115,7 +115,7 @@ fn no_leaf<S: Alter>(tx: &mut Transaction<'_, S>, at: RegisterOf) -> Result<Opti
     }
 }
 
-/// The leaf that covers a block of a term; `None` where the register has no leaf. `Damaged` just where it has one, and none covers them.
+/// The leaf that covers a block of a term; `None` where the register has no leaf. `Damaged` just where it has one, and none covers it.
 pub(crate) fn leaf_inside<S: Alter>(
     alloc: Global,
     tx: &mut Transaction<'_, S>,
@@ -174,8 +174,7 @@ fn behind_by_term<S: Alter>(
     }
 }
 
-/// The least own key of a leaf above a block of a term, without the leaf's bytes; `None` where no leaf is above them. It is never refused
-/// as `Damaged`.
+/// The least own key of a leaf above a block of a term, without the leaf's bytes; `None` where no leaf is above it.
 pub(crate) fn key_behind<S: Alter>(
     alloc: Global,
     tx: &mut Transaction<'_, S>,

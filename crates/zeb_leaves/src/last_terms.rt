@@ -29,7 +29,8 @@ fn are_enough_at(counts: &[TermCount], n: u64, own: BlockKey) -> bool
     are_enough(counts, n, own.term) || own.block == 0 && counts.len() as u64 == n
 }
 
-/// Counts the entries of a row from its own key on and below the end, the greatest first, until there are enough terms.
+/// Counts the entries of a row from its own key on and below the end, the greatest first, until there are enough terms. Tells whether
+/// there are.
 fn row_down(
     alloc: Global,
     counts: &mut Vec<TermCount>,

@@ -29,7 +29,8 @@ pub(crate) enum Side {
 /// anew with twice as many.
 const LEAF_TERMS: u64 = 16;
 
-/// How many leaves are read first for so many terms: one isn't whole before the start, and one ends behind them.
+/// How many leaves are read at first for so many terms: one for each whole 16, and two more, since the first may begin before the start and the
+/// last end behind the terms.
 fn few_leaves(n: u64) -> u32
     ensures { 1 ≤ result }
 {

@@ -29,7 +29,7 @@ pub(crate) fn is_below(key: BlockKey, other: BlockKey) -> bool
         .is_lt()
 }
 
-/// Notes whether a key isn't below `from`. It isn't compared where that is known, as behind a key that isn't.
+/// Sets `begun` to whether a key isn't below `from`. Where it is set already, a key before this one wasn't, and nothing is compared.
 fn note_from(begun: &mut bool, key: BlockKey, from: BlockKey)
     requires { IsTrue begun.old
         → is_lt (key_cmp key.term.now key.block from.term.now from.block) ≡ false }
@@ -42,8 +42,8 @@ fn note_from(begun: &mut bool, key: BlockKey, from: BlockKey)
     *begun = !is_below(key, from);
 }
 
-/// Whether the key of an entry of this term isn't below `from`, and is below the end, where there is one. It is noted whether it isn't below
-/// `from`, and is compared only where no entry before it was so.
+/// Whether the key of an entry of this term isn't below `from`, and is below the end, where there is one. Where `begun` is set, an entry before
+/// it wasn't below `from`: so this one isn't either, and isn't compared. Afterwards `begun` says whether this entry isn't below `from`.
 pub(crate) fn is_own_entry(
     term: &[u8],
     held: Held,
@@ -97,7 +97,7 @@ fn push_if_own(
     Ok(())
 }
 
-/// The entries that bytes have from the first key on and below the end, where there is one. No bytes have none.
+/// The entries that bytes have from the first key on and below the end, where there is one. Empty bytes have no entries.
 fn entries_in(
     alloc: Global,
     bytes: &[u8],

@@ -136,7 +136,7 @@ pub(crate) fn leaf_bytes(row: &Row) -> Result<&[u8], RowFault>
     read_bytes(row, 2)
 }
 
-/// As what the fault of a leaf is told.
+/// The fault of a row whose leaf has this fault.
 pub(crate) fn told_of_leaf(fault: LeafFault) -> RowFault
     ensures { result ≡ RowFault.Damaged → fault ≡ LeafFault.Malformed }
 {

@@ -40,7 +40,8 @@ pub(crate) fn is_term(term: &Term, bytes: &[u8]) -> bool
     term.as_str().as_bytes() == bytes
 }
 
-/// Counts so many records of a term. No term that is counted behind it comes before it.
+/// Counts so many records of a term: with the last term that is counted, where that is this one, and else as one term more. So entries of
+/// one term have to be counted one right behind the other, whether terms rise or fall. `Damaged` where a further term is no UTF-8.
 pub(crate) fn count_records(
     alloc: Global,
     counts: &mut Vec<TermCount>,

@@ -96,7 +96,7 @@ fn postings_after(
     Ok(list)
 }
 
-/// What a block has that has these postings: `None` where there are none. The only refusal is want of memory.
+/// What a changed block has where these are its postings: `None` where there are none. The only refusal is want of memory.
 fn block_with(alloc: Global, block: u64, list: &[Posting]) -> Result<Option<NewBlock>, AllocError>
     requires { LiesIn block list.now }
     ensures { IfOk result (λ new. HasPostings block list.now new) }

@@ -108,8 +108,9 @@ fn register_begun<S: Alter>(
     Ok(count)
 }
 
-/// Puts the pieces at the front that a leaf covers, from that of the first on, into it; returns how many these are. The end is the own key of the
-/// leaf behind it. Leaves are filled where nothing stands behind them, and else halved. It counts the leaf as read, and each that is written.
+/// Puts the pieces at the front into a leaf that covers the first of them: as many as it covers, up to 4,096; returns how many these are. The
+/// end is the own key of the leaf behind it. Leaves are filled where nothing stands behind them, and else halved. It counts the leaf as read, and
+/// each that is written.
 fn leaf_turned<S: Alter>(
     alloc: Global,
     tx: &mut Transaction<'_, S>,
@@ -148,8 +149,8 @@ fn leaf_turned<S: Alter>(
     Ok(count)
 }
 
-/// Puts the pieces at the front that a leaf covers, from that of the first on, into it; returns how many these are. Where what it covers ends is
-/// looked for.
+/// Puts the pieces at the front into a leaf that covers the first of them: as many as it covers, up to 4,096; returns how many these are. This
+/// call looks for the end of what it covers.
 fn covering_turned<S: Alter>(
     alloc: Global,
     tx: &mut Transaction<'_, S>,
@@ -250,8 +251,9 @@ fn check_run(run: &[KeyChanges<'_>]) -> Result<(), RegFault>
 /// Puts the changes of a run of keys, each where its `old` stood. Each leaf is read once and written once for all changes that it covers, of
 /// 4,096 blocks at most. It counts as many as are read and written.
 ///
-/// `Damaged` where a record has other places than its `old`, and where what a leaf says of a changed block can't be read. `Store` also where a
-/// change can't be stored. Keys may be changed then that stand before the one that is refused.
+/// `Damaged` where a record has other places than its `old`, where the register has leaves and none covers a changed block, and where what a
+/// leaf says of one can't be read. `Store` also where a change can't be stored. Keys may be changed then that stand before the one that is
+/// refused.
 pub fn run_changes<S: Alter>(
     tx: &mut Transaction<'_, S>,
     work: &mut Work,
@@ -276,8 +278,8 @@ pub fn run_changes<S: Alter>(
 
 /// Puts the changes of one key, each where its `old` stood, as `run_changes` does.
 ///
-/// `Damaged` where a record has other places than its `old`, and where what a leaf says of a changed block can't be read. `Store` also where a
-/// change can't be stored.
+/// `Damaged` where a record has other places than its `old`, where the register has leaves and none covers a changed block, and where what a
+/// leaf says of one can't be read. `Store` also where a change can't be stored.
 pub fn key_changes<S: Alter>(
     tx: &mut Transaction<'_, S>,
     work: &mut Work,

@@ -70,7 +70,7 @@ fn own_until(
 }
 
 /// Counts the entries that bytes have from the first key on and below the end, where there is one, until there are enough terms. What stands
-/// behind these is read too, but nothing of it is kept.
+/// behind these is read too, but nothing of it is kept. Tells whether there are.
 fn bytes_until(
     alloc: Global,
     counts: &mut Vec<TermCount>,
@@ -97,7 +97,8 @@ fn bytes_until(
     Ok(enough)
 }
 
-/// Counts the entries that a row has from the first key on and below the end, where there is one, until there are enough terms.
+/// Counts the entries that a row has from the first key on and below the end, where there is one, until there are enough terms. Tells
+/// whether there are.
 pub(crate) fn row_until(
     alloc: Global,
     counts: &mut Vec<TermCount>,

@@ -28,7 +28,7 @@ pub enum MarcFault {
     EntryDigits,
     /// A tag isn't three ASCII letters or digits.
     EntryTag,
-    /// A field has no byte, or doesn't end within the data area.
+    /// An entry's length is 0, which has no room for the terminator, or its field doesn't end within the data area.
     EntryRange,
     /// The last byte of a field isn't the field terminator.
     FieldEnd,

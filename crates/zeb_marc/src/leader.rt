@@ -75,7 +75,7 @@ fn read_base_address(bytes: &[u8]) -> Option<usize>
     Some(base)
 }
 
-/// The base address of data of a record of the right length whose leader and ends are sound.
+/// The base address of data, or the first fault of the last byte, the leader's counts, the base address and the directory's length.
 pub(crate) fn checked_base_address(bytes: &[u8]) -> Result<usize, MarcFault>
     requires { 26 ≤ length bytes.now }
     ensures checked { Answers (layout_checks bytes.now) result }

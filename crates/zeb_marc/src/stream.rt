@@ -38,7 +38,7 @@ impl Model for RecordBuf {
 }
 
 impl RecordBuf {
-    /// Makes room for the longest record, of 99,999 bytes; nothing else takes memory.
+    /// Makes room for the longest record, of 99,999 bytes. `AllocError` says that memory for it was refused; no other call of this crate takes any.
     pub fn new(alloc: Global) -> Result<RecordBuf, AllocError>
         ensures { IfOk result (λ buffer. buffer ≡ []) }
     {
@@ -156,7 +156,7 @@ pub fn next_record<R: Source>(
         → LeavesUnread text result (R.remaining reader.new) }
     ensures failed { IsErrOf result MarcFault.ReadFault ↔ (R.has_failed reader.new ≡ true) }
     ensures able { StaysAble R.may_fail R.has_failed reader.old reader.new }
-    // The same of any source.
+    // What the buffer keeps, and which faults there are, whatever the source is.
     ensures kept { Keeps result buffer.new }
 {
     buffer.len = 0;

@@ -41,9 +41,10 @@ impl Layout for Blocks {
         "2"
     }
 
-    /// `Damaged` just where the rows that are read don't allow the changes: the row of the key in `dict` doesn't say 1 to 999,999,999, the row
-    /// of a changed record's block spells no postings, or where it has other places in the record than its change says; where a block has a
-    /// row, but the key none in `dict`; and where no record would be left to count, or more than 999,999,999.
+    /// `Damaged` just where the rows that are read don't allow the changes: the row of the key in `dict` doesn't say 1 to 999,999,999; the row
+    /// of a changed record's block spells no postings, or has other places of the record than its change says; such a block has a row, but the
+    /// key none in `dict`; or the count can't follow: no record is left to take from, none would be counted though the block has a posting, or
+    /// more than 999,999,999 would be.
     fn key_changes<S: Alter>(
         tx: &mut Transaction<'_, S>,
         work: &mut Work,
@@ -54,8 +55,8 @@ impl Layout for Blocks {
         changes_made(tx, work, db, key, changes)
     }
 
-    /// `Damaged` as `key_changes` of one of the keys. A key without a row of `dict` is not looked for in `blocks`: its rows are put behind those
-    /// of the others, many at once.
+    /// `Damaged` as `key_changes` of one of the keys. A key without a row of `dict`, of which each change leaves its record some place, isn't
+    /// looked for in `blocks` first: its rows are put behind those of the others, many at once.
     fn run_changes<S: Alter>(
         tx: &mut Transaction<'_, S>,
         work: &mut Work,
@@ -134,8 +135,8 @@ impl Layout for Blocks {
         Ok(counts)
     }
 
-    /// `Damaged` just where a row of the register in `dict` is so, or one of `blocks` of a term that these show spells no postings. The blocks of
-    /// one term are held at a time, and no list of postings.
+    /// `Damaged` just where `terms_of` is, or where a row of `blocks` of a term that it lists spells no postings. The blocks of one term are
+    /// held at a time, and no list of postings.
     fn totals<S: Alter>(
         alloc: Global,
         conn: &mut Connection<S>,

@@ -1,4 +1,5 @@
-//! A run of keys whose places change: a key that has rows is changed at once, and the rows of those that have none are held and put together.
+//! A run of keys whose places change. A key is changed at once where it has a row of `dict`, or where a change leaves a record no place; the
+//! rows of the others are held, and put together.
 
 ghost use Rattle.std.specs.Prelude.{IsUtf8, ◌≡◌, ◌≢◌, ◌≤◌, ◌*◌, [], OnOk};
 ghost use Rattle.std.specs.List.{AllByRecursion};

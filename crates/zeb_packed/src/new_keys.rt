@@ -23,7 +23,7 @@ pub(crate) struct RunKnown {
     pub(crate) are_new: bool,
 }
 
-/// A key's term is UTF-8.
+/// A key's term is UTF-8, which proofs learn where it is read as text. Nothing is done.
 pub(crate) fn term_is_text(key: &Key)
     ensures { IsUtf8 key.now.term }
 {

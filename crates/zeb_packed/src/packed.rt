@@ -96,7 +96,7 @@ pub(crate) fn add_spelled(
     }
 }
 
-/// How many rows a statement gives at most: a number that no column stores, and no list has, is no limit, as -1 says.
+/// The limit by which a statement gives its first `n` rows. Above `2^63 - 1`, which no column stores, it is -1, no limit: no list is so long.
 pub(crate) fn limit_of(n: u64) -> i64
     ensures fits { FitsSigned w64 result }
     ensures limit { (rows all : List Columns) → rows ≡ limited (as_count (Int result)) all
@@ -105,7 +105,7 @@ pub(crate) fn limit_of(n: u64) -> i64
     i64::try_from(n).unwrap_or(-1)
 }
 
-/// The terms that rows show, each with the number of its records.
+/// The terms that rows show, each with the number of its records. `few` is so of each list; callers need it for `limit_of`.
 pub(crate) fn counts_in(alloc: Global, rows: &[Row]) -> Result<Vec<TermCount>, RowFault>
     ensures tells { Answers (IfRowDamaged (EndsCounting rows.now))
         (λ list. TellTerms rows.now list.items) result }

@@ -93,7 +93,8 @@ impl Known {
     }
 }
 
-/// What the row of `dict` tells of a key: without one no record has it, and no block. `Damaged` where the row doesn't say 1 to 999,999,999.
+/// What the row of `dict` tells of a key; where there is none, no record has the key, and no block of it has a row. `Damaged` where the
+/// row doesn't say 1 to 999,999,999.
 pub(crate) fn key_known<S: Alter>(
     tx: &mut Transaction<'_, S>,
     db: DatabaseId,
@@ -135,7 +136,8 @@ fn known_at(alloc: Global, row: &Row) -> Result<Known, RowFault>
     })
 }
 
-/// Puts a list in the place of the row of a key's block, or takes the row where the list is empty. It is told whether the row is there.
+/// Puts a list in the place of the row of a key's block, or takes the row where the list is empty. `is_there` says whether the row
+/// is there.
 pub(crate) fn block_write<S: Alter>(
     alloc: Global,
     tx: &mut Transaction<'_, S>,
@@ -167,7 +169,7 @@ pub(crate) fn block_write<S: Alter>(
     Ok(())
 }
 
-/// Puts the row of a key's block where the key is told to have none: none either where the list is empty. `Damaged` where it has one.
+/// Puts the row of a key's block, which the caller says isn't there; no row where the list is empty. `Damaged` where it is there.
 pub(crate) fn block_begin<S: Alter>(
     alloc: Global,
     tx: &mut Transaction<'_, S>,
@@ -240,7 +242,7 @@ pub(crate) fn block_absent<S: Alter>(
     }
 }
 
-/// Puts a number in the row of a key, or takes the row where no record has the key. It is told whether the row is there.
+/// Puts a number in the row of a key, or takes the row where no record has the key. `is_there` says whether the row is there.
 pub(crate) fn dict_write<S: Alter>(
     tx: &mut Transaction<'_, S>,
     db: DatabaseId,

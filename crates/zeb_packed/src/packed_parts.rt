@@ -47,7 +47,7 @@ impl Held {
         Ok(held)
     }
 
-    /// What is held after a change of a record of the block. `Damaged` as of several.
+    /// What is held after a change of a record of the block. `Damaged` as [`Held::changed_by`].
     fn changed(self, change: &RecordChange<'_>) -> Result<Held, RegFault>
         requires lies { LiesIn self.block self.list.items }
         requires inside { IsInBlock self.block change.now }

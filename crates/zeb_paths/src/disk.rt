@@ -83,7 +83,7 @@ fn close_store<D: Medium + Drop>(store: FileStore<D>) -> Closed
         × HasReason view faults store left result }
 {
     let mut store = store;
-    // Nothing is undone, since no transaction is open; but just its own rollback tells what the log has.
+    // No transaction is open, so nothing is undone. It is called for its clause: no page of an open transaction is in the log then.
     store.rollback();
     let copied = store.checkpoint();
     closed_by(copied, met_by(store))

@@ -82,6 +82,7 @@ fn options_for(rt: &HostRuntime, path: &str) -> Result<Options, Error> {
     let Ok(random) = RandomState::new(rt) else {
         return Err(CANNOT_OPEN);
     };
+    // A number drawn by lot salts the log, so that frames which an earlier process left aren't taken for new ones.
     let mut options = Options::new(random.hash_one(&0u8));
     options.cache_pages = pages_kept(rt, path);
     Ok(options)

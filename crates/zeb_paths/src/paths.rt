@@ -108,7 +108,8 @@ pub trait Paths {
     fn why_unread(&self, path: &str, asked: Asked) -> Option<PathCause>
         ensures { explains self.now path.now asked result };
 
-    /// Whether a store may stand at a path: not where nothing stands there and one could be made in its folder.
+    /// Whether a store may stand at a path: not where nothing stands there, in a folder where one could be made, nor where a file of no bytes
+    /// stands alone.
     fn has_store(&self, path: &str) -> bool
         ensures lacking { result ≡ false → lacks self.now path.now }
         ensures having { result ≡ true → has self.now path.now };

@@ -30,7 +30,7 @@ impl<'a> Tally<'a> {
     }
 
     /// Counts the records that end in these bytes.
-    pub fn pass(&self, bytes: &[u8]) {
+    pub(crate) fn pass(&self, bytes: &[u8]) {
         if !self.shows {
             return;
         }
@@ -52,7 +52,7 @@ impl<'a> Tally<'a> {
 
     /// Ends the line, where there is one, with the number as it is, so that what is written next has a line of its own. Then it counts
     /// from 0 again.
-    pub fn end(&self) {
+    pub(crate) fn end(&self) {
         if self.count.get() >= STEP {
             self.show('\n');
         }

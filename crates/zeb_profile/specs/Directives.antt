@@ -1,4 +1,5 @@
--- Zebra manual, "Abstract syntaxes", the directives `melm` and `att`: the directives of a profile, one on a line. `store` names the file of
+-- Zebra manual, "The Abstract Syntax (.abs) Files", `melm` and `all`, and "The Attribute Set (.att) Files", `att`: the directives
+-- of a profile, one on a line. `store` names the file of
 -- the register; `identifier` says where a record's identifier stands; `att` ties a use attribute to an index; `melm` gives the targets
 -- of a field or subfield; `all` gives targets of every unit of a data field.
 -- Own rules of this project, which the manual leaves open or has otherwise: the directives `store` and `identifier`; what `all` takes;

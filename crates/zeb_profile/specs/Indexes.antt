@@ -1,4 +1,4 @@
--- Zebra manual, "Abstract syntaxes": what the directives `att` and `melm` say of indexes and of units.
+-- Zebra manual, "The Abstract Syntax (.abs) Files" and "The Attribute Set (.att) Files": what the directives `att` and `melm` say of indexes and of units.
 -- Own rules of this project, which the manual leaves open or has otherwise: which indexes there are, their order and their spelling; that
 -- `all` adds to every unit of a data field what its `melm` line lacks, so that a unit has each target once; and what `store` and
 -- `identifier` say.
@@ -93,7 +93,7 @@ unit_targets directives tag code =
     let further = map pair (if is_control tag then [] else all_line_targets directives) in
     first ++ further_pairs first further
 
--- the pattern of the `identifier` line
+-- the pattern that one directive tells: that of an `identifier` line
 abbrev pub identifier_told : Directive → Option UnitPattern
 identifier_told (Identifier pattern) = Some pattern
 identifier_told _ = None
@@ -102,7 +102,7 @@ identifier_told _ = None
 abbrev pub identifier_pattern : List Directive → Option UnitPattern
 identifier_pattern directives = first_told identifier_told directives
 
--- the path of the `store` line
+-- the path that one directive tells: that of a `store` line
 abbrev pub path_told : Directive → Option (List ℕ)
 path_told (Store path) = Some path
 path_told _ = None

@@ -1,4 +1,4 @@
--- Zebra manual, "Abstract syntaxes": a profile is a text of lines, one directive on each.
+-- Zebra manual, "The Abstract Syntax (.abs) Files" and "The Attribute Set (.att) Files": a profile is a text of lines, one directive on each.
 -- The lines of a text, numbered from 1, without the blanks at their ends; the lines that say something; the
 -- words of a line. Own rule of this project: blanks are space and tab alone.
 use Rattle.std.specs.Prelude.{ℕ, ◌-◌, Bool, ◌||◌, not, List, length, take, drop, ◌==◌, nat_lt, slice_index, filter}

@@ -1,4 +1,4 @@
--- Zebra manual, "Abstract syntaxes": a whole profile. Its directives, or the fault of its first faulty line.
+-- Zebra manual, "The Abstract Syntax (.abs) Files" and "The Attribute Set (.att) Files": a whole profile. Its directives, or the fault of its first faulty line.
 -- Own rules of this project: all that is refused here, its faults and their order. A line's own fault comes before what it repeats, and
 -- both before what all lines together lack; a use attribute is tied once, to an index that some line fills; `identifier` and `store`
 -- stand just once, and `all` at most once; indexes are at most as many as 32 bits count.
@@ -33,7 +33,7 @@ abbrev pub first_clash : List Directive → Directive → Option ProfileFaultKin
 first_clash [] directive = None
 first_clash (earlier ∷ others) directive = first_of (clash earlier directive) (first_clash others directive)
 
--- what a line says behind those before it: its own fault comes first, and then what it repeats
+-- the value, or the fault where there is one
 abbrev pub unless : {A E : Type 0} → Option E → A → Result A E
 unless None value = Ok value
 unless (Some fault) value = Err fault

@@ -1,4 +1,4 @@
--- Zebra manual, "Abstract syntaxes", the directives `melm` and `att`: what the words of a directive mean.
+-- Zebra manual, "The Abstract Syntax (.abs) Files", `melm` and `all`, and "The Attribute Set (.att) Files", `att`: what the words of a directive mean.
 -- Own rules of this project, which the manual leaves open or has otherwise: which bytes a tag, a code and a name have; that a name has at
 -- most 64 bytes, and a use number at most nine digits and isn't 0; that names are compared without regard to the case of ASCII letters;
 -- that the registers are these three; that a line has each target once; and which fault a word has.

@@ -11,13 +11,13 @@ use std::fmt;
 /// What is wrong with a line of a profile, or with the profile as a whole.
 #[derive(Clone, Copy, Debug, PartialEq, Eq)]
 pub enum ProfileFaultKind {
-    /// The first word is no directive, the number of words is wrong, or a use number isn't one.
+    /// The first word is no directive, the number of words is wrong, or a use attribute's number isn't 1 to 9 digits above 0.
     Directive,
     /// An index name isn't a letter followed by letters, digits, `-` and `_`, or is above 64 bytes.
     Name,
     /// What follows the first `:` of a target isn't `w`, `p` or `n`.
     Register,
-    /// A pattern is no tag, or no tag, `$` and a code.
+    /// What stands for a pattern is neither a tag nor a tag, `$` and a code.
     Pattern,
     /// One line names a pair of index and register twice.
     DuplicateTarget,

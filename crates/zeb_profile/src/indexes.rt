@@ -37,7 +37,7 @@ impl Indexes {
         Ok(indexes)
     }
 
-    /// Gives a name the next number, unless it has one: as it is spelled where a use attribute is tied to it, or else as it stands.
+    /// Gives a name the next number, unless it has one: as an `att` line up to here spells it, or else as it stands.
     fn add<'a>(
         &mut self,
         alloc: Global,

@@ -79,14 +79,14 @@ impl Profile {
         })
     }
 
-    /// The number of the index with this name, ASCII letters compared without regard to their case.
+    /// The number of the index with this name, ASCII letters compared without regard to their case; `None` where there is none.
     pub fn index_by_name(&self, name: &str) -> Option<u32>
         ensures { result ≡ indexes.index_by_name self.now name.now }
     {
         position_of(&self.names, name)
     }
 
-    /// The number of the index that this use attribute is tied to.
+    /// The number of the index that this use attribute is tied to; `None` where there is none.
     pub fn index_by_use(&self, number: u32) -> Option<u32>
         ensures { result ≡ indexes.index_by_use self.now number }
     {
@@ -94,7 +94,7 @@ impl Profile {
         position_of(&self.names, name.as_str())
     }
 
-    /// The name of an index as the first line that has it spells it.
+    /// The name of an index as the first line that has it spells it; `None` where there is none of this number.
     pub fn index_name(&self, index: u32) -> Option<&str>
         ensures { option_copied result ≡ slice_get (indexes.index_names self.now) index }
     {

@@ -56,7 +56,7 @@ fn number_or(text: Option<&str>, default: u32) -> Option<u32>
     }
 }
 
-/// The relation, equal where there is no attribute; nothing for a value that isn't kept.
+/// The relation, equal where there is no attribute; `None` for a value that isn't supported.
 pub(crate) fn relation_of(text: Option<&str>) -> Option<Asked>
     ensures { result ≡ values.relation_of (option_copied text.entry) }
 {
@@ -71,7 +71,7 @@ pub(crate) fn relation_of(text: Option<&str>) -> Option<Asked>
     }
 }
 
-/// The position, any where there is no attribute; nothing for a value that isn't kept.
+/// The position, any where there is no attribute; `None` for a value that isn't supported.
 pub(crate) fn position_of(text: Option<&str>) -> Option<Position>
     ensures { result ≡ values.position_of (option_copied text.entry) }
 {
@@ -89,7 +89,7 @@ pub(crate) fn is_local_number(text: Option<&str>) -> bool
     number_or(text, 1) == Some(107)
 }
 
-/// Another structure, a phrase where there is no attribute; nothing for a value that isn't kept.
+/// The structure of a term that is looked up in an index, a phrase where there is no attribute; `None` for a value that isn't supported.
 pub(crate) fn structure_of(text: Option<&str>) -> Option<Structure>
     ensures { result ≡ values.structure_of (option_copied text.entry) }
 {
@@ -102,7 +102,7 @@ pub(crate) fn structure_of(text: Option<&str>) -> Option<Structure>
     }
 }
 
-/// The truncation (Bib-1, attribute type 5), none where there is no attribute; nothing for a value that isn't kept.
+/// The truncation (Bib-1, attribute type 5), none where there is no attribute; `None` for a value that isn't supported.
 pub(crate) fn truncation_of(text: Option<&str>) -> Option<Cut>
     ensures { result ≡ values.truncation_of (option_copied text.entry) }
 {
@@ -116,7 +116,7 @@ pub(crate) fn truncation_of(text: Option<&str>) -> Option<Cut>
     }
 }
 
-/// The completeness, incomplete where there is no attribute; nothing for a value that isn't kept.
+/// The completeness, incomplete where there is no attribute; `None` for a value that isn't supported.
 pub(crate) fn completeness_of(text: Option<&str>) -> Option<Completeness>
     ensures { result ≡ values.completeness_of (option_copied text.entry) }
 {

@@ -5,7 +5,7 @@ ghost use Rattle.zeb_query.specs.PrivateReading.{IsDiagnostic, condition_number}
 use crate::QueryFault;
 use std::alloc::Global;
 
-/// A condition of the list Bib-1 (ANSI/NISO Z39.50-2003, Appendix ERR). Which fault has which is this project's own choice.
+/// A condition of the list Bib-1 (ANSI/NISO Z39.50-2003, Appendix ERR).
 #[derive(Clone, Copy, PartialEq, Eq)]
 pub(crate) enum Condition {
     TooManyWords = 5,
@@ -23,9 +23,10 @@ pub(crate) enum Condition {
     Truncation = 120,
     AttributeSet = 121,
     Completeness = 122,
-    /// Values that aren't taken together.
+    /// Values that aren't taken together, or not for the purpose; an index without the searched register; operands of `@prox` in two indexes, or
+    /// not of one word each.
     Combination = 123,
-    /// A term that had to be another one.
+    /// A term that isn't the number that its attributes ask for.
     TermValue = 126,
     TermType = 229,
 }

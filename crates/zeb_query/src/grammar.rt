@@ -175,7 +175,7 @@ fn pair_of<'a>(
     Ok((tree, after))
 }
 
-/// The structure at the front, in memory of its own.
+/// The tree at the front, in memory of its own.
 #[cycle(structure)]
 fn operand<'a>(alloc: Global, rest: Rest<'a>) -> Result<(Box<Tree>, Rest<'a>), QueryFault>
     ensures goes { IfOk result (λ read. (n : ℕ) →

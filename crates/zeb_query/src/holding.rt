@@ -4,7 +4,7 @@ ghost use Rattle.zeb_query.specs.Clauses.{is_bib1, holding_of, attribute_value, 
 
 use crate::{Attribute, Head, Query};
 
-/// What the attributes and term types over a structure come to.
+/// What the attributes and term types over a term or an operator come to.
 ///
 /// For each type the innermost attribute holds. One that an inner one replaces still counts for the faults of its set
 /// and of its type, of which the leftmost is told.

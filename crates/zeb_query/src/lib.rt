@@ -5,6 +5,8 @@
 //! What these leave open is a rule of this project's own: how words are quoted and escaped, which diagnostic answers which
 //! fault, at which place and in which order, the limits, which values go together, and that structure 107, a local number,
 //! is the record's system number.
+//!
+//! Each call may also answer `QueryFault::Memory`, where memory ran out.
 #![tactic(auto)]
 
 mod attributes;
@@ -24,7 +26,6 @@ mod terms;
 mod values;
 mod words;
 
-pub use attributes::{Asked, Completeness, Position, Structure};
 pub use faults::QueryFault;
 pub use planning::plan;
 pub use plans::{
@@ -33,4 +34,3 @@ pub use plans::{
 pub use queries::{Attribute, Connective, Head, Leaf, Parameters, Query, Tree};
 pub use reading::read_pqf;
 pub use scanning::plan_scan;
-pub use values::{Subject, Values};

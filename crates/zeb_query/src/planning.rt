@@ -23,10 +23,6 @@ use zeb_text::{Pattern, join, join_patterns, words};
 ///
 /// The checks of its operators, named sets and terms stand in the order of the text, and the first that applies is answered, with
 /// the place of the operator's word, of `@set` or of the term. `specs/Checks.antt` has them as tables, each with its number.
-///
-/// The values of attributes are Bib-1's, and the numbers those of its list of diagnostics. Which of them are kept, which
-/// number answers which fault, the order, the limits, what goes together, and that structure 107 asks for the record's
-/// system number, are this project's own rules.
 pub fn plan(alloc: Global, query: &Query, profile: &Profile) -> Result<Plan, QueryFault>
     ensures planned { Gives plans.plan_value result
         (plans.plan_of profile.now (query_value query.now)) }
@@ -35,7 +31,7 @@ pub fn plan(alloc: Global, query: &Query, profile: &Profile) -> Result<Plan, Que
     plan_tree(alloc, &query.tree, Holding::over(query), profile)
 }
 
-/// The plan of a structure over which these attributes hold.
+/// The plan of a tree over which these attributes hold.
 fn plan_tree(
     alloc: Global,
     tree: &Tree,
@@ -124,7 +120,7 @@ fn plan_leaf(
     }
 }
 
-/// The number that a term has to be, which the register of numbers may have.
+/// The number that a term spells in 1 to 18 digits; where it spells none, 126 about the term.
 pub(crate) fn number_in(site: Site, text: &str) -> Result<u64, QueryFault>
     ensures gives { Gives (λ x. x) result (steps.number_in many site.place text.now) }
     ensures small { IfOk result (λ number. number < 10 ^ many) }

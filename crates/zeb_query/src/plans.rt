@@ -35,7 +35,7 @@ pub enum Relation {
 pub enum TermPlan {
     /// The record with this system number, 0 to 999,999,999: what this project takes a local number for.
     RecordNumber(u32),
-    /// No record: the words of the term are looked for in the register of the index, and it has none.
+    /// No record: words are what is looked for in the register of the index, and the term has none.
     NoWords {
         index: u32,
         register: Register,
@@ -53,7 +53,7 @@ pub enum TermPlan {
         number: u64,
     },
     /// The records with an entry that stands in the relation to the term's words, joined by one space, in the order of their
-    /// bytes. The relation of a term is another one than equality here: that asks for patterns.
+    /// bytes. The relation is never [`Relation::Equal`]: equality asks for patterns.
     Ordered {
         index: u32,
         register: Register,

@@ -47,7 +47,7 @@ pub(crate) fn plan_near(
     }))
 }
 
-/// What the six parameters ask for, or 110 about the first that isn't kept.
+/// What the six parameters ask for, or 110 about the first that isn't supported.
 #[tactic(auto, unfolding(crate::specs::PrivatePlanning::separation_read))]
 fn separation_of(site: Site, parameters: &Parameters) -> Result<Separation, QueryFault>
     ensures { Gives (λ x. x) result

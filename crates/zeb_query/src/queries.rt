@@ -53,7 +53,7 @@ pub enum Connective {
     Proximity(Parameters),
 }
 
-/// The structure of a query (YAZ manual, PQF): a term, a named result set, or an operator over two structures.
+/// A query without its `@attrset` (YAZ manual, PQF): a term, a named result set, or an operator over two of these.
 #[derive(Debug, Drop)]
 pub enum Tree {
     /// A term.

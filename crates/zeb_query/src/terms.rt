@@ -20,7 +20,7 @@ const MOST_WORDS: usize = 64;
 /// The use attribute that holds where none is given: 1016, any.
 const ANY: u32 = 1016;
 
-/// The value, or the diagnostic about the attribute's text where that isn't kept.
+/// The value, or the diagnostic about the attribute's text where that isn't supported.
 pub(crate) fn kept<T>(
     site: Site,
     condition: Condition,
@@ -73,7 +73,7 @@ fn subject_of(site: Site, written: Option<&str>, index: Option<u32>) -> Result<S
     Ok(Subject::Entries { index, structure })
 }
 
-/// The values of the six attribute types, or the diagnostic of the first one that isn't kept.
+/// The values of the six attribute types, or the diagnostic of the first one that isn't supported.
 #[tactic(auto, unfolding(crate::specs::PrivatePlanning::values_read))]
 fn values_of(site: Site, holding: &Holding<'_>, profile: &Profile) -> Result<Values, QueryFault>
     ensures { Gives (λ x. x) result

@@ -32,7 +32,7 @@ pub enum Purpose {
     Near,
 }
 
-/// A term's attributes as kept values, of which the definitions of checks and plans speak.
+/// The values of a term's attributes, each supported, of which the definitions of checks and plans speak.
 #[derive(Clone, Copy, Debug, PartialEq, Eq)]
 pub struct Values {
     /// By the use attribute and the structure.

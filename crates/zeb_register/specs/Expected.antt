@@ -25,7 +25,7 @@ name_order a b = slice_cmp nat_cmp (string_bytes a.name) (string_bytes b.name)
 abbrev pub number_order : Record → Record → Ordering
 number_order a b = nat_cmp a.sysno b.sysno
 
--- by key, then system number, unit and place
+-- by key, then system number and place
 abbrev pub key_posting_order : KeyPosting → KeyPosting → Ordering
 key_posting_order a b = ordering_then (key_order a.key b.key) (posting_cmp a.posting b.posting)
 

@@ -28,7 +28,8 @@ pub(crate) enum Table {
     Dict,
 }
 
-/// The databases that are there, in the order of the expected ones, where texts, databases and records are just these. It changes nothing.
+/// The databases that are there, in the order of the expected ones; `None` where texts, databases or records are others than expected. It
+/// changes nothing.
 pub fn lists_beside<S: Alter>(
     alloc: Global,
     conn: &mut Connection<S>,
@@ -50,7 +51,7 @@ pub fn lists_beside<S: Alter>(
     records_beside(alloc, conn, &expected.databases)
 }
 
-/// The databases that are there, where they and their records are just the expected ones.
+/// The databases that are there; `None` where they or their records are others than expected.
 fn records_beside<S: Alter>(
     alloc: Global,
     conn: &mut Connection<S>,
@@ -129,7 +130,7 @@ fn texts_agree<S: Alter>(conn: &mut Connection<S>, expected: &Expected) -> Resul
     Ok(are_texts(&rows, expected))
 }
 
-/// The databases that are there, where they have just the expected names and last numbers.
+/// The databases that are there; `None` where their names or last numbers are others than expected, or a row is unreadable.
 fn databases_beside<S: Alter>(
     alloc: Global,
     conn: &mut Connection<S>,

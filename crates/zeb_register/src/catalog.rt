@@ -113,7 +113,7 @@ pub fn databases<S: Alter>(
     Ok(databases_in(alloc, &rows)?)
 }
 
-/// The same inside a transaction.
+/// The same as [`databases`], inside a transaction.
 pub fn databases_inside<S: Alter>(
     alloc: Global,
     tx: &mut Transaction<'_, S>,

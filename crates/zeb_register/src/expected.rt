@@ -22,7 +22,7 @@ pub struct KeyPosting {
 }
 
 /// A database as it has to be: its name, the greatest system number that it has given, its records in rising order of system number, and
-/// its postings, rising by key, system number, unit and place.
+/// its postings, rising by key, system number and place.
 #[derive(Debug, PartialEq, Eq, Drop)]
 pub struct ExpectedDatabase {
     pub name: String,
@@ -31,7 +31,8 @@ pub struct ExpectedDatabase {
     pub postings: Vec<KeyPosting>,
 }
 
-/// A store as it has to be: its three texts, and its databases, rising by the bytes of their names.
+/// A store as it has to be: its three texts, which are its version, the profile's canonical text and the identifier's rule; and its databases,
+/// rising by the bytes of their names.
 #[derive(Debug, PartialEq, Eq, Drop)]
 pub struct Expected {
     pub version: String,

@@ -1,5 +1,5 @@
-//! What those who write a `Layout` over the tables need, beside the public calls: values on their way into a row and out of it, and what
-//! more than one crate needs of the tables.
+//! What other crates need beside the public calls, above all those that write a `Layout`: values on their way into a row and out of it, whole
+//! tables, queries, and the counts of work.
 
 pub use crate::agreeing::{lists_beside, postings_and_dict_lack_rows};
 pub use crate::belonging::{Ends, ends_in_blocks, is_listed, next_in_blocks};

@@ -45,7 +45,7 @@ pub struct Elder {
     pub bytes: Vec<u8>,
 }
 
-/// Keeps a record under a system number, in place of the one that had that number or that identifier.
+/// Keeps a record under a system number, in place of those that had that number or that identifier.
 ///
 /// It is refused where `sysno` is above `2^63 - 1`.
 pub fn record_put<S: Alter>(
@@ -150,7 +150,7 @@ pub fn ident_of<S: Alter>(
 
 /// How many records a database has; `2^63 - 1`, the greatest number that a column stores, where there are more.
 ///
-/// No record is read for it, and no memory is held. It changes nothing.
+/// It takes the memory of one row, however many records there are. On a store's tables it is never `Damaged`. It changes nothing.
 pub fn record_count<S: Alter>(conn: &mut Connection<S>, db: DatabaseId) -> Result<u64, RegFault>
     ensures call { ReadingOf S.Store conn.old conn.new result (λ _. IsUnchanged) }
     ensures value { TellsOf S.Store conn.old conn.new result (λ trees. IsRecordCount trees db.0) }
@@ -189,7 +189,7 @@ pub fn record_from<S: Alter>(
     Ok(first_record(&rows)?)
 }
 
-/// The same inside a transaction.
+/// The same as [`record_from`], inside a transaction.
 pub fn record_from_inside<S: Alter>(
     tx: &mut Transaction<'_, S>,
     db: DatabaseId,

@@ -1,4 +1,4 @@
-//! What makes lists of the rows.
+//! Laws of a store's rows: what makes lists of them, and that each unit reads or is malformed.
 
 ghost use Rattle.std.specs.Prelude.{◌≡◌, ℕ, ℤ, List, [], ◌∷◌};
 ghost use Rattle.sqlite.specs.declared.types.Value.TheVariants.{Int};

@@ -35,7 +35,7 @@ pub(crate) fn rests_agree<S: Alter>(
     ensures call { ReadingOf S.Store conn.old conn.new result (ReadsRests table db database.now) }
     ensures refused { IsReasonedErrorOf S.Store conn.old conn.new result }
 {
-    // What is seen outside a transaction is what was committed.
+    // Nobody reads it. Its contract says that what is seen outside a transaction is what was committed.
     let _idle = conn.is_autocommit();
     let size = size_of(table, database);
     let mut at = 0;

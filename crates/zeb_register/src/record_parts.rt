@@ -14,7 +14,8 @@ use crate::registers::{Place, RecordChange};
 use std::alloc::{AllocError, Global};
 use zeb_blocks::Posting;
 
-/// How many places more there is room for where postings are parted: most changes put a record's few places behind all others.
+/// How many places more there is room for where postings are parted: a record mostly gets few more than it had, so that the list needs no
+/// more memory while it is put together.
 const MORE_PLACES: usize = 4;
 
 /// Postings parted at a record: those of the records before it, its own places, and the postings of the records behind it.

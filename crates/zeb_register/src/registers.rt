@@ -1,4 +1,4 @@
-//! What a layout of the registers has to do, whatever tables it keeps them in.
+//! What a layout of the registers has to do, whatever tables it keeps them in, and laws of contents and units.
 
 ghost use Rattle.std.specs.Prelude.{◌≡◌, ◌↔◌, ◌*◌, ℕ, ℤ, List, [], length, IfOk, OnOk};
 ghost use Rattle.std.specs.List.{AllByRecursion};
@@ -62,7 +62,7 @@ pub struct RegisterOf {
     pub register: Register,
 }
 
-/// How much a register of a database holds: its distinct terms, and its postings.
+/// How much a register of a database holds: its distinct terms, and its postings; 2^64 - 1 where there are more.
 #[derive(Clone, Copy, Debug, Default, PartialEq, Eq)]
 pub struct Totals {
     pub terms: u64,
@@ -109,10 +109,10 @@ pub trait Layout {
     /// In which format the tables keep the registers.
     ghost format: { Format };
 
-    /// What a row of a term or of its block that is read or written adds to its count: 1, or 0 in a layout that has no such rows.
+    /// What a record whose places are changed adds to each count, and a term that is listed to `dict_read`: 1, or 0 where a layout counts none.
     ghost row_work: { ℕ };
 
-    /// How many rows of `blocks` are of a list of postings alone: these a look-up counts.
+    /// How many rows of `blocks` have just this list of postings and no other key's: so many a look-up of it counts.
     ghost block_rows: { List Posting → ℕ };
 
     /// The text that a store of this layout keeps under the name `version`.
@@ -173,7 +173,7 @@ pub trait Layout {
     /// Puts the changes of a run of keys, each where its `old` stood. A layout may read and write a row once for several keys that it keeps
     /// there. Work counts as that of `key_changes` does, for the records of all keys.
     ///
-    /// It is refused where `key_changes` of one of the keys is, and keys may be changed then that stand before it.
+    /// It is refused where `key_changes` of one of the keys is. Other keys of the run may be changed then, before it or behind it.
     fn run_changes<S: Alter>(
         tx: &mut Transaction<'_, S>,
         work: &mut Work,
@@ -226,7 +226,7 @@ pub trait Layout {
         ensures no_work { row_work ≡ 0 → work.new ≡ work.old };
 
     /// The postings of the terms of a register that are not below `first` and not above `last`; in which order isn't said. The rows of all
-    /// these terms are held at once.
+    /// these terms are held at once. `Damaged` only where a row of one of these terms is malformed.
     fn postings_between<S: Alter>(
         alloc: Global,
         conn: &mut Connection<S>,
@@ -292,8 +292,9 @@ pub trait Layout {
             work.new) }
         ensures no_work { row_work ≡ 0 → work.new ≡ work.old };
 
-    /// How many terms of a register some record has, and how many postings these have. Each row of a term and of a block of its own counts
-    /// once in `work`. `Damaged` only where what is kept of one of these terms is malformed, or it isn't UTF-8.
+    /// How many terms of a register some record has, and how many postings these have. In packed tables each row of `dict` that is read
+    /// counts once in `work`, and each row of `blocks` of these terms. `Damaged` only where what is kept of one of these terms is
+    /// malformed, or it isn't UTF-8.
     fn totals<S: Alter>(
         alloc: Global,
         conn: &mut Connection<S>,

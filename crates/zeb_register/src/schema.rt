@@ -234,7 +234,8 @@ fn are_plain(orders: &[Order], forms: &[&[usize]]) -> bool
     order.digits == 0 && are_plain(orders, forms)
 }
 
-fn has_rules_alone(table: &Table) -> bool
+/// Whether a table has no other rules than those of its columns and its keys.
+fn has_no_more(table: &Table) -> bool
     ensures { Decides result (HasNoMore table.now) }
 {
     table.checks.roots.is_empty()
@@ -256,7 +257,7 @@ fn is_table(table: &Table, form: &TableForm<'_>) -> bool
         && are_columns(table.columns.as_slice(), form.columns)
         && are_keys(table.uniques.as_slice(), form.keys)
         && are_plain(table.orders.as_slice(), form.keys)
-        && has_rules_alone(table)
+        && has_no_more(table)
 }
 
 fn are_tables(tables: &[Table], forms: &[TableForm<'_>]) -> bool

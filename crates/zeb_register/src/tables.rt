@@ -99,7 +99,7 @@ fn tables_make<S: Alter>(
 
 /// Makes the tables that are absent. No row of a table that is there changes.
 ///
-/// It is refused where a table of one of these names is there with other columns that the statement doesn't fit.
+/// A table or a view that has one of these names is taken for it, whatever its columns are. It is refused where an index has one.
 pub fn make_tables<S: Alter>(tx: &mut Transaction<'_, S>) -> Result<(), Error>
     ensures same { tx.new.conn.ghost_name ≡ tx.old.conn.ghost_name }
     ensures made { DoneUnder no_schema (state S.Store tx.old.conn.now)

@@ -13,7 +13,7 @@ pub fn counted(count: u64, more: usize) -> u64
     count.saturating_add(more as u64)
 }
 
-/// Each count of the work is a number of its type, as one knows who reads it. Nothing is done.
+/// Each count of the work fits its type, which proofs learn where it is read. Nothing is done.
 pub fn counts_are_numbers(work: &Work)
     ensures { AreInRange work.now }
 {

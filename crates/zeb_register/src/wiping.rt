@@ -1,4 +1,4 @@
-//! All rows of all tables.
+//! All rows are taken out, of each table or of those of the registers.
 
 ghost use Rattle.std.specs.Prelude.{◌≡◌};
 ghost use Rattle.zeb_register.specs.Store.{IsStore, IsEmptyStore, LacksLists, LacksRegisters, KeepsLists};

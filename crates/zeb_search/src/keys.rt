@@ -92,8 +92,8 @@ fn next_start(
     Ok(Some(text_above(alloc, term)?))
 }
 
-/// Terms of a register, among which are those that are asked for: all at once, or page by page, each twice as long as the one before, from
-/// the first term that may be asked for until one behind which none is.
+/// Terms of a register, among which are those that are asked for: all at once, or page by page, each twice as long as the one before up to
+/// 256 terms, from the first term that may be asked for until one behind which none is.
 fn terms_wanted<S: Alter, L: Layout>(
     alloc: Global,
     connection: &mut Connection<S>,

@@ -139,7 +139,7 @@ fn at_first_words(alloc: Global, places: &[Posting]) -> Result<Vec<Posting>, All
         .collect(alloc)
 }
 
-/// The places of the first words of such words.
+/// Where words of one unit, one after another, match the patterns in order: the places of the first of them. None where there is no pattern.
 fn places_of_phrase<S: Alter, L: Layout>(
     alloc: Global,
     connection: &mut Connection<S>,

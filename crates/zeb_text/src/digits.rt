@@ -52,7 +52,7 @@ fn first_run(text: &[u8]) -> Option<(&[u8], &[u8])>
     Some((digits, rest))
 }
 
-/// How many bytes stand before the first that is a digit, or is none, against `are_digits`.
+/// How many bytes at the front are digits, where `are_digits`; else how many are no digits.
 fn front_len(text: &[u8], are_digits: bool) -> usize
     ensures within { result ≤ length text.now }
     ensures front { (k : ℕ) → k < result → is_ascii_digit (slice_index text.now k) ≡ are_digits }

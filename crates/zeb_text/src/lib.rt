@@ -1,4 +1,6 @@
 //! The text layer: folding, words, numbers, and patterns with stars.
+//!
+//! `AllocError` says of each call that memory was refused; that it comes for nothing else is tested and not proved.
 #![tactic(auto)]
 
 mod cutting;

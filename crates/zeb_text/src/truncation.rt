@@ -68,7 +68,7 @@ pub fn pattern_words(
     Ok(patterns)
 }
 
-/// Whether a word takes the truncation's star, where it may stand at that end of the term.
+/// Whether a word takes the star that the truncation has on one side: under [`Spread::Each`] every word, else the one at that end of the term.
 fn takes_star(has_star: bool, spread: Spread, is_end: bool) -> bool
     ensures { result ≡ (has_star && (cuts_each spread || is_end)) }
 {

@@ -184,7 +184,7 @@ pub record IsPast (rows : List Row) : Type 0 where
 abbrev pub IsFlagText : Option Text → Type 0
 IsFlagText read = (read ≡ Some (codes "true")) ⊎ (read ≡ Some (codes "false"))
 
--- the same of all words
+-- of these matches, whether -s is set or not, no command is read; or they are of a scan whose position is past its number of terms
 abbrev pub AreBad : List Row → Option (Text × List Row) → Type 0
 AreBad rows sub = (IsFlagText (one_of (codes "shows") rows) → (named : Words) → IsReadFrom rows sub named → ⊥) ⊎ ((given : List Row) × (sub ≡ Some (codes "scan", given)) × IsPast given)
 
@@ -192,7 +192,7 @@ AreBad rows sub = (IsFlagText (one_of (codes "shows") rows) → (named : Words) 
 abbrev pub IsRequest : ErrorKind → Type 0
 IsRequest kind = (kind ≡ DisplayHelp) ⊎ (kind ≡ DisplayVersion)
 
--- among the kinds is one of a request; one of a fault
+-- among the kinds of what the parser finds is one of a request for help or the version
 abbrev pub HasRequest : Kinds → Type 0
 HasRequest kinds = (kind : ErrorKind) × IsAmong kind kinds × IsRequest kind
 

@@ -2,7 +2,7 @@
 
 use std::fmt;
 
-/// Why words name no command.
+/// Why the program itself takes no command from words in which its parser finds no fault.
 #[derive(Clone, Copy, Debug, PartialEq, Eq)]
 pub enum Misuse {
     /// No database may have this name.

@@ -83,7 +83,7 @@ pub enum Act {
     Shell,
 }
 
-/// Why words name no command.
+/// What is answered in place of a command.
 #[derive(Debug, Drop)]
 pub enum Usage {
     /// The program itself takes no command from them, for this cause.

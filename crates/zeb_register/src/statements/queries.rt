@@ -17,7 +17,7 @@ pub fn look_up<S: Alter>(
     ensures { LooksUp (λ rows. rows.items) sql.now (bound params.now)
         (state S.Store conn.old) (state S.Store conn.new) result }
 {
-    // What is seen outside a transaction is what was committed.
+    // Nobody reads it. Its contract says that what is seen outside a transaction is what was committed.
     let _idle = conn.is_autocommit();
     conn.query_all(sql, params)
 }
