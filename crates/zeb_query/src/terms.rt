@@ -1,5 +1,5 @@
 //! Reading a term: the values of its attributes and the patterns of its words, or its first diagnostic.
-ghost use Rattle.std.specs.Prelude.{◌≡◌, IfOk, Some, option_copied};
+ghost use Rattle.std.specs.Prelude.{option_copied};
 ghost use Rattle.zeb_query.specs.Clauses.{Gives, condition_number, holding_value};
 ghost use Rattle.zeb_query.specs.PrivatePlanning as steps;
 
@@ -27,9 +27,8 @@ pub(crate) fn kept<T>(
     written: Option<&str>,
     value: Option<T>,
 ) -> Result<T, QueryFault>
-    ensures gives { Gives (λ x. x) result (steps.kept_or (condition_number condition) site.place
+    ensures { Gives (λ x. x) result (steps.kept_or (condition_number condition) site.place
         (option_copied written.entry) value) }
-    ensures is { IfOk result (λ x. value ≡ Some x) }
 {
     match value {
         Some(value) => Ok(value),
