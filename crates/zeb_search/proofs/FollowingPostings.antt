@@ -1,5 +1,5 @@
 -- The postings of a list behind which one of another list stands, found in one walk over both, which rise.
-use Rattle.zeb_search.proofs.Cited.{◌≡◌, ◌∙◌, ◌↔◌, ◌⊎◌, ◌≤◌, ◌<◌, ℕ, zero, suc, ◌+◌, Bool, true, false, cond, length, get_or, take, List, [], ◌∷◌, ◌++◌, IsTrue, Option, Some, None, ◌-◌, Ordering, Less, refl, sym, ap, subst, inl, inr, arith, nat_cmp, ordering_then, cases_lt, nat_tests, get_or_default, Has, all_has, has_at, has_left, has_right, has_either, contains_had, posting_cmp, Posting, posting_total, pushed_rises, taken_below, taken_more, ArePostings, Words, HasWithin, IsBefore, IsBehind, IsUpTo, IsWithin}
+use Rattle.zeb_search.proofs.Cited.{◌≡◌, ◌∙◌, ◌↔◌, ◌⊎◌, ◌≤◌, ◌<◌, ℕ, zero, suc, ◌+◌, Bool, true, false, cond, length, get_or, take, List, [], ◌∷◌, ◌++◌, IsTrue, Option, Some, None, ◌-◌, Ordering, Less, refl, sym, ap, subst, inl, inr, arith, nat_cmp, ordering_then, is_less, cases_lt, get_or_default, Has, all_has, has_at, has_left, has_right, has_either, contains_had, posting_cmp, Posting, posting_total, pushed_rises, taken_below, taken_more, ArePostings, Words, HasWithin, IsBefore, IsBehind, IsUpTo, IsWithin}
 use Rattle.std.specs.List.Sorted.{IsStrictlySortedBy}
 use Rattle.zeb_search.proofs.Comparisons.{ranked_numbers}
 
@@ -19,13 +19,10 @@ rises_at R (x ∷ xs) (suc i) (suc j) d e up before within = rises_at R xs i j d
 abbrev Precedes : Posting → Posting → Type 0
 Precedes p q = (p.sysno < q.sysno) ⊎ ((p.sysno ≡ q.sysno) × ((p.seq < q.seq) ⊎ ((p.seq ≡ q.seq) × (p.pos < q.pos))))
 
-lower_number : (a b : ℕ) → nat_cmp a b ≡ Less → a < b
-lower_number a b h = grind (arith, nat_tests)
-
 precedes : (p q : Posting) → posting_cmp p q ≡ Less → Precedes p q
 precedes p q h = elim (ranked_numbers p.sysno q.sysno (ordering_then (nat_cmp p.seq q.seq) (nat_cmp p.pos q.pos)) h) [
   | inl lower ↦ inl lower
-  | inr same ↦ inr (same.0, elim (ranked_numbers p.seq q.seq (nat_cmp p.pos q.pos) same.1) [ inl lower ↦ inl lower | inr alike ↦ inr (alike.0, lower_number p.pos q.pos alike.1) ])
+  | inr same ↦ inr (same.0, elim (ranked_numbers p.seq q.seq (nat_cmp p.pos q.pos) same.1) [ inl lower ↦ inl lower | inr alike ↦ inr (alike.0, is_less p.pos q.pos alike.1) ])
 ]
 
 -- ---- what stands before a place, and what stands behind

@@ -1,14 +1,8 @@
 -- Two lists of numbers that rise, joined under an operator in one walk.
-use Rattle.zeb_search.proofs.Cited.{◌≡◌, ◌∙◌, ◌↔◌, ◌⊎◌, ◌≤◌, ◌<◌, ℕ, ◌+◌, Bool, true, false, cond, length, get_or, take, List, [], ◌∷◌, ◌++◌, IsTrue, Less, refl, sym, ap, subst, inl, inr, arith, bool_byte, nat_cmp_total, nat_cmp, cases_lt, nat_tests, get_or_default_zero, below_from_sorted, Has, has_left, has_right, has_either, Operator, And, Or, Not, pushed_rises, taken_below, taken_more, AreJoined, AreNumbers}
+use Rattle.zeb_search.proofs.Cited.{◌≡◌, ◌∙◌, ◌↔◌, ◌⊎◌, ◌≤◌, ◌<◌, ℕ, ◌+◌, Bool, true, false, cond, length, get_or, take, List, [], ◌∷◌, ◌++◌, IsTrue, Less, refl, sym, ap, subst, inl, inr, arith, bool_byte, nat_cmp_total, nat_cmp, is_less, less_is, cases_lt, get_or_default_zero, below_from_sorted, Has, has_left, has_right, has_either, Operator, And, Or, Not, pushed_rises, taken_below, taken_more, AreJoined, AreNumbers}
 use Rattle.std.specs.List.Sorted.{IsStrictlySortedBy}
 
 -- ---- one number more
-
-number_below : (a b : ℕ) → a < b → nat_cmp a b ≡ Less
-number_below a b h = grind (arith, nat_tests)
-
-below_number : (a b : ℕ) → nat_cmp a b ≡ Less → a < b
-below_number a b h = grind (arith, nat_tests)
 
 abbrev Grows : (P Q : ℕ → Type 0) → Bool → ℕ → Type 0
 Grows P Q flag m = (n : ℕ) → Q n ↔ (P n ⊎ (IsTrue flag × (n ≡ m)))
@@ -52,7 +46,7 @@ module _ (P Q P' Q' : ℕ → Type 0) (in_left in_right : Bool) (m : ℕ) (left 
   joined_more : (operator : Operator) (kept : Bool) (old new : List ℕ) → IsTrue kept ↔ AreJoined operator (IsTrue in_left) (IsTrue in_right)
       → new ≡ cond kept (old ++ m ∷ []) old → AreNumbers (λ n. AreJoined operator (P n) (Q n)) old → AreNumbers (λ n. AreJoined operator (P' n) (Q' n)) new
   joined_more operator true old new keeps is are = record {
-    rising = rw is (pushed_rises nat_cmp_total old m are.rising (λ n h. number_below n m (joined_below operator n ((are.each n).0 h))));
+    rising = rw is (pushed_rises nat_cmp_total old m are.rising (λ n h. less_is n m (joined_below operator n ((are.each n).0 h))));
     each = λ n. (
       λ h. (join_grows operator n).1 (elim (has_either old (m ∷ []) n (subst (λ l. Has l n) is h)) [
         | inl there ↦ inl ((are.each n).0 there)
@@ -116,7 +110,7 @@ module _ (list other : List ℕ) (i j m after : ℕ) (flag : Bool) (up : IsStric
   taken_lower : ((n : ℕ) → Has (take i list) n → j < length other → n < get_or other j 0) → (n : ℕ) → Has (take i list) n → n < m
   taken_lower lower n h = elim flag as (λ f. flag ≡ f → n < m) [
     | true ↦ λ is. let at = least.here is in
-        below_number n m (taken_below nat_cmp_total list i m up at.0 (at.1 ∙ sym (get_or_default_zero list i m at.0)) n h)
+        is_less n m (taken_below nat_cmp_total list i m up at.0 (at.1 ∙ sym (get_or_default_zero list i m at.0)) n h)
     | false ↦ λ is. let at = least.there is in omega (arith, lower n h at.0, at.1)
   ] refl
 
