@@ -94,8 +94,8 @@ pub use Rattle.zeb_search.specs.PrivateFinds.{FindsTerm, HidesKeys, IsReachedBy,
 pub use Rattle.zeb_search.specs.PrivateLists.{ArePostings}
 pub use Rattle.zeb_search.specs.PrivateMet.{IsShownAmong, IsShownWith, AreKeysIn, AreMet, HasMet, MeetsCounts}
 pub use Rattle.zeb_search.specs.PrivateSearchCounts.{NoRows}
-pub use Rattle.zeb_search.specs.PrivateTerms.{TermsRise, BeginsAt, IsAmong, LeadsTo, AreTaken, IsWanted, NamesEntry, AreFound, AreRun, StandTogether, StandsWithin, HasBehind, EndsAt}
-pub use Rattle.zeb_search.specs.PrivateWalks.{HasWithin, IsBefore, IsBehind, IsUpTo, IsWithin, IsFollowed, IsNearBy, IsWithinSome}
+pub use Rattle.zeb_search.specs.PrivateTerms.{TermsRise, BeginsAt, IsAmong, LeadsTo, AreTaken, IsWanted, NamesEntry, AreFound, AreRun, StandTogether, StandsWithin, EndsAt}
+pub use Rattle.zeb_search.specs.PrivateWalks.{HasWithin, IsBefore, IsBehind, IsUpTo, IsWithin, IsFollowed, IsNearBy, IsWithinSome, words_between}
 pub use Rattle.zeb_search.specs.PrivateWordCounts.{CountedMatches, CountedWords}
 pub use Rattle.zeb_search.specs.Registers.{HoldsIn, is_kept_in, NamesReadable, TermNamesReadable}
 pub use Rattle.zeb_search.specs.SearchCounts.{CountsByContent, HasNoStar, AreWithoutStars, IsOneKey, NamesEntries, TermNamesEntries, CountsAtMost}

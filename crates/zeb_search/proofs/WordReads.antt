@@ -1,5 +1,5 @@
 -- Lists of postings of several patterns, as they are read pattern by pattern, and the records that have postings of some or of each.
-use Rattle.zeb_search.proofs.Cited.{◌≡◌, ◌≢◌, ◌↔◌, ◌⊎◌, ◌++◌, ◌∷◌, ◌+◌, ◌==◌, [], ℕ, ℤ, true, false, List, arith, inl, inr, refl, subst, sym, filter, eqb-true, eq-eqb, Trees, Has, has_either, has_filtered, has_kept, has_left, has_right, Symbol, Posting, posting_cmp, Format, Fits, HasNoStar, AreNumbers, ArePostings, FindsEntries, FindsWords, Follow, HasBehind, HasEach, HasPosting, HasRun, HasSome, PlacesFound, ReadsWord, ReadsWords, IsStrictlySortedBy}
+use Rattle.zeb_search.proofs.Cited.{◌≡◌, ◌≢◌, ◌↔◌, ◌⊎◌, ◌++◌, ◌∷◌, ◌+◌, ◌==◌, [], ℕ, ℤ, true, false, List, arith, inl, inr, refl, subst, sym, filter, eqb-true, eq-eqb, Trees, Has, has_either, has_filtered, has_kept, has_left, has_right, Symbol, Posting, posting_cmp, Format, Fits, HasNoStar, AreNumbers, ArePostings, FindsEntries, FindsWords, Follow, HasEach, HasPosting, HasRun, HasSome, HasWithin, PlacesFound, ReadsWord, ReadsWords, IsStrictlySortedBy, words_between}
 use Rattle.zeb_keys.specs.declared.Register.TheVariants as register
 use Rattle.zeb_search.proofs.JustLemmas.{just_none, just_same}
 
@@ -105,20 +105,20 @@ module _ (format : Format) (trees : Trees) (db : ℤ) (index : ℕ) where
 
   -- one word more before them
   pub place_before : (pattern : List Symbol) (patterns : List (List Symbol)) (starts places list : List Posting) → patterns ≢ [] → ReadsWord format trees db index pattern starts
-      → PlacesFound format trees db index patterns places → ArePostings (λ p. Has starts p × HasBehind 1 1 places p) list → PlacesFound format trees db index (pattern ∷ patterns) list
+      → PlacesFound format trees db index patterns places → ArePostings (λ p. Has starts p × HasWithin (words_between 1 1) places p) list → PlacesFound format trees db index (pattern ∷ patterns) list
   place_before pattern patterns starts places list some reads rest joined = (
     starts ∷ rest.0,
     (reads, rest.1),
-    just_same (λ p. Has starts p × HasBehind 1 1 places p) (λ p. ((starts ∷ rest.0) ≢ []) × Follow (starts ∷ rest.0) p.sysno p.seq p.pos) list (λ p. (
+    just_same (λ p. Has starts p × HasWithin (words_between 1 1) places p) (λ p. ((starts ∷ rest.0) ≢ []) × Follow (starts ∷ rest.0) p.sysno p.seq p.pos) list (λ p. (
       λ has.
           let q = has.1.0 in
-          let at : q.pos ≡ 1 + p.pos = omega (arith, has.1.4, has.1.5) in
+          let at : q.pos ≡ 1 + p.pos = omega (arith, has.1.2.2, has.1.2.3.0, has.1.2.3.1) in
           let moved : Follow rest.0 p.sysno p.seq (1 + p.pos) = subst (λ (k : ℕ). Follow rest.0 p.sysno p.seq k) at
-          (subst (λ (s : ℕ). Follow rest.0 p.sysno s q.pos) has.1.3 (subst (λ (m : ℕ). Follow rest.0 m q.seq q.pos) has.1.2 (((rest.2.each q).0 has.1.1).1))) in
+          (subst (λ (s : ℕ). Follow rest.0 p.sysno s q.pos) has.1.2.1 (subst (λ (m : ℕ). Follow rest.0 m q.seq q.pos) has.1.2.0 (((rest.2.each q).0 has.1.1).1))) in
           (some_list starts rest.0, (has.0, moved)),
       λ run.
           let q : Posting = record { sysno = p.sysno; seq = p.seq; pos = 1 + p.pos } in
-          (run.1.0, (q, (rest.2.each q).1 ((some_read patterns rest.0 rest.1).0 some, run.1.1), refl, refl, omega arith, omega arith)),
+          (run.1.0, (q, (rest.2.each q).1 ((some_read patterns rest.0 rest.1).0 some, run.1.1), (refl, refl, omega arith, (omega arith, omega arith)))),
     )) joined,
   )
 

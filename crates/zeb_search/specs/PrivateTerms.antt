@@ -1,6 +1,6 @@
 -- What only the contracts of private functions speak of; no public clause reaches it.
 -- The terms that one step of a search asks for.
-use Rattle.std.specs.Prelude.{◌≡◌, ◌↔◌, ◌⊎◌, ◌+◌, ◌++◌, ◌≤◌, ℕ, IsTrue, List, [], ◌∷◌, Option, Some, None, String, length, string_bytes}
+use Rattle.std.specs.Prelude.{◌≡◌, ◌↔◌, ◌⊎◌, ◌++◌, ◌≤◌, ℕ, IsTrue, List, [], ◌∷◌, Option, Some, None, String, length, string_bytes}
 use Rattle.std.specs.declared.alloc.Global.{Global}
 use Rattle.sqlite_rules.specs.Lists.{Has}
 use Rattle.zeb_keys.specs.declared.Register.{Register}
@@ -85,8 +85,3 @@ EndsAt wanted end = (term : List ℕ) → IsWanted wanted term → ¬ Precedes e
 abbrev pub LeadsTo : Wanted → List TermCount → Option (String Global) → Type 0
 LeadsTo wanted page None = (page ≡ []) ⊎ ((t : TermCount) × Has page t × EndsAt wanted t.term)
 LeadsTo wanted page (Some next) = (front : List TermCount) × (t : TermCount) × (page ≡ front ++ t ∷ []) × (string_bytes next ≡ t.term ++ 0 ∷ [])
-
--- another posting stands behind it in the same unit, at a distance of so many words
-abbrev pub HasBehind : (least greatest : ℕ) → List Posting → Posting → Type 0
-HasBehind least greatest others p =
-    (q : Posting) × Has others q × (q.sysno ≡ p.sysno) × (q.seq ≡ p.seq) × (p.pos + least ≤ q.pos) × (q.pos ≤ p.pos + greatest)

@@ -9,7 +9,6 @@ ghost use Rattle.zeb_search.specs.Finds.{HasPosting};
 ghost use Rattle.zeb_search.specs.Holds.{AreJoined};
 ghost use Rattle.zeb_search.specs.Lists.{AreNumbers};
 ghost use Rattle.zeb_search.specs.PrivateLists.{ArePostings};
-ghost use Rattle.zeb_search.specs.PrivateTerms.{HasBehind};
 ghost use Rattle.zeb_search.specs.PrivateWalks.{HasWithin, IsBefore, IsBehind, IsWithin, words_between, words_from};
 
 use std::alloc::{AllocError, Global};
@@ -215,21 +214,4 @@ pub(crate) fn with_one_within(
         }
     }
     Ok(list)
-}
-
-/// Those of the postings behind which another one stands in the same unit, at a distance of `least` to `greatest` words, in one walk
-/// over both lists, which rise.
-pub(crate) fn with_one_behind(
-    alloc: Global,
-    postings: &[Posting],
-    others: &[Posting],
-    least: u64,
-    greatest: u64,
-) -> Result<Vec<Posting>, AllocError>
-    ensures { IsStrictlySortedBy posting_cmp postings.now
-        → IsStrictlySortedBy posting_cmp others.now
-        → IfOk result (λ list. ArePostings (λ p. Has postings.now p
-        × HasBehind least greatest others.now p) list.items) }
-{
-    with_one_within(alloc, postings, others, Words::between(least, greatest))
 }

@@ -10,7 +10,7 @@ ghost use Rattle.zeb_search.specs.SearchCounts.{HasNoStar};
 ghost use Rattle.zeb_search.specs.Untouched.{IsUntouched};
 ghost use Rattle.zeb_search.specs.PrivateFinds.{FindsEntry, FindsTerm, ReadsPhrases};
 
-use crate::lists::{joined, numbers_of, with_one_behind};
+use crate::lists::{Words, joined, numbers_of, with_one_within};
 use crate::postings::{numbers_wanted, places_of_words};
 use crate::registers::IndexOf;
 use crate::terms::Wanted;
@@ -161,7 +161,7 @@ fn places_of_phrase<S: Alter, L: Layout>(
     let mut places = places_of_words::<S, L>(alloc, connection, work, of, last)?;
     while let Some((pattern, before)) = others.split_last() {
         let starts = places_of_words::<S, L>(alloc, connection, work, of, pattern)?;
-        places = with_one_behind(alloc, &starts, &places, 1, 1)?;
+        places = with_one_within(alloc, &starts, &places, Words::between(1, 1))?;
         others = before;
     }
     Ok(places)

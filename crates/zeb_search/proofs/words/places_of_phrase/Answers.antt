@@ -1,4 +1,4 @@
-use Rattle.zeb_search.proofs.Cited.{rules, ◌≡◌, ◌∙◌, ◌++◌, ◌∷◌, [], List, Ok, Err, Vec, Global, ap, inl, refl, subst, sym, append_assoc, append_cancel_left, has_right, state, Trees, Has, Symbol, Posting, PlacesFound, ReadsWord, CountedWords, IsStrictlySortedBy, posting_cmp}
+use Rattle.zeb_search.proofs.Cited.{rules, ◌≡◌, ◌∙◌, ◌++◌, ◌∷◌, [], List, Ok, Err, Vec, Global, ap, inl, refl, subst, sym, append_assoc, append_cancel_left, has_right, state, Trees, Has, Symbol, Posting, Words, ArePostings, HasWithin, PlacesFound, ReadsWord, CountedWords, IsStrictlySortedBy, posting_cmp}
 use Rattle.zeb_search.proofs.PlanLemmas.{no_patterns, some_patterns}
 use Rattle.zeb_search.proofs.ReadLemmas.{accepted, accepted_then, as_read, clean_before, read_then, refused}
 use Rattle.zeb_search.proofs.WordCalls.{Reads, places_later, word_refused}
@@ -38,7 +38,8 @@ loop-pattern-preserved g c =
             let starts = subst (ReadsWord format old.now.trees db index pattern) of_starts here.0 in
             let rises = subst (IsStrictlySortedBy posting_cmp) of_starts here.1 in
             let places = subst (PlacesFound format old.now.trees db index rest) of_places (c.loop-pattern.invariant.behind.3 (clean_before now new crash clean) store) in
-            place_before format old.now.trees db index pattern rest c.deref.result.now c.deref-in-Some-split_last.result.now c.in_ok-places-2.places.items c.loop-pattern.invariant.behind.1 starts places (c.in_ok-places-2.ensures rises places.2.rising),
+            place_before format old.now.trees db index pattern rest c.deref.result.now c.deref-in-Some-split_last.result.now c.in_ok-places-2.places.items c.loop-pattern.invariant.behind.1 starts places
+            (subst (λ (next : Words). ArePostings (λ p. Has c.deref.result.now p × HasWithin next c.deref-in-Some-split_last.result.now p) c.in_ok-places-2.places.items) c.between.ensures (c.in_ok-places-2.ensures rises places.2.rising)),
       );
       counted = λ behind is.
           let same : pattern ∷ rest ≡ behind = append_cancel_left before (pattern ∷ rest) behind (sym joined ∙ is) in
