@@ -23,7 +23,7 @@ use sqlite::{Alter, Connection};
 use std::alloc::Global;
 use zeb_keys::Register;
 use zeb_query::{NearPlan, Plan, TermPlan};
-use zeb_register::{DatabaseId, Layout, RegFault, RegisterOf, Work, ident_of};
+use zeb_register::{DatabaseId, Layout, RegFault, Work, ident_of};
 
 /// The numbers of the records of a database on which a plan holds, rising and each once, whatever rows the tables have. The units of the
 /// entries decide that the plan asks for, and of a system number that it names whether a record has it. Stray entries may be read with
@@ -65,28 +65,24 @@ fn term_hits<S: Alter, L: Layout>(
     alloc: Global,
     connection: &mut Connection<S>,
     work: &mut Work,
-    database: DatabaseId,
+    db: DatabaseId,
     term: &TermPlan,
 ) -> Result<Vec<u64>, RegFault>
     requires { HasSmallNumber (term_plan_value term.now) }
     ensures call { ReadingOf S.Store connection.old connection.new result (λ _. IsUntouched) }
-    ensures units { FindsTerm L.format database.0 (term_plan_value term.now)
+    ensures units { FindsTerm L.format db.0 (term_plan_value term.now)
         (state S.Store connection.old) (state S.Store connection.new) result }
     ensures work { OnOk result (CountsByContent L.format
-        (λ content. TermDict L.row_work content database.0 (term_plan_value term.now))
-        (λ content. TermRows L.block_rows content database.0 (term_plan_value term.now))
+        (λ content. TermDict L.row_work content db.0 (term_plan_value term.now))
+        (λ content. TermRows L.block_rows content db.0 (term_plan_value term.now))
         (state S.Store connection.old) (state S.Store connection.new) work.old work.new) }
     ensures no_work { L.row_work ≡ 0 → work.new ≡ work.old }
 {
     match term {
-        TermPlan::RecordNumber(number) => record_hits(alloc, connection, database, *number as u64),
+        TermPlan::RecordNumber(number) => record_hits(alloc, connection, db, *number as u64),
         TermPlan::NoWords { .. } => Ok(Vec::new(alloc)),
         TermPlan::Always { index, register } => {
-            let of = RegisterOf {
-                db: database,
-                index: *index,
-                register: *register,
-            };
+            let of = IndexOf::new(db, *index).register(*register);
             numbers_wanted::<S, L>(alloc, connection, work, of, Wanted::All)
         }
         TermPlan::Number {
@@ -94,11 +90,7 @@ fn term_hits<S: Alter, L: Layout>(
             relation,
             number,
         } => {
-            let of = RegisterOf {
-                db: database,
-                index: *index,
-                register: Register::Number,
-            };
+            let of = IndexOf::new(db, *index).register(Register::Number);
             let wanted = Wanted::Number(*relation, *number);
             numbers_wanted::<S, L>(alloc, connection, work, of, wanted)
         }
@@ -108,20 +100,11 @@ fn term_hits<S: Alter, L: Layout>(
             relation,
             start,
         } => {
-            let of = RegisterOf {
-                db: database,
-                index: *index,
-                register: *register,
-            };
-            let wanted = Wanted::Text(*relation, start.as_str());
-            numbers_wanted::<S, L>(alloc, connection, work, of, wanted)
+            let of = IndexOf::new(db, *index).register(*register);
+            numbers_wanted::<S, L>(alloc, connection, work, of, Wanted::Text(*relation, start))
         }
         TermPlan::Complete { index, pattern } => {
-            let of = RegisterOf {
-                db: database,
-                index: *index,
-                register: Register::Phrase,
-            };
+            let of = IndexOf::new(db, *index).register(Register::Phrase);
             numbers_wanted::<S, L>(alloc, connection, work, of, Wanted::Matching(pattern))
         }
         TermPlan::Phrase {
@@ -129,25 +112,14 @@ fn term_hits<S: Alter, L: Layout>(
             patterns,
             first,
         } => {
-            let of = IndexOf {
-                db: database,
-                index: *index,
-            };
-            phrase_hits::<S, L>(alloc, connection, work, of, patterns.as_slice(), *first)
+            let of = IndexOf::new(db, *index);
+            phrase_hits::<S, L>(alloc, connection, work, of, patterns, *first)
         }
         TermPlan::AllWords { index, patterns } => {
-            let of = IndexOf {
-                db: database,
-                index: *index,
-            };
-            all_words_hits::<S, L>(alloc, connection, work, of, patterns.as_slice())
+            all_words_hits::<S, L>(alloc, connection, work, IndexOf::new(db, *index), patterns)
         }
         TermPlan::AnyWord { index, patterns } => {
-            let of = IndexOf {
-                db: database,
-                index: *index,
-            };
-            any_word_hits::<S, L>(alloc, connection, work, of, patterns.as_slice())
+            any_word_hits::<S, L>(alloc, connection, work, IndexOf::new(db, *index), patterns)
         }
     }
 }

@@ -18,7 +18,7 @@ use sqlite::{Alter, Connection};
 use std::alloc::{AllocError, Global};
 use zeb_keys::Register;
 use zeb_query::Operator;
-use zeb_register::{Layout, Posting, RegFault, RegisterOf, Work};
+use zeb_register::{Layout, Posting, RegFault, Work};
 use zeb_text::Pattern;
 
 /// The records in which the pattern matches some word.
@@ -38,11 +38,7 @@ fn word_hits<S: Alter, L: Layout>(
         (state S.Store connection.old) (state S.Store connection.new) work.old work.new) }
     ensures no_work { L.row_work ≡ 0 → work.new ≡ work.old }
 {
-    let words = RegisterOf {
-        db: of.db,
-        index: of.index,
-        register: Register::Word,
-    };
+    let words = of.register(Register::Word);
     numbers_wanted::<S, L>(alloc, connection, work, words, Wanted::Matching(pattern))
 }
 
