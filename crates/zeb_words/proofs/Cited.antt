@@ -38,7 +38,7 @@ pub use Rattle.std.specs.Str.Parse.{IsNumeral, digits_value, starts_with_minus, 
 pub use Rattle.zeb_image.specs.NameOf.{name_bytes}
 pub use Rattle.zeb_words.specs.Grammar.{Argument, HasOnly, IsNumberOr, Part, arguments, values_of, Flag, flag as alone, Option as Named, Setting, Config, Database, Given, IsOneOr, Shows, databases, files, shown, IsPlain, Says, Spells, apart, argument, by_equals, joined, none, nothing, option_by_equals, shows_and, option as named, SaysNumber, Key, letter, shows, ended}
 pub use Rattle.zeb_words.specs.Names.{Asks, NumberOption, choice_parts, NamesAct, NamesWords, Meaning, ToAdelete, ToBatch, ToCheck, ToCreate, ToDelete, ToDrop, ToDump, ToFind, ToInit, ToReindex, ToScan, ToShell, ToStat, ToUpdate, ToUpgrade, WordsNameOneCommand, meaning, NamesNone}
-pub use Rattle.zeb_words.specs.Parses.{IsNumberRead, text_or, IsChoiceRead, IsFlagRead, founding_app, program_app, changing_app, find_app, naming_app, scan_app, IsActRead, IsParsedAs, path_texts, AreBad, IsFlagText, IsPast, help_word, IsReadFrom, path_rule, number_rule, name_rule, and_sub}
+pub use Rattle.zeb_words.specs.Parses.{IsNumberRead, text_or, IsChoiceRead, IsFlagRead, founding_app, program_app, changing_app, find_app, naming_app, scan_app, IsActRead, IsParsedAs, path_texts, IsPast, help_word, IsReadFrom, path_rule, number_rule, name_rule, and_sub}
 pub use Rattle.zeb_words.specs.Misuses.{IsMisuseOf, IsRefusedAs, TakesNoName}
 pub use Rattle.zeb_words.specs.PrivateParses.{IsHelp, IsMisusedAct, IsMisusedName, IsUsageOf, Misuses}
 pub use Rattle.zeb_words.specs.declared.misuses.Misuse.{Misuse}

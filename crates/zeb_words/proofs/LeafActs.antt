@@ -1,9 +1,9 @@
 -- What the words behind a command say of it.
-use Rattle.zeb_words.proofs.Cited.{◌≡◌, ◌≢◌, ◌∙◌, Bool, refl, sym, ap, subst, List, [], ◌∷◌, ◌++◌, Some, None, codes, true, false, map, unwrap_or, append_assoc, append-nil, Row, Text, all_of, rows_after, check_fault, AsWritten, CommandLine, Argument, Flag, Part, Says, arguments, Named, text_or, IsChoiceRead, IsFlagText, LayoutChoice, Leaves, Option, Unsaid, None, choice_parts, inl, inr, one_of}
+use Rattle.zeb_words.proofs.Cited.{◌≡◌, ◌≢◌, ◌∙◌, Bool, refl, sym, ap, subst, List, [], ◌∷◌, ◌++◌, Some, None, codes, true, false, map, unwrap_or, append_assoc, append-nil, Row, Text, all_of, rows_after, check_fault, AsWritten, CommandLine, Argument, Flag, Part, Says, arguments, Named, text_or, IsChoiceRead, LayoutChoice, Leaves, Option, Unsaid, None, choice_parts, inl, inr, one_of}
 use Rattle.clap.specs.declared.error.kind.ErrorKind.TheVariants as kind
 use Rattle.zeb_words.proofs.Leaf.{Bare, Changing, Fits, Founding, Naming, clash, leaves, plain_leaf, rules, uses}
 use Rattle.zeb_words.proofs.LeafRead.{Own, finished, own_fault, taken}
-use Rattle.zeb_words.proofs.ReadingLemmas.{same_flag}
+use Rattle.zeb_words.proofs.ReadingLemmas.{IsFlagText, same_flag}
 
 -- ---- commands without options
 

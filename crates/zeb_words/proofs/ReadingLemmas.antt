@@ -1,5 +1,5 @@
 -- What is read of a match.
-use Rattle.zeb_words.proofs.Cited.{◌≡◌, ℕ, ◌<◌, ◌^◌, List, [], inl, inr, Option, Some, None, Result, Ok, Err, sym, subst, ap, ◌∙◌, Bool, true, false, codes, unwrap_or, Bor, IsNumeral, ParsesUnsigned, digits_value, without_leading_plus, ReadsOne, fault_of, Row, one_of, matches_of, subcommand_of, HasKind, kind_of, Error, DisplayHelp, DisplayVersion, OutOfMemory, Usage, BadUsage, Refused, Help, Memory, Misuse, Name, PastNumber, ShowsElsewhere, NoCommand, ◌≢◌, help_word, IsHelp, IsMisuseOf, IsMisusedAct, Misuses, AreBad, IsActRead, IsFlagRead, IsFlagText, IsNumberRead, IsRefusedAs, program_app, IsUsageOf, option_map, Act, Create, Drop, Update, TakesNoName, bytes_eq, rules}
+use Rattle.zeb_words.proofs.Cited.{◌≡◌, ℕ, ◌<◌, ◌^◌, List, [], inl, inr, Option, Some, None, Result, Ok, Err, sym, subst, ap, ◌∙◌, Bool, true, false, codes, unwrap_or, Bor, IsNumeral, ParsesUnsigned, digits_value, without_leading_plus, ReadsOne, fault_of, Row, one_of, matches_of, subcommand_of, HasKind, kind_of, Error, DisplayHelp, DisplayVersion, OutOfMemory, Usage, BadUsage, Refused, Help, Memory, Misuse, Name, PastNumber, ShowsElsewhere, NoCommand, ◌≢◌, help_word, IsHelp, IsMisuseOf, IsMisusedAct, Misuses, IsActRead, IsFlagRead, IsNumberRead, IsPast, IsReadFrom, IsRefusedAs, Words, ◌⊎◌, program_app, IsUsageOf, option_map, Act, Create, Drop, Update, TakesNoName, bytes_eq, rules}
 use Rattle.std.proofs.Common.{◌≤◌, ◌∷◌, arith, length, map, refl, slice_index_or, string_bytes}
 use Rattle.std.specs.Prelude.{String}
 use Rattle.zeb_image.specs.Names.{IsDatabaseName}
@@ -46,6 +46,10 @@ pair_parts {A = A} {B = B} a b x y e =
     let same : ◌≡◌ {A = A × B} (a, x) (b, y) = cc in
     (ap (λ (p : A × B). p.0) same, ap (λ (p : A × B). p.1) same)
 
+-- a flag is set or not
+abbrev pub IsFlagText : Option (List ℕ) → Type 0
+IsFlagText read = (read ≡ Some (codes "true")) ⊎ (read ≡ Some (codes "false"))
+
 pub same_flag : (read : Option (List ℕ)) (a b : Bool) → IsFlagText read → IsFlagRead read a → IsFlagRead read b → a ≡ b
 same_flag read a b (inl e) one two = one.yes e ∙ sym (two.yes e)
 same_flag read a b (inr e) one two = one.no e ∙ sym (two.no e)
@@ -64,24 +68,25 @@ not_elsewhere name shows rows _ shown other is = cc
 not_none : (name : List ℕ) (shows : Bool) (rows : List Row) (act : Act) → IsNoCommand name → IsActRead name shows rows act → ⊥
 not_none name shows rows _ lacks is = search rules
 
--- of words with such a cause no command is read
-pub bad_words : (rows : List Row) (sub : Option (List ℕ × List Row)) (misuse : Misuse) → IsMisuseOf misuse rows sub → AreBad rows sub
-bad_words rows sub PastNumber bad = inr bad
-bad_words rows sub Name (inl bad) = inl (λ flag named r. bad (subst IsDatabaseName r.database named.database.named))
-bad_words rows sub Name (inr (word, given, is, bad)) = inl (λ flag named r.
+-- no command is read of matches with such a cause, where -s is set or not and no position of a scan is past its number of terms
+pub none_read : (rows : List Row) (sub : Option (List ℕ × List Row)) (misuse : Misuse) (named : Words) → IsFlagText (one_of (codes "shows") rows) → IsReadFrom rows sub named
+    → ((given : List Row) → ◌≡◌ {A = Option (List ℕ × List Row)} sub (Some (codes "scan", given)) → IsPast given → ⊥) → IsMisuseOf misuse rows sub → ⊥
+none_read rows sub PastNumber named flag r never (given, is, past) = never given is past
+none_read rows sub Name named flag r never (inl bad) = bad (subst IsDatabaseName r.database named.database.named)
+none_read rows sub Name named flag r never (inr (word, given, is, bad)) =
     let same = pair_parts r.name word r.given given (sym r.is ∙ is) in
-    not_named r.name r.shows r.given named.act (subst (λ w. TakesNoName w r.given) (sym same.0) (subst (TakesNoName word) (sym same.1) bad)) r.act)
-bad_words rows sub ShowsElsewhere (set, (word, given, is, other)) = inl (λ flag named r.
+    not_named r.name r.shows r.given named.act (subst (λ w. TakesNoName w r.given) (sym same.0) (subst (TakesNoName word) (sym same.1) bad)) r.act
+none_read rows sub ShowsElsewhere named flag r never (set, (word, given, is, other)) =
     let same = pair_parts r.name word r.given given (sym r.is ∙ is) in
-    not_elsewhere r.name r.shows r.given named.act (same_flag (one_of (codes "shows") rows) r.shows true flag r.flagged set) (λ e. other (sym same.0 ∙ e)) r.act)
-bad_words rows sub NoCommand (inl none) = inl (λ flag named r. let is : ◌≡◌ {A = Option (List ℕ × List Row)} None (Some (r.name, r.given)) = sym none ∙ r.is in cc)
-bad_words rows sub NoCommand (inr (word, given, is, lacks)) = inl (λ flag named r.
+    not_elsewhere r.name r.shows r.given named.act (same_flag (one_of (codes "shows") rows) r.shows true flag r.flagged set) (λ e. other (sym same.0 ∙ e)) r.act
+none_read rows sub NoCommand named flag r never (inl none) = let is : ◌≡◌ {A = Option (List ℕ × List Row)} None (Some (r.name, r.given)) = sym none ∙ r.is in cc
+none_read rows sub NoCommand named flag r never (inr (word, given, is, lacks)) =
     let same = pair_parts r.name word r.given given (sym r.is ∙ is) in
-    not_none r.name r.shows r.given named.act (subst IsNoCommand (sym same.0) lacks) r.act)
+    not_none r.name r.shows r.given named.act (subst IsNoCommand (sym same.0) lacks) r.act
 
 pub own_refused : (words : List (List ℕ)) (usage : Usage) → fault_of program_app words ≡ []
     → OwnRefusal (matches_of program_app words) (subcommand_of program_app words) usage → IsRefusedAs words usage
-own_refused words (BadUsage misuse) sound why = (sound, bad_words (matches_of program_app words) (subcommand_of program_app words) misuse why, why)
+own_refused words (BadUsage misuse) sound why = (sound, why)
 own_refused words Memory sound why = tt
 own_refused words _ sound why = absurd why
 

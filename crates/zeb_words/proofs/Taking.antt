@@ -1,10 +1,10 @@
 -- Words that name a command are taken by the parser, and read as it.
-use Rattle.zeb_words.proofs.Cited.{ℕ, Option, ◌≡◌, ◌∙◌, ◌⊎◌, inl, inr, Bool, refl, sym, ap, ap₂, subst, List, [], ◌∷◌, Some, None, codes, true, false, map, cond, arith, ◌≤◌, string_bytes, unwrap_or, slice_get, bytes_eq, bytes_eq-Decides, Row, Text, has_row, one_of, rows_after, with_default, App, built, entered, matches_of, subcommand_of, check_fault, default_fault, entered_fault, fault_of, or_else, name_bytes, Config, Database, Given, IsOneOr, Setting, Shows, databases, files, shown, NamesAct, NamesNone, NamesWords, AreBad, IsActRead, IsChoiceRead, LayoutChoice, Unsaid, IsFlagRead, IsFlagText, IsNumberRead, IsPast, IsReadFrom, IsRefusedAs, UnknownArgument, Refused, Help, help_word, path_texts, program_app, text_or, Words, Usage, BadUsage, Memory, IsAmong, Act, Init, Create, Drop, Update, Delete, Adelete, Stat, Dump, Check, Reindex, Upgrade, Find, Scan, Batch, Shell, is_some}
+use Rattle.zeb_words.proofs.Cited.{ℕ, Option, ◌≡◌, ◌∙◌, ◌⊎◌, inl, inr, Bool, refl, sym, ap, ap₂, subst, List, [], ◌∷◌, Some, None, codes, true, false, map, cond, arith, ◌≤◌, string_bytes, unwrap_or, slice_get, bytes_eq, bytes_eq-Decides, Row, Text, has_row, one_of, rows_after, with_default, App, built, entered, matches_of, subcommand_of, check_fault, default_fault, entered_fault, fault_of, or_else, name_bytes, Config, Database, Given, IsOneOr, Setting, Shows, databases, files, shown, NamesAct, NamesNone, NamesWords, IsActRead, IsChoiceRead, LayoutChoice, Unsaid, IsFlagRead, IsMisuseOf, IsNumberRead, IsPast, IsReadFrom, IsRefusedAs, UnknownArgument, Refused, Help, help_word, path_texts, program_app, text_or, Words, Misuse, Usage, BadUsage, Memory, IsAmong, Act, Init, Create, Drop, Update, Delete, Adelete, Stat, Dump, Check, Reindex, Upgrade, Find, Scan, Batch, Shell, is_some}
 use Rattle.clap.proofs.OnLiterals.{clap_on_literals}
 use Rattle.clap.specs.Faults.{defaults_fault}
 use Rattle.clap.specs.declared.error.kind.ErrorKind.TheVariants.{InvalidSubcommand}
 use Rattle.zeb_words.specs.Names as names
-use Rattle.zeb_words.proofs.ReadingLemmas.{pair_parts}
+use Rattle.zeb_words.proofs.ReadingLemmas.{IsFlagText, none_read, pair_parts}
 use Rattle.zeb_words.proofs.Items.{AllItems, AtMostOne, Once, most_once, row, values}
 use Rattle.zeb_words.proofs.Leads.{none_of_both}
 use Rattle.zeb_words.proofs.Uses.{no_clash, rows_are}
@@ -220,16 +220,11 @@ no_default_fault rows =
 abbrev app : App
 app = built program_app
 
-bad_none : (rows : List Row) (sub : Option (Text × List Row)) (named : Words) → IsFlagText (one_of (codes "shows") rows) → IsReadFrom rows sub named
-    → ((given : List Row) → ◌≡◌ {A = Option (Text × List Row)} sub (Some (codes "scan", given)) → IsPast given → ⊥) → AreBad rows sub → ⊥
-bad_none rows sub named flag read never (inl none) = none flag named read
-bad_none rows sub named flag read never (inr past) = never past.0 past.1 past.2
-
 -- words that name a command are taken, and read as it
 pub record TakenWords (words : List Text) (named : Words) : Type 0 where
   pub fault : fault_of program_app words ≡ []
   pub read : IsReadFrom (matches_of program_app words) (subcommand_of program_app words) named
-  pub never : AreBad (matches_of program_app words) (subcommand_of program_app words) → ⊥
+  pub never : (misuse : Misuse) → IsMisuseOf misuse (matches_of program_app words) (subcommand_of program_app words) → ⊥
   pub flag : IsFlagText (one_of (codes "shows") (matches_of program_app words))
   pub m : ℕ
   pub n : ℕ
@@ -264,7 +259,7 @@ names_taken words named n =
       is = sub;
       act = t.read;
     } in
-    let never = bad_none (matches_of program_app words) (subcommand_of program_app words) named (subst IsFlagText (sym flag_is) (flag_text (shown n.settings))) read
+    let never = λ (misuse : Misuse). none_read (matches_of program_app words) (subcommand_of program_app words) misuse named (subst IsFlagText (sym flag_is) (flag_text (shown n.settings))) read
     (λ given is past.
     let same = pair_parts n.command (codes "scan") (rows_after (rules t.l) [] n.behind) given (sym sub ∙ is) in
     never_past n.command n.behind n.shows named.act n.act same.0 (subst IsPast (sym same.1) past)) in
@@ -295,7 +290,7 @@ no_command sound =
 
 -- so words that are refused name none
 pub none_named : (words : List Text) (usage : Usage) → IsRefusedAs words usage → NamesNone words usage
-none_named words (BadUsage misuse) refused = λ named n. (names_taken words named n).never refused.1
+none_named words (BadUsage misuse) refused = λ named n. (names_taken words named n).never misuse refused.1
 none_named words Memory refused = tt
 none_named words (Refused text) refused = λ named n. subst (IsAmong refused.0.0) (names_taken words named n).fault refused.0.1
 none_named words (Help text) (inl asked) = λ named n. subst (IsAmong asked.0) (names_taken words named n).fault asked.1

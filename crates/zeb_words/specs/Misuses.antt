@@ -4,7 +4,7 @@ use Rattle.zeb_image.specs.Names.{IsDatabaseName}
 use Rattle.clap.specs.Walk.{Row, Text, one_of}
 use Rattle.clap.specs.Simple.{matches_of, subcommand_of}
 use Rattle.clap.specs.Faults.{fault_of}
-use Rattle.zeb_words.specs.Parses.{AreBad, HasMistake, HasRequest, IsFlagRead, IsPast, help_word, program_app, text_or}
+use Rattle.zeb_words.specs.Parses.{HasMistake, HasRequest, IsFlagRead, IsPast, help_word, program_app, text_or}
 use Rattle.zeb_words.specs.declared.misuses.Misuse.{Misuse}
 use Rattle.zeb_words.specs.declared.misuses.Misuse.TheVariants.{Name, PastNumber, ShowsElsewhere, NoCommand}
 use Rattle.zeb_words.specs.declared.words.Usage.{Usage}
@@ -40,8 +40,7 @@ IsMisuseOf NoCommand rows sub = (sub ≡ None) ⊎ ((word : Text) × (given : Li
 -- they ask for one; and by the program itself only where the parser takes them, for a cause that its matches have.
 abbrev pub IsRefusedAs : List Text → Usage → Type 0
 IsRefusedAs words (BadUsage misuse) =
-    (fault_of program_app words ≡ []) × AreBad (matches_of program_app words) (subcommand_of program_app words)
-    × IsMisuseOf misuse (matches_of program_app words) (subcommand_of program_app words)
+    (fault_of program_app words ≡ []) × IsMisuseOf misuse (matches_of program_app words) (subcommand_of program_app words)
 IsRefusedAs words (Refused text) = HasMistake (fault_of program_app words) × (words ≢ help_word)
 IsRefusedAs words (Help text) = HasRequest (fault_of program_app words) ⊎ (words ≡ help_word)
 IsRefusedAs words Memory = ⊤

@@ -180,14 +180,6 @@ pub record IsPast (rows : List Row) : Type 0 where
   pub position_read : IsNumberRead (one_of (codes "position") rows) 1 position
   pub past : number < position
 
--- a flag is set or not
-abbrev pub IsFlagText : Option Text → Type 0
-IsFlagText read = (read ≡ Some (codes "true")) ⊎ (read ≡ Some (codes "false"))
-
--- of these matches, whether -s is set or not, no command is read; or they are of a scan whose position is past its number of terms
-abbrev pub AreBad : List Row → Option (Text × List Row) → Type 0
-AreBad rows sub = (IsFlagText (one_of (codes "shows") rows) → (named : Words) → IsReadFrom rows sub named → ⊥) ⊎ ((given : List Row) × (sub ≡ Some (codes "scan", given)) × IsPast given)
-
 -- what the parser finds is no fault, but that help or the version is asked for
 abbrev pub IsRequest : ErrorKind → Type 0
 IsRequest kind = (kind ≡ DisplayHelp) ⊎ (kind ≡ DisplayVersion)
