@@ -70,36 +70,21 @@ fn first_name(path: &str) -> &str
 fn file_at<'a>(files: &'a [Shelved<'a>], path: &str) -> Option<&'a Shelved<'a>>
     ensures { option_map (λ file. file.now) result ≡ first_at files.now path.now }
 {
-    for file in files {
-        if file.path == path {
-            return Some(file);
-        }
-    }
-    None
+    files.iter().find(|file| file.path == path)
 }
 
 /// Whether a file stands below a folder.
 fn has_below(files: &[Shelved<'_>], folder: &str) -> bool
     ensures { result ≡ list_any (λ file. is_some (below folder.now file.path.now)) files.now }
 {
-    for file in files {
-        if file.below(folder).is_some() {
-            return true;
-        }
-    }
-    false
+    files.iter().any(|file| file.below(folder).is_some())
 }
 
 /// Whether a name is among these.
 fn is_known(names: &[String], name: &str) -> bool
     ensures { result ≡ list_any (λ known. bytes_eq (string_bytes known) name.now) names.now }
 {
-    for known in names {
-        if known.as_str() == name {
-            return true;
-        }
-    }
-    false
+    names.iter().any(|known| known.as_str() == name)
 }
 
 /// Adds a name, unless it is there.
