@@ -229,7 +229,6 @@ fn opened(rt: &HostRuntime, path: &str) -> Progress<BufReader<fs::File>>
 fn read_in<R: Ask>(progress: &mut Progress<R>, buffer: &mut [u8]) -> Result<usize, ReadFailed>
     ensures bound { ReadsAtMost result buffer.new }
     ensures asked { AsksOpen R.asks progress.old result buffer.new progress.new }
-    ensures ended { progress.old ≡ Ended → (result ≡ Ok 0) × (progress.new ≡ Ended) }
 {
     match progress {
         Progress::Unopened => Err(ReadFailed),
