@@ -12,7 +12,8 @@ pub enum Command {
     Check,
     /// Puts the session's profile in the place of the register's, whose rule for identifiers it has to have, and makes the registers anew by it.
     Reindex,
-    /// Puts the session's layout in the place of another one, and makes the registers anew in it. Nothing changes where it is the session's.
+    /// Puts the session's layout in the place of an earlier one, and makes the registers anew in it. Nothing changes where it is the session's;
+    /// a register of a later version, or of one that isn't known, is refused.
     Upgrade,
     /// Makes an empty database of this name; `Exists` where there is one.
     Create(DbName),
