@@ -193,7 +193,6 @@ fn found_for<S: Alter, L: Layout>(
     name: &DbName,
 ) -> Result<Option<Database>, Refusal>
     requires idle { connection.old.in_transaction ≡ false }
-    ensures idle { connection.new.in_transaction ≡ false }
     ensures reads { ReadsAlone S.Store connection.old connection.new result }
     ensures unread { NoReadFault result }
     ensures finds { OnStoreOf S.Store connection.old connection.new

@@ -36,7 +36,6 @@ pub(crate) fn check_ready<S: Alter, L: Layout>(
     profile: &Profile,
 ) -> Result<(), Refusal>
     requires idle { connection.old.in_transaction ≡ false }
-    ensures idle { connection.new.in_transaction ≡ false }
     ensures looks { LooksReady S.Store (version_of L.format) profile.now connection.old
         connection.new result }
 {

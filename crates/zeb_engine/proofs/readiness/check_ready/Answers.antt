@@ -2,8 +2,8 @@ use Rattle.zeb_engine.proofs.Cited.{IsTrue, IsUtf8, rules, state, subst, sym, ve
 use Rattle.zeb_engine.proofs.LookedReady.{look_held, texts_told, texts_whole}
 use Rattle.zeb_engine.proofs.readiness.check_ready.Goals as goal
 
-pub returns-clause-looks : goal.returns-clause-looks
-returns-clause-looks g c =
+pub returns : goal.returns
+returns g c =
     let idle : IsTrue c.is_autocommit-settled.result = search rules in
     let done = c.check_texts.ensures in
     let old = state g.S.Store c.args.connection.now in
@@ -11,10 +11,12 @@ returns-clause-looks g c =
     let profile = c.args.profile.now in
     let result = c.check_texts.result in
     record {
-      settled = λ is_open. sym (c.is_autocommit-settled.ensures.settled idle is_open);
-      reads = record { idle = done.idle; same = λ clean. (done.look clean).same; opened = λ clean. (done.look clean).found; crash = done.crash; caused = λ clean. (done.look clean).caused };
-      texts = λ clean. texts_told version profile old result (done.look clean).told;
-      held = λ clean limits before keeps. look_held version profile limits old (state g.S.Store c.check_texts.new.connection) before keeps result (done.look clean);
-      few = done.few;
-      whole = λ clean. texts_whole version profile old result (done.look clean).told (subst IsUtf8 c.version-version.ensures c.version-version.utf8) (subst IsUtf8 c.text-text.ensures c.text-text.utf8);
+      looks = record {
+        settled = λ is_open. sym (c.is_autocommit-settled.ensures.settled idle is_open);
+        reads = record { idle = done.idle; same = λ clean. (done.look clean).same; opened = λ clean. (done.look clean).found; crash = done.crash; caused = λ clean. (done.look clean).caused };
+        texts = λ clean. texts_told version profile old result (done.look clean).told;
+        held = λ clean limits before keeps. look_held version profile limits old (state g.S.Store c.check_texts.new.connection) before keeps result (done.look clean);
+        few = done.few;
+        whole = λ clean. texts_whole version profile old result (done.look clean).told (subst IsUtf8 c.version-version.ensures c.version-version.utf8) (subst IsUtf8 c.text-text.ensures c.text-text.utf8);
+      };
     }

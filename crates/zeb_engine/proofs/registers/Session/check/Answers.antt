@@ -29,7 +29,7 @@ returns-in_err-is_image-clause-done g c =
     let answer : Result Reply Refusal = Err (register_refusal fault) in
     let told : c.from_residual-in_err-is_image.result ≡ answer = search rules in
     let failed = fault_fails fault (λ is. image.honest (ap Err is)) in
-    let reads = reads_after looked new answer (record { idle = call.idle c.check_ready.ensures.idle; same = λ clean. call.same clean c.check_ready.ensures.idle; opened = λ clean. tt; crash = call.crash; caused = λ clean store. fault_caused fault (λ is. image.refused clean store (ap Err is)) }) in
+    let reads = reads_after looked new answer (record { idle = call.idle looked.reads.idle; same = λ clean. call.same clean looked.reads.idle; opened = λ clean. tt; crash = call.crash; caused = λ clean store. fault_caused fault (λ is. image.refused clean store (ap Err is)) }) in
     rw told (check_done g.L.Layout.format g.L.Layout.row_work g.L.Layout.block_rows k reads (fault_reads fault) held.work held.work c.requires.fresh
     (λ clean before fits keeps. inr (failed, keeps_still before old (state g.S.Store new) (reads.same clean) keeps)) (texts_after looked new first answer (fault_never {T = Reply} fault)) (λ clean store texts. inr (inr failed)))
 
@@ -47,7 +47,7 @@ returns-then-branch-clause-done g c =
     let it = c.in_ok-is_image.field-0 in
     let yes : IsTrue it = search rules in
     let answer : Result Reply Refusal = Ok Done in
-    let reads = reads_after looked new answer (record { idle = call.idle c.check_ready.ensures.idle; same = λ clean. call.same clean c.check_ready.ensures.idle; opened = λ clean. let seen = call.ok clean in (seen.0, (seen.1 yes).0.is_open); crash = call.crash; caused = λ clean store. tt }) in
+    let reads = reads_after looked new answer (record { idle = call.idle looked.reads.idle; same = λ clean. call.same clean looked.reads.idle; opened = λ clean. let seen = call.ok clean in (seen.0, (seen.1 yes).0.is_open); crash = call.crash; caused = λ clean store. tt }) in
     check_done g.L.Layout.format g.L.Layout.row_work g.L.Layout.block_rows k reads (λ file is. cc) held.work held.work c.requires.fresh
     (λ clean. check_serves k old mid (state g.S.Store new) (λ before keeps. let at = held_behind looked new first held.limits clean before keeps in (at.0, at.1, at.2)) (reads.same clean))
     (texts_after looked new first answer (λ is. cc, λ is. cc, λ is. cc))
@@ -67,7 +67,7 @@ returns-else-branch-clause-done g c =
     let it = c.in_ok-is_image.field-0 in
     let no : it ≡ false = search rules in
     let answer : Result Reply Refusal = Err refusal.Damaged in
-    let reads = reads_after looked new answer (record { idle = call.idle c.check_ready.ensures.idle; same = λ clean. call.same clean c.check_ready.ensures.idle; opened = λ clean. tt; crash = call.crash; caused = λ clean store is. absurd cc }) in
+    let reads = reads_after looked new answer (record { idle = call.idle looked.reads.idle; same = λ clean. call.same clean looked.reads.idle; opened = λ clean. tt; crash = call.crash; caused = λ clean store is. absurd cc }) in
     check_done g.L.Layout.format g.L.Layout.row_work g.L.Layout.block_rows k reads (λ file is. cc) held.work held.work c.requires.fresh
     (λ clean. damage_serves k old mid (state g.S.Store new) (λ before keeps. let at = held_behind looked new first held.limits clean before keeps in (at.0, at.1, at.2)) (looked.reads.same (first clean)) it (image.value clean) no)
     (texts_after looked new first answer (λ is. cc, λ is. cc, λ is. cc))
