@@ -46,7 +46,6 @@ pub(crate) fn kept_version<S: Alter>(connection: &mut Connection<S>) -> Result<S
         RefusesVersion (state S.Store connection.old)
         (state S.Store connection.new) result }
     ensures few { IfErr result IsUnready }
-    ensures unread { NoReadFault result }
     ensures crash { CommitsNothing S.Store connection.old connection.new }
 {
     match meta_of(connection, VERSION)? {
@@ -67,7 +66,6 @@ pub(crate) fn keeps_text<S: Alter>(
         → IsLook (TellsText name.now text.now) (RefusesText name.now) (state S.Store connection.old)
         (state S.Store connection.new) result }
     ensures few { IfErr result IsUnready }
-    ensures unread { NoReadFault result }
     ensures crash { CommitsNothing S.Store connection.old connection.new }
 {
     match meta_of(connection, name)? {
