@@ -1,6 +1,7 @@
 -- A find, a scan and a stat on any tables of a store, step by step.
-use Rattle.zeb_engine.proofs.Cited.{◌≡◌, ◌⊎◌, ℕ, ℤ, List, length, map, Result, Ok, Err, string_bytes, refl, sym, ap, subst, inl, inr, Trees, Directive, QueryFault, Diagnostic, Memory, Fails, QueryValue, SpellsQuery, IsFaultOf, IsReadable, PlanValue, ScanValue, plan_of, scan_of, TermCount, HasDatabase, Refusal, query_refusal, Why, diagnostic, why_of, Meets, Reply, IsAsked, IsSaidOrMissed, OfDatabase, Answer, found, refused, scanned, IsFailure, TellsUnlessHidden, AreShown, IsAnsweredBy, IsPlannedBy, IsShown, asked_of, IsScannedBy, IsScanPlannedBy}
+use Rattle.zeb_engine.proofs.Cited.{◌≡◌, ◌⊎◌, ℕ, ℤ, List, length, map, Result, Ok, Err, string_bytes, refl, sym, ap, subst, inl, inr, Trees, Directive, QueryFault, Diagnostic, Memory, Fails, QueryValue, SpellsQuery, IsFaultOf, IsReadable, PlanValue, ScanValue, plan_of, scan_of, TermCount, HasDatabase, MissesDatabase, Refusal, query_refusal, Why, diagnostic, why_of, Meets, Reply, IsAsked, IsSaidOrMissed, OfDatabase, Answer, found, refused, scanned, IsFailure, TellsUnlessHidden, AreShown, HidesDatabase, IsAnsweredBy, IsPlannedBy, IsShown, asked_of, IsScannedBy, IsScanPlannedBy}
 use Rattle.zeb_change.specs.declared.refusals.Refusal.TheVariants as refusal
+use Rattle.zeb_engine.proofs.HiddenRows.{misses_hidden}
 
 -- ---- damage and failures
 
@@ -24,9 +25,13 @@ module _ (Tells : OfDatabase) (name : List ℕ) (Hides : Trees → Type 0) (tree
 
   module _ (readable : IsReadable text) where
     -- what is told of the database is told of the query
-    pub asked_over : (result : Result Reply Refusal) → TellsUnlessHidden (λ t. IsSaidOrMissed Tells name t) Hides trees result → AskedEnds result
+    asked_over : (result : Result Reply Refusal) → TellsUnlessHidden (λ t. IsSaidOrMissed Tells name t) Hides trees result → AskedEnds result
     asked_over result (inl told) = inl (inl (readable, told))
     asked_over result (inr other) = inr other
+
+    -- the database isn't found
+    pub missed_over : (IsReadable text × HidesDatabase name trees → Hides trees) → (why : Refusal) → IsFailure (refused (why_of why)) ⊎ MissesDatabase trees name why → AskedEnds (Err why)
+    missed_over hides why is = asked_over (Err why) (misses_hidden Tells name Hides trees (λ hidden. hides (readable, hidden)) why is)
 
     pub or_fails : (id last : ℤ) → HasDatabase trees id name last → (why : Refusal) → IsOrFails (Tells id last) why → AskedEnds (Err why)
     or_fails id last row why (inl is) = inl (inl (readable, inr (id, last, row, is)))

@@ -2,7 +2,7 @@ use Rattle.zeb_engine.proofs.Cited.{rules, ◌≡◌, ℕ, pos, Vec, Global, Err
 use Rattle.zeb_register.specs.declared.catalog.Database.{Database}
 use Rattle.zeb_engine.proofs.HiddenRows.{hidden_of, misses_hidden}
 use Rattle.zeb_engine.proofs.ListedDatabases.{fault_or_damage}
-use Rattle.zeb_engine.proofs.ReadsInTurn.{fault_asked, reads_fail, reads_on, reads_passed, told_back}
+use Rattle.zeb_engine.proofs.ReadsInTurn.{fault_few, reads_fail, reads_on, reads_passed, told_back}
 use Rattle.zeb_engine.proofs.dump.dump.Goals as goal
 
 -- which records hide, and which bytes are told
@@ -45,9 +45,7 @@ returns-in_err-bytes-clause-tables g c clean store =
     (fault_or_damage (Hides database trees) fault hidden))
 
 pub returns-in_err-bytes-clause-few : goal.returns-in_err-bytes-clause-few
-returns-in_err-bytes-clause-few g c =
-    let told : c.from_residual-in_err-bytes.result ≡ Err (register_refusal c.in_err-bytes.field-0.0) = search rules in
-    rw told (fault_asked c.in_err-bytes.field-0.0)
+returns-in_err-bytes-clause-few g c = fault_few c.in_err-bytes.field-0.0 c.from_residual-in_err-bytes.result (search rules)
 
 pub returns-clause-reads : goal.returns-clause-reads
 returns-clause-reads g c =

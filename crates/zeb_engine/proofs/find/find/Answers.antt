@@ -1,11 +1,10 @@
 use Rattle.zeb_engine.proofs.Cited.{rules, ◌≡◌, ◌<◌, ◌^◌, ℕ, pos, List, Bor, Vec, Global, length, map, Err, Ok, subst, sym, inl, inr, string_bytes, state, Trees, Has, Directive, plan_value, query_value, PlanValue, Format, holds_in, has_ident_in, PlanFinds, PlanHides, quiet_then, Hit, Question, Found, OfDatabase, AreShown, FindOver, FindTells, HidesFind, HidesOne, HidesPlan, asked_of, name_bytes, query_refusal, register_refusal, Meets, hits_reasoned, or_reasoned, IsUntouched, as_read, clean_before, read_still, read_then, tells_later}
 use Rattle.zeb_register.specs.declared.catalog.Database.{Database}
 use Rattle.zeb_engine.proofs.FindAnswers.{met_view}
-use Rattle.zeb_engine.proofs.HiddenRows.{hidden_read, misses_hidden}
+use Rattle.zeb_engine.proofs.HiddenRows.{hidden_read}
 use Rattle.zeb_engine.proofs.ListedDatabases.{fault_or_damage}
-use Rattle.zeb_engine.proofs.OverTables.{asked_over, numbers_found, or_fails, past_found, plan_found, query_over}
-use Rattle.zeb_engine.proofs.ReadsInTurn.{fault_asked, query_asked, reads_end, reads_fail, reads_none, reads_on, reads_passed, shown_still, told_back}
-use Rattle.zeb_engine.proofs.StoreCauses.{query_caused}
+use Rattle.zeb_engine.proofs.OverTables.{missed_over, numbers_found, or_fails, past_found, plan_found, query_over}
+use Rattle.zeb_engine.proofs.ReadsInTurn.{fault_few, plan_reads, query_few, query_reads, reads_end, reads_fail, reads_on, reads_passed, shown_still, told_back}
 use Rattle.zeb_engine.proofs.find.find.Goals as goal
 
 -- which damage is told of the rows that a find asks for, and what is told of them
@@ -32,8 +31,7 @@ Shows asked database trees shown = AreShown (has_ident_in trees database.id.0) a
 
 pub returns-in_err-query-clause-reads : goal.returns-in_err-query-clause-reads
 returns-in_err-query-clause-reads g c =
-    let s = state g.S.Store c.args.connection.now in
-    reads_none g.S.Store c.args.connection.now c.requires.idle (query_refusal c.in_err-query.field-0.0) (query_caused s s c.in_err-query.field-0.0) c.from_residual.result (search rules)
+    query_reads g.S.Store c.args.connection.now c.requires.idle c.in_err-query.field-0.0 c.from_residual.result (search rules)
 
 pub returns-in_err-database-clause-reads : goal.returns-in_err-database-clause-reads
 returns-in_err-database-clause-reads g c =
@@ -41,11 +39,7 @@ returns-in_err-database-clause-reads g c =
 
 pub returns-in_err-plan-clause-reads : goal.returns-in_err-plan-clause-reads
 returns-in_err-plan-clause-reads g c =
-    let old = state g.S.Store c.args.connection.now in
-    let mid = state g.S.Store c.existing_database.new.connection in
-    let fault = c.in_err-plan.field-0.0 in
-    reads_end g.S.Store c.args.connection.now c.existing_database.new.connection c.in_ok-database.database c.in_ok-database.ensures.reads c.existing_database.new.connection (read_still mid) (query_refusal fault) (query_caused old mid fault)
-    c.from_residual-in_err-plan.result (search rules)
+    plan_reads g.S.Store c.args.connection.now c.existing_database.new.connection c.in_ok-database.database c.in_ok-database.ensures.reads c.in_err-plan.field-0.0 c.from_residual-in_err-plan.result (search rules)
 
 pub returns-in_err-hits-clause-reads : goal.returns-in_err-hits-clause-reads
 returns-in_err-hits-clause-reads g c =
@@ -81,24 +75,16 @@ returns-clause-reads g c =
 -- ---- which refusals it gives, and what it counts
 
 pub returns-in_err-query-clause-few : goal.returns-in_err-query-clause-few
-returns-in_err-query-clause-few g c =
-    let told : c.from_residual.result ≡ Err (query_refusal c.in_err-query.field-0.0) = search rules in
-    rw told (query_asked c.in_err-query.field-0.0)
+returns-in_err-query-clause-few g c = query_few c.in_err-query.field-0.0 c.from_residual.result (search rules)
 
 pub returns-in_err-plan-clause-few : goal.returns-in_err-plan-clause-few
-returns-in_err-plan-clause-few g c =
-    let told : c.from_residual-in_err-plan.result ≡ Err (query_refusal c.in_err-plan.field-0.0) = search rules in
-    rw told (query_asked c.in_err-plan.field-0.0)
+returns-in_err-plan-clause-few g c = query_few c.in_err-plan.field-0.0 c.from_residual-in_err-plan.result (search rules)
 
 pub returns-in_err-hits-clause-few : goal.returns-in_err-hits-clause-few
-returns-in_err-hits-clause-few g c =
-    let told : c.from_residual-in_err-hits.result ≡ Err (register_refusal c.in_err-hits.field-0.0) = search rules in
-    rw told (fault_asked c.in_err-hits.field-0.0)
+returns-in_err-hits-clause-few g c = fault_few c.in_err-hits.field-0.0 c.from_residual-in_err-hits.result (search rules)
 
 pub returns-in_err-shown-clause-few : goal.returns-in_err-shown-clause-few
-returns-in_err-shown-clause-few g c =
-    let told : c.from_residual-in_err-shown.result ≡ Err (register_refusal c.in_err-shown.field-0.0) = search rules in
-    rw told (fault_asked c.in_err-shown.field-0.0)
+returns-in_err-shown-clause-few g c = fault_few c.in_err-shown.field-0.0 c.from_residual-in_err-shown.result (search rules)
 
 pub returns-clause-work : goal.returns-clause-work
 returns-clause-work g c = (
@@ -128,10 +114,9 @@ returns-in_err-database-clause-tables g c clean store =
     let refusal = c.in_err-database.field-0.0 in
     let told : c.from_residual-in_err-database.result ≡ Err refusal = search rules in
     let trees = (state g.S.Store c.args.connection.now).now.trees in
-    let Tells = tells g.L.Layout.format c.args.profile.now c.args.question trees in
     let name = name_bytes c.args.name.now in
-    let Hides = hides g.L.Layout.format c.args.profile.now name c.args.question in
-    rw told (asked_over Tells name Hides trees c.args.question.query.now c.in_ok-query.ensures.readable (Err refusal) (misses_hidden Tells name Hides trees (λ hidden. (c.in_ok-query.ensures.readable, inl hidden)) refusal (c.in_err-database.ensures.finds clean store)))
+    rw told (missed_over (tells g.L.Layout.format c.args.profile.now c.args.question trees) name (hides g.L.Layout.format c.args.profile.now name c.args.question) trees c.args.question.query.now c.in_ok-query.ensures.readable
+    (λ hidden. (hidden.0, inl hidden.1)) refusal (c.in_err-database.ensures.finds clean store))
 
 pub returns-in_err-plan-clause-tables : goal.returns-in_err-plan-clause-tables
 returns-in_err-plan-clause-tables g c clean store =

@@ -2,7 +2,7 @@ use Rattle.zeb_engine.proofs.Cited.{rules, ◌≡◌, Option, Some, None, Err, s
 use Rattle.zeb_change.specs.declared.refusals.Refusal.TheVariants as refusal
 use Rattle.zeb_register.specs.declared.catalog.Database.{Database}
 use Rattle.zeb_engine.proofs.ListedDatabases.{fault_misses}
-use Rattle.zeb_engine.proofs.ReadsInTurn.{fault_asked, look_done, look_fails, reads_end}
+use Rattle.zeb_engine.proofs.ReadsInTurn.{fault_few, look_done, look_fails, reads_end}
 use Rattle.zeb_engine.proofs.readiness.existing_database.Goals as goal
 
 -- ---- what it did to the connection
@@ -51,6 +51,4 @@ returns-in_ok-from_str-in-None-clause-finds g c clean store =
 -- ---- which refusals it gives
 
 pub returns-in_err-database-clause-few : goal.returns-in_err-database-clause-few
-returns-in_err-database-clause-few g c =
-    let told : c.from_residual.result ≡ Err (register_refusal c.in_err-database.field-0.0) = search rules in
-    rw told (fault_asked c.in_err-database.field-0.0)
+returns-in_err-database-clause-few g c = fault_few c.in_err-database.field-0.0 c.from_residual.result (search rules)

@@ -1,10 +1,9 @@
 use Rattle.zeb_engine.proofs.Cited.{rules, ◌≡◌, ℕ, pos, List, Vec, Global, Ok, Err, sym, subst, inl, inr, state, Trees, Directive, TermCount, ScanValue, scan_value, query_value, Format, holds_in, Scanned, query_refusal, register_refusal, name_bytes, Around, OfDatabase, HidesAround, HidesPlanned, HidesTerms, ScanOver, ScanTells, TellsAround, or_reasoned, IsUntouched, as_read, clean_before, read_still}
 use Rattle.zeb_register.specs.declared.catalog.Database.{Database}
-use Rattle.zeb_engine.proofs.HiddenRows.{hidden_read, misses_hidden}
+use Rattle.zeb_engine.proofs.HiddenRows.{hidden_read}
 use Rattle.zeb_engine.proofs.ListedDatabases.{fault_or_damage}
-use Rattle.zeb_engine.proofs.OverTables.{asked_over, or_fails, plan_scanned, query_over, terms_scanned}
-use Rattle.zeb_engine.proofs.ReadsInTurn.{fault_asked, query_asked, reads_end, reads_fail, reads_none, reads_on, reads_passed, shown_still, told_back}
-use Rattle.zeb_engine.proofs.StoreCauses.{query_caused}
+use Rattle.zeb_engine.proofs.OverTables.{missed_over, or_fails, plan_scanned, query_over, terms_scanned}
+use Rattle.zeb_engine.proofs.ReadsInTurn.{fault_few, plan_reads, query_few, query_reads, reads_fail, reads_on, reads_passed, shown_still, told_back}
 use Rattle.zeb_engine.proofs.scan.scan.Goals as goal
 
 -- what is told of any tables, and which damage of them
@@ -25,8 +24,7 @@ TellsAsked format plan asked database trees terms = TellsAround format trees dat
 
 pub returns-in_err-query-clause-reads : goal.returns-in_err-query-clause-reads
 returns-in_err-query-clause-reads g c =
-    let s = state g.S.Store c.args.connection.now in
-    reads_none g.S.Store c.args.connection.now c.requires.idle (query_refusal c.in_err-query.field-0.0) (query_caused s s c.in_err-query.field-0.0) c.from_residual.result (search rules)
+    query_reads g.S.Store c.args.connection.now c.requires.idle c.in_err-query.field-0.0 c.from_residual.result (search rules)
 
 pub returns-in_err-database-clause-reads : goal.returns-in_err-database-clause-reads
 returns-in_err-database-clause-reads g c =
@@ -34,11 +32,7 @@ returns-in_err-database-clause-reads g c =
 
 pub returns-in_err-plan-clause-reads : goal.returns-in_err-plan-clause-reads
 returns-in_err-plan-clause-reads g c =
-    let old = state g.S.Store c.args.connection.now in
-    let mid = state g.S.Store c.existing_database.new.connection in
-    let fault = c.in_err-plan.field-0.0 in
-    reads_end g.S.Store c.args.connection.now c.existing_database.new.connection c.in_ok-database.database c.in_ok-database.ensures.reads c.existing_database.new.connection (read_still mid) (query_refusal fault) (query_caused old mid fault)
-    c.from_residual-in_err-plan.result (search rules)
+    plan_reads g.S.Store c.args.connection.now c.existing_database.new.connection c.in_ok-database.database c.in_ok-database.ensures.reads c.in_err-plan.field-0.0 c.from_residual-in_err-plan.result (search rules)
 
 pub returns-in_err-entries-clause-reads : goal.returns-in_err-entries-clause-reads
 returns-in_err-entries-clause-reads g c =
@@ -59,19 +53,13 @@ returns-clause-reads g c =
 -- ---- which refusals it gives, and what it counts
 
 pub returns-in_err-query-clause-few : goal.returns-in_err-query-clause-few
-returns-in_err-query-clause-few g c =
-    let told : c.from_residual.result ≡ Err (query_refusal c.in_err-query.field-0.0) = search rules in
-    rw told (query_asked c.in_err-query.field-0.0)
+returns-in_err-query-clause-few g c = query_few c.in_err-query.field-0.0 c.from_residual.result (search rules)
 
 pub returns-in_err-plan-clause-few : goal.returns-in_err-plan-clause-few
-returns-in_err-plan-clause-few g c =
-    let told : c.from_residual-in_err-plan.result ≡ Err (query_refusal c.in_err-plan.field-0.0) = search rules in
-    rw told (query_asked c.in_err-plan.field-0.0)
+returns-in_err-plan-clause-few g c = query_few c.in_err-plan.field-0.0 c.from_residual-in_err-plan.result (search rules)
 
 pub returns-in_err-entries-clause-few : goal.returns-in_err-entries-clause-few
-returns-in_err-entries-clause-few g c =
-    let told : c.from_residual-in_err-entries.result ≡ Err (register_refusal c.in_err-entries.field-0.0) = search rules in
-    rw told (fault_asked c.in_err-entries.field-0.0)
+returns-in_err-entries-clause-few g c = fault_few c.in_err-entries.field-0.0 c.from_residual-in_err-entries.result (search rules)
 
 pub returns-clause-work : goal.returns-clause-work
 returns-clause-work g c = (
@@ -97,10 +85,9 @@ returns-in_err-database-clause-tables g c clean store =
     let refusal = c.in_err-database.field-0.0 in
     let told : c.from_residual-in_err-database.result ≡ Err refusal = search rules in
     let trees = (state g.S.Store c.args.connection.now).now.trees in
-    let Tells = tells g.L.Layout.format c.args.profile.now c.args.around trees in
     let name = name_bytes c.args.name.now in
-    let Hides = hides g.L.Layout.format c.args.profile.now name c.args.around in
-    rw told (asked_over Tells name Hides trees c.args.around.query.now c.in_ok-query.ensures.readable (Err refusal) (misses_hidden Tells name Hides trees (λ is. (c.in_ok-query.ensures.readable, inl is)) refusal (c.in_err-database.ensures.finds clean store)))
+    rw told (missed_over (tells g.L.Layout.format c.args.profile.now c.args.around trees) name (hides g.L.Layout.format c.args.profile.now name c.args.around) trees c.args.around.query.now c.in_ok-query.ensures.readable
+    (λ hidden. (hidden.0, inl hidden.1)) refusal (c.in_err-database.ensures.finds clean store))
 
 pub returns-in_err-plan-clause-tables : goal.returns-in_err-plan-clause-tables
 returns-in_err-plan-clause-tables g c clean store =

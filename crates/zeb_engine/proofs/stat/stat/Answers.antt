@@ -3,7 +3,7 @@ use Rattle.zeb_register.specs.declared.catalog.Database.{Database}
 use Rattle.zeb_change.specs.declared.refusals.Refusal.TheVariants as refusal
 use Rattle.zeb_engine.proofs.HiddenRows.{hidden_of, misses_hidden}
 use Rattle.zeb_engine.proofs.ListedDatabases.{fault_fails, fault_or_damage}
-use Rattle.zeb_engine.proofs.ReadsInTurn.{fault_asked, reads_end, reads_fail, reads_on, reads_passed, shown_still, told_back}
+use Rattle.zeb_engine.proofs.ReadsInTurn.{fault_few, reads_end, reads_fail, reads_on, reads_passed, shown_still, told_back}
 use Rattle.zeb_engine.proofs.StatAnswers.{extents_told}
 use Rattle.zeb_engine.proofs.stat.stat.Goals as goal
 
@@ -41,9 +41,7 @@ returns-in_err-kept-clause-tables g c clean store =
     rw told (inr (inr (fault_fails c.in_err-kept.field-0.0 (λ is. c.in_err-kept.ensures.honest clean at.0 (ap Err is)))))
 
 pub returns-in_err-kept-clause-few : goal.returns-in_err-kept-clause-few
-returns-in_err-kept-clause-few g c =
-    let told : c.from_residual-in_err-kept.result ≡ Err (register_refusal c.in_err-kept.field-0.0) = search rules in
-    rw told (fault_asked c.in_err-kept.field-0.0)
+returns-in_err-kept-clause-few g c = fault_few c.in_err-kept.field-0.0 c.from_residual-in_err-kept.result (search rules)
 
 pub returns-in_err-targets-clause-reads : goal.returns-in_err-targets-clause-reads
 returns-in_err-targets-clause-reads g c =
@@ -82,9 +80,7 @@ returns-in_err-holdings-clause-tables g c clean store =
     rw told (hidden_of (StatOver format profile name) (λ t id. HidesRegister format (target_list profile) t id) name trees database.id.0 (pos database.last) (c.in_ok-database.ensures.finds (clean_before mid new crash clean) store) (register_refusal fault) met)
 
 pub returns-in_err-holdings-clause-few : goal.returns-in_err-holdings-clause-few
-returns-in_err-holdings-clause-few g c =
-    let told : c.from_residual-in_err-holdings.result ≡ Err (register_refusal c.in_err-holdings.field-0.0) = search rules in
-    rw told (fault_asked c.in_err-holdings.field-0.0)
+returns-in_err-holdings-clause-few g c = fault_few c.in_err-holdings.field-0.0 c.from_residual-in_err-holdings.result (search rules)
 
 pub returns-clause-reads : goal.returns-clause-reads
 returns-clause-reads g c =

@@ -1,7 +1,7 @@
 use Rattle.zeb_engine.proofs.Cited.{◌≡◌, None, Err, rules, ap, refl, subst, inl, inr, state, AreCountedDatabases, IsDatabaseOf, Exists, name_bytes, register_refusal, CreatesDatabase}
 use Rattle.zeb_engine.proofs.ListedDatabases.{fault_or_damage, named_row}
 use Rattle.zeb_engine.proofs.MadeTables.{create_so}
-use Rattle.zeb_engine.proofs.ReadsInTurn.{fault_asked}
+use Rattle.zeb_engine.proofs.ReadsInTurn.{fault_few}
 use Rattle.zeb_engine.proofs.TransactedRows.{behind, looked}
 use Rattle.zeb_engine.proofs.writes.create_database.Goals as goal
 
@@ -36,6 +36,4 @@ returns-in-None-clause-transacts g c =
     create_so g.L.Layout.format c.args.name old.now next none told does) c.transact.ensures.transacts
 
 pub returns-in_err-found-clause-few : goal.returns-in_err-found-clause-few
-returns-in_err-found-clause-few g c =
-    let told : c.from_residual.result ≡ Err (register_refusal c.in_err-found.field-0.0) = search rules in
-    rw told (fault_asked c.in_err-found.field-0.0)
+returns-in_err-found-clause-few g c = fault_few c.in_err-found.field-0.0 c.from_residual.result (search rules)
