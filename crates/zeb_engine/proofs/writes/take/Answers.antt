@@ -1,4 +1,4 @@
-use Rattle.zeb_engine.proofs.Cited.{◌≡◌, Err, ap, rules, state}
+use Rattle.zeb_engine.proofs.Cited.{state}
 use Rattle.zeb_engine.proofs.MadeTables.{rows_taken}
 use Rattle.zeb_engine.proofs.writes.take.Goals as goal
 
