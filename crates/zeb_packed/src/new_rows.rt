@@ -13,7 +13,7 @@ ghost use Rattle.zeb_packed.specs.PrivatePackedChanges.{IsClearFrom};
 ghost use Rattle.zeb_packed.specs.PrivateUnitCalls.{AllowsBlocks};
 
 use crate::packed_changes::Known;
-use crate::packed_parts::Held;
+use crate::packed_parts::KeyBlock;
 use crate::packed_runs::run_length;
 use std::alloc::{AllocError, Global};
 use zeb_blocks::{BLOCK_RECORDS, spell};
@@ -96,12 +96,12 @@ fn block_begun<'a>(
     ensures damaged { result ≡ Err RegFault.Damaged → (are : KeyUnits)
         → ¬ TurnsUnits packed_blocks run.now (units_of [] known.records) are }
 {
-    let held = Held {
+    let before = KeyBlock {
         block,
         list: Vec::new(known.alloc),
         records: known.records,
     };
-    let after = held.changed_by(run)?;
+    let after = before.changed_by(run)?;
     let bytes = spell(known.alloc, block, &after.list)?;
     Ok((NewBlock { key, block, bytes }, after.records))
 }

@@ -16,18 +16,18 @@ use zeb_register::{Place, RecordChange, RegFault};
 
 /// What the tables hold of a key: its postings in one block, and how many records have it at all.
 #[derive(Drop)]
-pub(crate) struct Held {
+pub(crate) struct KeyBlock {
     pub(crate) block: u64,
     pub(crate) list: Vec<Posting>,
     pub(crate) records: u64,
 }
 
-impl Held {
+impl KeyBlock {
     /// What is held after changes of records of the block, one after the other.
     ///
     /// `Damaged` where a record has other places than the change says, or where the number of the records that have the key can't follow: it
     /// is 0 though the block has a posting, none is left to take from, or it would pass 999,999,999.
-    pub(crate) fn changed_by(self, changes: &[RecordChange<'_>]) -> Result<Held, RegFault>
+    pub(crate) fn changed_by(self, changes: &[RecordChange<'_>]) -> Result<KeyBlock, RegFault>
         requires lies { LiesIn self.block self.list.items }
         requires inside { AllByRecursion (IsInBlock self.block) changes.now }
         requires stored { AllByRecursion IsStorableChange changes.now }
@@ -47,8 +47,8 @@ impl Held {
         Ok(held)
     }
 
-    /// What is held after a change of a record of the block. `Damaged` as [`Held::changed_by`].
-    fn changed(self, change: &RecordChange<'_>) -> Result<Held, RegFault>
+    /// What is held after a change of a record of the block. `Damaged` as [`KeyBlock::changed_by`].
+    fn changed(self, change: &RecordChange<'_>) -> Result<KeyBlock, RegFault>
         requires lies { LiesIn self.block self.list.items }
         requires inside { IsInBlock self.block change.now }
         requires stored { IsStorableChange change.now }
@@ -69,7 +69,7 @@ impl Held {
         let Some(records) = records_after(self.records, change.old, change.new) else {
             return Err(RegFault::Damaged);
         };
-        let held = Held {
+        let held = KeyBlock {
             block: self.block,
             list,
             records,

@@ -17,7 +17,7 @@ ghost use Rattle.zeb_register.specs.Connections.{ChangesTableOf, InStoreOf, Insi
 ghost use Rattle.zeb_register.specs.UnitChanges.{ChangesKey, IsStorableChange, NumbersRise};
 
 use crate::packed_changes::{Known, block_begin, block_list, block_write, dict_write, key_known};
-use crate::packed_parts::Held;
+use crate::packed_parts::KeyBlock;
 use sqlite::{Alter, Transaction};
 use std::alloc::Global;
 use zeb_blocks::BLOCK_RECORDS;
@@ -203,12 +203,12 @@ fn row_renew<S: Alter>(
 {
     let list = block_list(tx, db, key, block)?;
     let is_there = !list.is_empty();
-    let held = Held {
+    let before = KeyBlock {
         block,
         list,
         records,
     };
-    let after = held.changed_by(run)?;
+    let after = before.changed_by(run)?;
     let alloc = *after.list.allocator();
     block_write(alloc, tx, db, key, block, &after.list, is_there)?;
     Ok(after.records)
@@ -235,12 +235,12 @@ fn row_begin<S: Alter>(
         (state S.Store tx.old.conn.now) (state S.Store tx.new.conn.now) result }
     ensures few { IfOk result (λ after. after ≤ 999999999) }
 {
-    let held = Held {
+    let before = KeyBlock {
         block,
         list: Vec::new(alloc),
         records,
     };
-    let after = held.changed_by(run)?;
+    let after = before.changed_by(run)?;
     block_begin(alloc, tx, db, key, block, &after.list)?;
     Ok(after.records)
 }

@@ -1,6 +1,6 @@
 use Rattle.zeb_packed.proofs.Cited.{packed_blocks, ◌≡◌, ◌∙◌, ◌+◌, arith, drop, drop-cons, get_or, refl, rules, subst, suc, sym, LiesIn, units_of, TurnsUnits, no_change, refused_so, none_left}
 use Rattle.zeb_packed.proofs.UnitTurns.{same_after, turns_from}
-use Rattle.zeb_packed.proofs.packed_parts.Held.changed_by.Goals as goal
+use Rattle.zeb_packed.proofs.packed_parts.KeyBlock.changed_by.Goals as goal
 
 pub loop-change-init : goal.loop-change-init
 loop-change-init c = record { lies = search rules; block = refl; few = search rules; turned = λ end turns. turns; left = λ end turns. turns }

@@ -1,5 +1,5 @@
 use Rattle.zeb_packed.proofs.Cited.{packed_blocks, ◌≡◌, ◌≤◌, drop, LiesIn, units_of, KeyUnits, TurnsUnits}
-use Rattle.zeb_packed.proofs.packed_parts.Held.changed_by.Given as goal
+use Rattle.zeb_packed.proofs.packed_parts.KeyBlock.changed_by.Given as goal
 
 abbrev pub invariant-loop-change : goal.invariant-loop-change
 invariant-loop-change l = record {

@@ -1,6 +1,6 @@
 use Rattle.zeb_packed.proofs.Cited.{rules, sym, subst, LiesIn, refused_rows}
 use Rattle.zeb_packed.proofs.HeldTurns.{not_counted, not_followed, not_found, not_left, unit_turned}
-use Rattle.zeb_packed.proofs.packed_parts.Held.changed.Goals as goal
+use Rattle.zeb_packed.proofs.packed_parts.KeyBlock.changed.Goals as goal
 
 pub postings_changed-requires-clause-lies : goal.postings_changed-requires-clause-lies
 postings_changed-requires-clause-lies c = subst (λ b. LiesIn b c.args.self.list.items) (sym c.requires.inside) c.requires.lies
