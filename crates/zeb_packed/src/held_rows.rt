@@ -10,9 +10,9 @@ ghost use Rattle.zeb_register.specs.Store.{dict_tree};
 ghost use Rattle.zeb_register.specs.UnitChanges.{LacksBlock};
 
 use crate::new_rows::{NewBlock, NewCount, NewRows};
-use crate::packed_changes::{block_absent, breaks_rule};
+use crate::packed_changes::{block_absent, block_put, breaks_rule};
 use crate::statements::many::{MANY, block_values, blocks_add, count_values, counts_add};
-use crate::statements::packed_changes::{block_add, dict_add};
+use crate::statements::packed_changes::dict_add;
 use sqlite::{Alter, Error, Transaction};
 use std::alloc::Global;
 use zeb_register::for_layouts::{KeyOf, stored};
@@ -93,17 +93,7 @@ fn one_put<S: Alter>(
         (state S.Store tx.new.conn.now) result }
 {
     let number = stored(one.block)?;
-    let at = KeyOf { db, key: one.key };
-    match block_add(tx, at, number, &one.bytes) {
-        Ok(_) => Ok(()),
-        Err(error) => {
-            if !breaks_rule(&error) {
-                return Err(error.into());
-            }
-            one_absent(tx, db, one)?;
-            Err(error.into())
-        }
-    }
+    block_put(tx, KeyOf { db, key: one.key }, number, &one.bytes)
 }
 
 /// Puts the first rows of blocks: many where there are so many, and else one. Returns how many these are.

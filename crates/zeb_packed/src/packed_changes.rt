@@ -1,14 +1,15 @@
 //! One row of a key in packed registers, read and written inside a transaction: that of a block, and that of `dict`.
 
-ghost use Rattle.std.specs.Prelude.{IsUtf8, ◌≡◌, ◌≢◌, ◌<◌, ◌≤◌, ◌^◌, ℕ, List, true, false, pos, IfOk, IfErr, OnOk};
+ghost use Rattle.std.specs.Prelude.{IsUtf8, ◌≡◌, ◌≢◌, ◌<◌, ◌≤◌, ◌^◌, ◌++◌, [], ◌∷◌, ℕ, List, true, false, pos, IfOk, IfErr, OnOk};
 ghost use Rattle.sqlite.specs.declared.error.Error.TheVariants.{SqliteFailure};
 ghost use Rattle.sqlite.specs.declared.error.ErrorCode.TheVariants.{ConstraintViolation};
-ghost use Rattle.sqlite.specs.declared.types.Value.TheVariants.{Int};
+ghost use Rattle.sqlite.specs.declared.types.Value.TheVariants.{Blob, Int};
 ghost use Rattle.sqlite.specs.Order.{column};
 ghost use Rattle.sqlite_schema.specs.declared.schema.Constraint.{Constraint};
 ghost use Rattle.zeb_blocks.specs.Blocks.{LiesIn};
 ghost use Rattle.zeb_register.specs.Calls.{OnlyReads};
-ghost use Rattle.zeb_register.specs.PrivateKeyColumns.{IsOfNumbered, IsDictIn};
+ghost use Rattle.zeb_register.specs.PrivateKeyColumns.{IsOfNumbered, IsDictIn, numbered_columns};
+ghost use Rattle.zeb_register.specs.PrivateRowStatements.{Gains};
 ghost use Rattle.zeb_register.specs.PackedBlocks.{IsRecordNumber};
 ghost use Rattle.zeb_register.specs.Store.{blocks_tree, dict_tree};
 ghost use Rattle.zeb_register.specs.UnitChanges.{IsBlockIn, IsTold, PutsCount};
@@ -196,7 +197,26 @@ pub(crate) fn block_begin<S: Alter>(
         return block_absent(tx, at, number);
     }
     let bytes = spell(alloc, block, list)?;
-    match block_add(tx, at, number, &bytes) {
+    block_put(tx, at, number, &bytes)
+}
+
+/// Puts the row of a block. `Damaged` where the block has one.
+pub(crate) fn block_put<S: Alter>(
+    tx: &mut Transaction<'_, S>,
+    at: KeyOf<'_>,
+    number: i64,
+    bytes: &[u8],
+) -> Result<(), RegFault>
+    ensures same { tx.new.conn.ghost_name ≡ tx.old.conn.ghost_name }
+    ensures call { WritesOf S.Store tx.old.conn tx.new.conn blocks_tree
+        (Gains (numbered_columns at.entry number ++ Blob bytes.now ∷ [])) result }
+    ensures honest { InStoreOf S.Store tx.old.conn tx.new.conn
+        (λ trees. result ≡ Err RegFault.Damaged → ¬ IsTold false (IsOfNumbered at.entry number)
+        blocks_tree trees) }
+    ensures absent { InStoreOf S.Store tx.old.conn tx.new.conn (λ trees. OnOk result
+        (IsTold false (IsOfNumbered at.entry number) blocks_tree trees)) }
+{
+    match block_add(tx, at, number, bytes) {
         Ok(_) => Ok(()),
         Err(error) => {
             if !breaks_rule(&error) {
