@@ -6,12 +6,10 @@ ghost use Rattle.std.specs.List.Sorted.{IsStrictlySortedBy};
 ghost use Rattle.zeb_leaf.specs.Merging.{AreChanges, AreMerged, puts};
 ghost use Rattle.zeb_leaf.specs.Order.{IsEntry, entry_cmp};
 ghost use Rattle.zeb_leaf.specs.PrivateMerging.{Begins, IsRestBehind, Merges, MovesBelow, TakesBelow};
-ghost use Rattle.zeb_leaf.specs.Spans.{key_cmp};
 
 use crate::entries::{Bytes, Entry};
-use crate::spans::{BlockKey, order};
+use crate::spans::BlockKey;
 use std::alloc::{AllocError, Global};
-use std::cmp::Ordering;
 use std::collections::VecDeque;
 
 /// What a changed block has.
@@ -34,23 +32,12 @@ pub struct BlockChange {
     pub new: Option<NewBlock>,
 }
 
-/// How an entry lies to a key.
-fn place(entry: &Entry, key: BlockKey) -> Ordering
-    ensures { result ≡ key_cmp entry.now.term entry.now.block key.entry.term.now key.entry.block }
-{
-    let own = BlockKey {
-        term: entry.term.as_slice(),
-        block: entry.block,
-    };
-    order(own, key)
-}
-
 /// Whether the first entry is below the key.
 fn begins_below(left: &VecDeque<Entry>, key: BlockKey) -> bool
     ensures { IsTrue result ↔ Begins key.entry.term.now key.entry.block Less left.now.items }
 {
     match left.front() {
-        Some(first) => place(first, key).is_lt(),
+        Some(first) => first.order(key).is_lt(),
         None => false,
     }
 }
@@ -60,7 +47,7 @@ fn begins_at(left: &VecDeque<Entry>, key: BlockKey) -> bool
     ensures { IsTrue result ↔ Begins key.entry.term.now key.entry.block Equal left.now.items }
 {
     match left.front() {
-        Some(first) => place(first, key).is_eq(),
+        Some(first) => first.order(key).is_eq(),
         None => false,
     }
 }

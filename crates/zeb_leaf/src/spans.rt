@@ -7,7 +7,7 @@ ghost use Rattle.zeb_leaf.specs.Answers.{Answers, entry_of};
 ghost use Rattle.zeb_leaf.specs.Leaves.{IsLeaf};
 ghost use Rattle.zeb_leaf.specs.PrivateTold.{IsOnSide, IsOutside, TakesIfInSpan};
 
-use crate::entries::{Held, LeafFault};
+use crate::entries::{Entry, Held, LeafFault};
 use crate::walking::LeafReader;
 use crate::writing::shared_len;
 use std::alloc::{AllocError, Global};
@@ -22,12 +22,34 @@ pub struct BlockKey<'a> {
     pub block: u64,
 }
 
-/// How a key lies to another one.
-pub(crate) fn order(one: BlockKey, other: BlockKey) -> Ordering
-    ensures { result ≡ key_cmp one.entry.term.now one.entry.block other.entry.term.now
-        other.entry.block }
-{
-    one.term.cmp(other.term).then(one.block.cmp(&other.block))
+impl BlockKey<'_> {
+    /// How this key lies to another one: by the bytes of their terms, and where these are the same by their blocks.
+    pub fn order(self, other: BlockKey) -> Ordering
+        ensures { result ≡ key_cmp self.entry.term.now self.entry.block other.entry.term.now
+            other.entry.block }
+    {
+        self.term.cmp(other.term).then(self.block.cmp(&other.block))
+    }
+}
+
+impl Entry {
+    /// The entry's own key.
+    pub fn key(&self) -> BlockKey<'_>
+        ensures term { result.term.now ≡ self.now.term }
+        ensures block { result.block ≡ self.now.block }
+    {
+        BlockKey {
+            term: self.term.as_slice(),
+            block: self.block,
+        }
+    }
+
+    /// How the entry lies to a key.
+    pub fn order(&self, key: BlockKey) -> Ordering
+        ensures { result ≡ key_cmp self.now.term self.now.block key.entry.term.now key.entry.block }
+    {
+        self.key().order(key)
+    }
 }
 
 /// Where the last entry that was compared stands beside a span of keys.
@@ -74,10 +96,10 @@ fn push_if_in_span<'a>(
         term: own,
         block: found.block,
     };
-    if !order(key, end).is_lt() {
+    if !key.order(end).is_lt() {
         return Ok(Side::Past);
     }
-    if !order(key, first).is_lt() {
+    if !key.order(first).is_lt() {
         held.push(found)?;
     }
     Ok(Side::Near)

@@ -1,13 +1,18 @@
 -- The statements that find the own key of the leaf behind a key, each with what it is compiled to.
-use Rattle.zeb_leaves.proofs.Cited.{Row, column, Trees, Int, Text, ◌≡◌, ◌++◌, ◌∷◌, ℕ, ℤ, pos, true, false, List, [], map, codes, inl, inr, refl, arith, IsUpTo, own_key, HasBlockFrom, IsRest, IsStore, State, Shown, blocks_tree, value_cmp, is_lt, first_of, first_so, leaf_places, term_order, ShowsLeast, not_lower, blocks, register_of, IsAfter, IsQuery, Condition, at_least, equals, keyed_from, one_row, rising, shows}
+use Rattle.zeb_leaves.proofs.Cited.{Row, column, Trees, Int, Text, ◌≡◌, ◌++◌, ◌∷◌, ℕ, ℤ, pos, true, false, List, [], map, codes, inl, inr, refl, arith, IsUpTo, own_key, HasBlockFrom, IsRest, IsStore, State, Shown, blocks_tree, value_cmp, is_lt, first_of, first_so, leaf_places, term_order, not_lower, blocks, register_of, IsAfter, IsQuery, Condition, at_least, equals, keyed_from, one_row, rising, shows}
 use Rattle.sqlite.specs.Listing.{understood}
 use Rattle.sqlite_tied.specs.Compute.{everything}
 use Rattle.zeb_leaves.specs.declared.statements_inside.TheConstants.{OF_TERMS_FROM, OF_TERM_FROM}
 use Rattle.zeb_register.proofs.ValueKinds.{are_fit}
+use Rattle.zeb_leaf_rows.specs.PrivateLeafRows.{ShowsFirst}
 
 -- an own key is shown by these places, alone
 abbrev pub key_names : List (List ℕ)
 key_names = codes "term" ∷ codes "block" ∷ []
+
+-- the row with the least own key
+abbrev pub ShowsLeast : (Row → Type 0) → List Row → Type 0
+ShowsLeast = ShowsFirst (λ row other. IsUpTo (own_key other) row)
 
 -- they are the own keys of the rows that would show the least
 abbrev pub ShowsLeastKey : (Row → Type 0) → List Row → Type 0

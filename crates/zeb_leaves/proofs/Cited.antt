@@ -52,14 +52,14 @@ pub use Rattle.zeb_leaf_rows.specs.LeafRows.{HasBlockFrom, IsLastOf, IsLeafAt, I
 pub use Rattle.zeb_leaf_rows.specs.PrivateLeafRows.{IsCovering, IsGreatest, IsOfTermBelow, IsOfTermsBelow}
 pub use Rattle.zeb_leaves.specs.KeyReads.{SayParts, AreEntriesBetween}
 pub use Rattle.zeb_leaves.specs.LeafChanges.{AreDistinct, ArePartedFrom, BeginsLeaves, ReplacesLeaf, IsPart, BeginsLeavesOf, ReplacesLeafOf}
-pub use Rattle.zeb_leaves.specs.PrivateAgreeing.{TakeEntries, leaf_of, entry_key, leaf_shown, rest_shown, EachHasLeaves, HasLeaves, IsEmptyBeside, LeavesAgree, OthersAreEmpty, HaveOwnKeys, HoldsPostings, AreWalked, IsBeside, Leaf, LeavesIn, ShowsLeaf, key_of, own_of, PostingsRise, TakesLeaf, IsWhole, before_of, ReadsLeaves}
-pub use Rattle.zeb_leaves.specs.PrivateLeafReads.{IsLeast, IsNextBehind, ShowsLast, TellsKey, TellsSome, ShowsLeast, IsOfTermFrom}
+pub use Rattle.zeb_leaves.specs.PrivateAgreeing.{TakeEntries, leaf_of, entry_key, leaf_shown, rest_shown, EachHasLeaves, HasLeaves, IsEmptyBeside, OthersAreEmpty, HoldsPostings, AreWalked, IsBeside, Leaf, LeavesIn, ShowsLeaf, key_of, own_of, PostingsRise, TakesLeaf, IsWhole, before_of, ReadsLeaves}
+pub use Rattle.zeb_leaves.specs.PrivateLeafReads.{IsLeast, IsNextBehind, ShowsLast, TellsKey, TellsSome, IsOfTermFrom}
 pub use Rattle.zeb_leaves.specs.PrivateLeafWrites.{HidesEnd, IsEndAt, GainsLeaves, IfToldPuts, IsLeafWith, IsNewRow, leaf_columns, new_row, IfToldPutsEntries, coming, AreFilled, IsFilled, IsRowOfOne, PutsEntries, PutsLeaves, WritesLeaves}
 pub use Rattle.zeb_leaves.specs.PrivateNearCalls.{MayTellBeside, HidesBeside, IsSide, ListsBeside, TellsBeside}
 pub use Rattle.zeb_leaves.specs.PrivateNearRows.{ListsBack, ListsFront}
 pub use Rattle.zeb_leaves.specs.PrivateNearTerms.{AreEnough, CountBelow, CountRows, CountUntil, GoesDown, GoesPast, HideBelow, HideRows, HidesDown, HidesRow, MeetNoText, StopsAt, StopsDown, AreEnoughAt, CountsRow}
 pub use Rattle.zeb_leaves.specs.PrivatePieces.{HasPostings, IsPiece, LacksTurn, TurnAllEntries, TurnsEntries, block_of, LackTurn, ArePieces, ArePiecesOf, BeginsElsewhere, IsFront, PartsRun, PutsPieces, all_changes, piece_cmp, AreStorable}
-pub use Rattle.zeb_leaves.specs.PrivatePutPieces.{ArePiecesIn, IsLeafBeneath, KeepsBesideLeaves, EndsLeaf, OwnsEntries, IsCovered, AreAllDistinct}
+pub use Rattle.zeb_leaves.specs.PrivatePutPieces.{ArePiecesIn, EndsLeaf}
 pub use Rattle.zeb_leaves.specs.PrivateSaid.{SayAll, SomeSaysNone, Says}
 pub use Rattle.zeb_leaves.specs.PrivateSpans.{ShowsNone, ShowsKey, AreSpanLeaves, SomeShowsNoKey, IsSpanLeaf, ShowAllSpans, ShowSpans, ShowsSpan}
 pub use Rattle.zeb_leaves.specs.PrivateTermReads.{End, AreLeavesFrom, ShowsOwn, is_own, HideOwns, SayMany, SaysNone, ShowOwns, AreEntries, CountsIn, CountAll, IsNoText, IsRowFrom, IsLeafFrom, HideAllOwns, ShowAllOwns, SomeBad, is_below, HidesOwn, entry_with_records}

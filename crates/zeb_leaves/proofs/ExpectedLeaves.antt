@@ -1,8 +1,15 @@
 -- What is expected of whole tables, in leaves.
-use Rattle.zeb_leaves.proofs.Cited.{Row, State, Trees, Int, Blob, Has, ◌≡◌, ◌⊎◌, ◌∙◌, ◌∷◌, ℕ, ℤ, pos, List, [], drop, refl, sym, ap, subst, inl, inr, integers_apart, told_by, Posting, Key, HasRow, HoldsLeaves, IsLeafOf, IsRest, IsStore, PartReads, Content, blocks_tree, part_in, int_cmp_total, string_bytes, HoldsPostings, LeavesAgree, rest_shown, content, content_at, content_there, content_up, posted_as, put_together, there_is, there_of, owner_row, blocks, blocks_static, IsThere, ListsAgree, AreExpected, IsOrdered, packed_leaves, list_under, HasDatabase, ListedDatabase, ExpectedDatabase, KeyPosting}
+use Rattle.zeb_leaves.proofs.Cited.{Row, State, Trees, Int, Blob, Has, ◌≡◌, ◌⊎◌, ◌∙◌, ◌∷◌, ℕ, ℤ, pos, List, [], drop, refl, sym, ap, subst, inl, inr, integers_apart, told_by, Posting, Key, HasRow, HoldsLeaves, IsLeafOf, IsRest, IsStore, PartReads, Content, blocks_tree, part_in, int_cmp_total, string_bytes, HasLeaves, HoldsPostings, rest_shown, content, content_at, content_there, content_up, posted_as, put_together, there_is, there_of, owner_row, blocks, blocks_static, IsThere, LacksPostingsAndDict, ListsAgree, AreExpected, IsOrdered, packed_leaves, list_under, HasDatabase, ListedDatabase, ExpectedDatabase, KeyPosting}
 use Rattle.zeb_register.proofs.AgreeingRows.{same_row}
 use Rattle.zeb_register.specs.Catalog.{AreDatabases}
 use Rattle.zeb_register.specs.declared.expected.Expected.{Expected}
+
+-- Each database that is there has under its id leaves that hold its postings. Those under any other id, of which nothing is expected, hold none.
+-- `postings` and `dict` have no row.
+pub record LeavesAgree (trees : Trees) (databases : List ExpectedDatabase) : Type 0 where
+  pub there : (id : ℤ) (database : ExpectedDatabase) → IsThere trees databases id database → HasLeaves id database.postings.items trees
+  pub others : (id : ℤ) → ((database : ExpectedDatabase) → ¬ IsThere trees databases id database) → HasLeaves id [] trees
+  pub lacks : LacksPostingsAndDict trees
 
 none_listed : (list : List Posting) → ((p : Posting) → ¬ Has list p) → list ≡ []
 none_listed [] none = refl

@@ -1,5 +1,5 @@
 -- The pieces at the front of all: so many as one leaf covers, or as begin a register.
-use Rattle.zeb_leaves.proofs.Cited.{Row, State, Has, ◌≡◌, ◌≢◌, ◌∙◌, ◌+◌, ◌≤◌, ◌∷◌, ℕ, ℤ, suc, List, [], Some, None, Option, length, drop, refl, sym, ap, subst, inl, inr, Less, Greater, arith, AllByRecursion, all_has, Trees, Entry, Covers, IsLeafIn, IsNextBehind, IsPartMalformed, IsStore, IsUncovered, Key, blocks_tree, key_in, leaf_key, own_key, ◌-◌, true, false, get_or, take, take-append-drop, take_rest, key_cmp, IfToldPutsEntries, IsEndAt, ArePieces, LackTurn, block_of, piece_cmp, ArePiecesIn, EndsLeaf, IsCovered, ShowsKey, ShowsNone, End, ShowsOwn, packed_leaves, LacksLeave, PutsKeys, Changes, KeyChanges, RegisterOf, OwnsEntries}
+use Rattle.zeb_leaves.proofs.Cited.{Row, State, Has, ◌≡◌, ◌≢◌, ◌∙◌, ◌+◌, ◌≤◌, ◌∷◌, ℕ, ℤ, suc, List, [], Some, None, Option, length, drop, refl, sym, ap, subst, inl, inr, Less, Greater, arith, AllByRecursion, all_has, Trees, Entry, Covers, IsLeafIn, IsNextBehind, IsPartMalformed, IsStore, IsUncovered, Key, blocks_tree, key_in, leaf_key, own_key, ◌-◌, true, false, get_or, take, take-append-drop, take_rest, key_cmp, IfToldPutsEntries, IsEndAt, ArePieces, LackTurn, block_of, piece_cmp, ArePiecesIn, EndsLeaf, ShowsKey, ShowsNone, End, ShowsOwn, packed_leaves, LacksLeave, PutsKeys, Changes, KeyChanges, RegisterOf}
 use Rattle.std.specs.List.Sorted.{IsStrictlySortedBy}
 use Rattle.zeb_register.proofs.KeyOrder.{key_order}
 use Rattle.zeb_register.proofs.TermLists.{has_taken}
@@ -11,6 +11,7 @@ use Rattle.zeb_leaves.proofs.PiecesKept.{In, front_so}
 use Rattle.zeb_leaves.proofs.PiecesOfRuns.{front_pieces}
 use Rattle.zeb_leaves.proofs.PiecesPut.{first_pieces_lack, leaf_pieces_lack, malformed_lacks}
 use Rattle.zeb_leaves.proofs.PiecesWritten.{first_written, leaf_written, store_distinct}
+use Rattle.zeb_leaves.proofs.PutTables.{IsCovered, OwnsEntries}
 use Rattle.zeb_leaves.proofs.SpanRuns.{below_or, up_not_less}
 use Rattle.zeb_leaves.specs.PrivateTurning.{CoversFirst, IsBelow, IsTextOf}
 use Rattle.zeb_leaves.specs.PrivateTurnedLeaves.{AreOfOne, LeafLacksTurn, TurnsInto, TurnsLeaf}

@@ -4,8 +4,9 @@ use Rattle.std.specs.List.Sorted.{IsStrictlySortedBy}
 use Rattle.zeb_leaves.proofs.DatabaseRows.{beside_told, front_of, leaves_between, leaves_up, one_leaf_shown, rows_lie, shown_beside}
 use Rattle.zeb_leaves.proofs.GatheredPostings.{IsOf, leaf_from, leaf_has, leaf_part, leaf_rises, leaf_takes, part_of, postings_lower}
 use Rattle.zeb_leaves.proofs.OneCover.{same_key}
+use Rattle.zeb_leaves.proofs.OwnKeys.{HaveOwnKeys}
 use Rattle.zeb_leaves.proofs.SpanRuns.{below_or, less_up}
-use Rattle.zeb_leaves.specs.PrivateAgreeing.{AreWalked, Follows, HaveOwnKeys, HoldsPostings, IsBeside, IsFirst, Leaf, LeavesIn, ShowsLeaf, entry_key, key_of, leaf_shown, own_of, rest_shown}
+use Rattle.zeb_leaves.specs.PrivateAgreeing.{AreWalked, Follows, HoldsPostings, IsBeside, IsFirst, Leaf, LeavesIn, ShowsLeaf, entry_key, key_of, leaf_shown, own_of, rest_shown}
 use Rattle.zeb_register.proofs.KeyOrder.{greater_is, key_order}
 
 -- no key is below the least one

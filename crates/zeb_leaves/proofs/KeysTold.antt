@@ -1,6 +1,6 @@
 -- The own key of a leaf, which a statement tells alone.
-use Rattle.zeb_leaves.proofs.Cited.{Row, ◌≡◌, ◌∙◌, ◌∷◌, Some, None, Option, List, [], map, refl, sym, ap, subst, IsLastOf, IsLeast, TellsKey, own_key, option_map, never_last, ShowsLeast, HidesEnd, IsEndAt, End, same_last}
-use Rattle.zeb_leaves.proofs.BehindStatements.{ShowsLeastKey}
+use Rattle.zeb_leaves.proofs.Cited.{Row, ◌≡◌, ◌∙◌, ◌∷◌, Some, None, Option, List, [], map, refl, sym, ap, subst, IsLastOf, IsLeast, TellsKey, own_key, option_map, never_last, HidesEnd, IsEndAt, End, same_last}
+use Rattle.zeb_leaves.proofs.BehindStatements.{ShowsLeast, ShowsLeastKey}
 
 -- it is the last of those that are shown
 pub key_shown : (P : Row → Type 0) (rows : List Row) (found : Option Row) → IsLastOf rows found → ShowsLeastKey P rows → TellsKey (IsLeast P) found

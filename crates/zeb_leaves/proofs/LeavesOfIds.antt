@@ -1,8 +1,9 @@
 -- The leaves under each id, by the ids with which rows begin and by the list of the databases that are there.
-use Rattle.zeb_leaves.proofs.Cited.{Row, State, Trees, column, Int, Has, ◌≡◌, ◌⊎◌, ◌↔◌, ◌∙◌, ◌∷◌, ℤ, pos, Option, List, [], map, refl, sym, ap, subst, inl, inr, integers_apart, told_by, int_cmp_total, IsRest, IsStore, blocks_tree, Database, Bool, ◌+ℤ◌, EachHasLeaves, HasLeaves, IsEmptyBeside, LeavesAgree, OthersAreEmpty, owner_row, blocks, blocks_static, IsLeastFrom, IsListedId, IsThere, LacksPostingsAndDict, Owns, expected_name, listed_name, ListedDatabase, ExpectedDatabase, KeyPosting}
+use Rattle.zeb_leaves.proofs.Cited.{Row, State, Trees, column, Int, Has, ◌≡◌, ◌⊎◌, ◌↔◌, ◌∙◌, ◌∷◌, ℤ, pos, Option, List, [], map, refl, sym, ap, subst, inl, inr, integers_apart, told_by, int_cmp_total, IsRest, IsStore, blocks_tree, Database, Bool, ◌+ℤ◌, EachHasLeaves, HasLeaves, IsEmptyBeside, OthersAreEmpty, owner_row, blocks, blocks_static, IsLeastFrom, IsListedId, IsThere, LacksPostingsAndDict, Owns, expected_name, listed_name, ListedDatabase, ExpectedDatabase, KeyPosting}
 use Rattle.std.specs.Bool.{IsTrue}
 use Rattle.sqlite_rules.proofs.ListLemmas.{has_got}
 use Rattle.std.specs.List.Sorted.{IsStrictlySortedBy}
+use Rattle.zeb_leaves.proofs.ExpectedLeaves.{LeavesAgree}
 use Rattle.zeb_leaves.proofs.OwnKeys.{own_keys}
 use Rattle.zeb_leaves.proofs.WalkedHold.{walked_hold}
 use Rattle.zeb_register.proofs.ExpectedDatabases.{pair_there, there_pair}

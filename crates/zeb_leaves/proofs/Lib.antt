@@ -48,6 +48,7 @@ pub mod PiecesInTurn
 pub mod BlockTurns
 pub mod PiecesOfRuns
 pub mod AlikeEntries
+pub mod PutTables
 pub mod TurnedLeaves
 pub mod PieceChanges
 pub mod PiecesKept

@@ -1,6 +1,10 @@
 -- No two rows of `blocks` have one key.
-use Rattle.zeb_leaves.proofs.Cited.{Row, State, column, Int, Blob, ◌≡◌, ◌∷◌, ℤ, [], refl, ap, inl, IsRest, IsStore, blocks_tree, HaveOwnKeys, rest_shown, blocks, blocks_keys, blocks_static}
+use Rattle.zeb_leaves.proofs.Cited.{Row, State, column, Int, Blob, ◌≡◌, ◌∷◌, ℕ, ℤ, List, [], refl, ap, inl, IsRest, IsStore, blocks_tree, Key, rest_shown, blocks, blocks_keys, blocks_static}
 use Rattle.zeb_register.proofs.SharedKeys.{single}
+
+-- no two of the rows, each shown behind its database, have one key
+abbrev pub HaveOwnKeys : (Row → Type 0) → Type 0
+HaveOwnKeys Rests = (key : Key) (block : ℕ) (one other : List ℕ) → Rests (rest_shown key block one) → Rests (rest_shown key block other) → one ≡ other
 
 pub own_keys : (s : State) → IsStore s → (id : ℤ) → HaveOwnKeys (IsRest blocks_tree (Int id ∷ []) s.now.trees)
 own_keys s store id key block x y here there =

@@ -1,9 +1,10 @@
 -- What a leaf covers: the keys from its own up to that of the next leaf. So its entries between these are those that it covers.
-use Rattle.zeb_leaves.proofs.Cited.{Row, row_cmp, ◌≡◌, ◌≢◌, ◌↔◌, ℕ, List, Some, None, Option, sym, ap, subst, inl, inr, Greater, AllByRecursion, all_from, all_has, kept_rises, Entry, IsEntry, entry_cmp, Has, Covers, IsNextBehind, IsUpTo, ShowsEntries, leaf_key, own_key, has_filtered, has_kept, AreDistinct, HidesEnd, EndsLeaf, OwnsEntries, End, ShowsOwn, is_own, entries_total, shown_rises}
+use Rattle.zeb_leaves.proofs.Cited.{Row, row_cmp, ◌≡◌, ◌≢◌, ◌↔◌, ℕ, List, Some, None, Option, sym, ap, subst, inl, inr, Greater, AllByRecursion, all_from, all_has, kept_rises, Entry, IsEntry, entry_cmp, Has, Covers, IsNextBehind, IsUpTo, ShowsEntries, leaf_key, own_key, has_filtered, has_kept, AreDistinct, HidesEnd, EndsLeaf, End, ShowsOwn, is_own, entries_total, shown_rises}
 use Rattle.std.specs.List.Sorted.{IsStrictlySortedBy}
 use Rattle.zeb_leaves.proofs.OneCover.{up_to_then}
 use Rattle.zeb_leaves.proofs.OwnLeaves.{FromKey, Within, own_is}
 use Rattle.zeb_leaves.proofs.PartedLeaves.{not_up}
+use Rattle.zeb_leaves.proofs.PutTables.{OwnsEntries}
 use Rattle.zeb_leaves.proofs.SpanRuns.{below_or}
 
 module _ (Leaves : Row → Type 0) (leaf : Row) (there : Leaves leaf) (first : List ℕ) (from : ℕ) (own_key_is : own_key leaf ≡ leaf_key first from) where

@@ -1,11 +1,12 @@
 -- What stays where the leaves of one register are changed for pieces: each other unit, each other count, and each row that is no leaf of it.
-use Rattle.zeb_leaves.proofs.Cited.{Row, column, Int, ◌≡◌, ◌↔◌, ◌⊎◌, ◌∙◌, ◌*◌, ◌/◌, ◌++◌, ◌∷◌, ℕ, ℤ, pos, List, [], refl, sym, ap, subst, inl, inr, arith, all_has, Has, HasRow, Trees, Entry, IsLeafAlone, IsLeafOf, IsRest, Key, AreAloneIn, IsAnyLeaf, blocks_tree, key_in, register_code, register_front, BlockChange, IsPiece, TurnAllEntries, ArePiecesIn, IsLeafBeneath, KeepsBesideLeaves, told_spot, IsUnitAmong, KeyChanges}
+use Rattle.zeb_leaves.proofs.Cited.{Row, column, Int, ◌≡◌, ◌↔◌, ◌⊎◌, ◌∙◌, ◌*◌, ◌/◌, ◌++◌, ◌∷◌, ℕ, ℤ, pos, List, [], refl, sym, ap, subst, inl, inr, arith, all_has, Has, HasRow, Trees, Entry, IsLeafAlone, IsLeafOf, IsRest, Key, AreAloneIn, IsAnyLeaf, blocks_tree, key_in, register_code, register_front, BlockChange, IsPiece, TurnAllEntries, ArePiecesIn, told_spot, IsUnitAmong, KeyChanges}
 use Rattle.zeb_register.proofs.ContentLemmas.{same_key}
 use Rattle.zeb_register.proofs.SameLeaves.{alone_so}
 use Rattle.zeb_register.specs.KeptUnits.{HasKeyUnit, HasUnit, KeepsUnits}
 use Rattle.zeb_leaves.proofs.AlikeEntries.{Takes, lacks_taken, malformed_taken, part_taken, sum_taken, takes_so}
 use Rattle.zeb_leaves.proofs.PieceChanges.{unit_free}
 use Rattle.zeb_leaves.proofs.PiecesInTurn.{block_touched}
+use Rattle.zeb_leaves.proofs.PutTables.{IsLeafBeneath, KeepsBesideLeaves}
 use Rattle.zeb_leaves.proofs.TurnedLeaves.{TurnsLeaves}
 
 -- the leaves of a register, by the columns before them

@@ -1,11 +1,12 @@
 -- Where a leaf's entries are turned as pieces say, merged, and put in its place, the pieces are put; and where the entries lack a turn, a piece
 -- lacks leave.
-use Rattle.zeb_leaves.proofs.Cited.{Row, ◌≡◌, ◌↔◌, ◌/◌, ◌∷◌, ℕ, ℤ, List, [], refl, sym, subst, all_from, all_has, Has, Trees, Posting, Entry, IsLeafOf, IsPartMalformed, LeavesRead, LeavesReadBlock, Key, PartReads, SayPart, places_in, AreMerged, BlockChange, AreDistinct, BeginsLeavesOf, ReplacesLeafOf, IsPiece, LackTurn, TurnAllEntries, TurnsEntries, block_of, ArePiecesIn, IsCovered, KeepsBesideLeaves, OwnsEntries, one_unit, unit_unread, packed_leaves, IsInBlock, units_of, LacksLeave, PutsKeys, TurnsAny, TurnsKey, IsTouched, KeyChanges, RecordChange}
+use Rattle.zeb_leaves.proofs.Cited.{Row, ◌≡◌, ◌↔◌, ◌/◌, ◌∷◌, ℕ, ℤ, List, [], refl, sym, subst, all_from, all_has, Has, Trees, Posting, Entry, IsLeafOf, IsPartMalformed, LeavesRead, LeavesReadBlock, Key, PartReads, SayPart, places_in, AreMerged, BlockChange, AreDistinct, BeginsLeavesOf, ReplacesLeafOf, IsPiece, LackTurn, TurnAllEntries, TurnsEntries, block_of, ArePiecesIn, one_unit, unit_unread, packed_leaves, IsInBlock, units_of, LacksLeave, PutsKeys, TurnsAny, TurnsKey, IsTouched, KeyChanges, RecordChange}
 use Rattle.zeb_leaves.proofs.BlockTurns.{over, turns_so}
 use Rattle.zeb_leaves.proofs.MergedSayings.{now_says, of_has}
 use Rattle.zeb_leaves.proofs.PieceChanges.{change_of, changes_are}
 use Rattle.zeb_leaves.proofs.PiecesInTurn.{block_touched, touched_block}
 use Rattle.zeb_leaves.proofs.PiecesKept.{In, front_so, units_kept}
+use Rattle.zeb_leaves.proofs.PutTables.{IsCovered, KeepsBesideLeaves, OwnsEntries}
 use Rattle.zeb_leaves.proofs.TurnedLeaves.{TurnsLeaves, begun_turns, none_says, own_says, replaced_turns}
 
 -- the leaves of the register say of each block that is Own just what the entries say

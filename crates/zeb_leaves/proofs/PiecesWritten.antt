@@ -1,5 +1,5 @@
 -- What the call that puts leaves makes of tables, in a store: it puts the pieces whose changes the leaves' entries have.
-use Rattle.zeb_leaves.proofs.Cited.{Row, column, Int, Text, State, Has, ◌≡◌, ◌⊎◌, ◌∙◌, ◌++◌, ◌∷◌, ℕ, ℤ, pos, true, false, List, [], drop, refl, sym, ap, subst, inl, inr, arith, Trees, Entry, Covers, HasRow, IsLeafOf, IsStore, Key, blocks_tree, dict_tree, entry_cmp, key_in, leaf_key, own_key, postings_tree, AreMerged, BlockChange, leaf_shape, AreDistinct, ArePartedFrom, BeginsLeavesOf, ReplacesLeafOf, IfToldPutsEntries, IsLeafWith, PutsEntries, TurnAllEntries, AreAllDistinct, ArePiecesIn, IsCovered, IsLeafBeneath, KeepsBesideLeaves, OwnsEntries, packed_leaves, register_columns, PutsKeys, Changes, KeepsLists, IsTold, KeyChanges, RegisterOf}
+use Rattle.zeb_leaves.proofs.Cited.{Row, column, Int, Text, State, Has, ◌≡◌, ◌⊎◌, ◌∙◌, ◌++◌, ◌∷◌, ℕ, ℤ, pos, true, false, List, [], drop, refl, sym, ap, subst, inl, inr, arith, Trees, Entry, Covers, HasRow, IsLeafOf, IsStore, Key, blocks_tree, dict_tree, entry_cmp, key_in, leaf_key, own_key, postings_tree, AreMerged, BlockChange, leaf_shape, AreDistinct, ArePartedFrom, BeginsLeavesOf, ReplacesLeafOf, IfToldPutsEntries, IsLeafWith, PutsEntries, TurnAllEntries, ArePiecesIn, packed_leaves, register_columns, PutsKeys, Changes, KeepsLists, IsTold, KeyChanges, RegisterOf}
 use Rattle.std.specs.List.Sorted.{IsStrictlySortedBy}
 use Rattle.zeb_register.proofs.Malformed.{key_begins}
 use Rattle.zeb_leaves.proofs.MergedSayings.{has_of, of_has, put_at}
@@ -7,6 +7,7 @@ use Rattle.zeb_leaves.proofs.OneLeaf.{one_leaf}
 use Rattle.zeb_leaves.proofs.PartedLeaves.{key_at, parts_keys}
 use Rattle.zeb_leaves.proofs.PieceChanges.{piece_for}
 use Rattle.zeb_leaves.proofs.PiecesPut.{first_pieces_put, leaf_pieces_put}
+use Rattle.zeb_leaves.proofs.PutTables.{AreAllDistinct, IsCovered, IsLeafBeneath, KeepsBesideLeaves, OwnsEntries}
 
 -- the tables of a store keep one row for each key of a leaf
 pub store_distinct : (s : State) → IsStore s → AreAllDistinct s.now.trees

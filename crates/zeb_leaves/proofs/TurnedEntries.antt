@@ -2,16 +2,9 @@
 use Rattle.zeb_leaves.proofs.Cited.{Has, all_has, ◌≡◌, ◌∙◌, ◌*◌, ◌/◌, ◌+◌, ◌<◌, ◌≤◌, ◌∷◌, ℕ, Option, Some, None, List, [], length, drop, refl, sym, ap, subst, inl, inr, arith, Less, nat_cmp, AllByRecursion, BlockSpells, LiesIn, Posting, eqb_tells, Entry, IsEntry, entry_cmp, IsAt, SayPart, SaysPart, HasRecordOf, IsCount, is_less, none_rises, get_or, drop_more, IsUtf8, entry_with, BlockChange, HasPostings, IsPiece, LacksTurn, TurnAllEntries, TurnsEntries, block_of, Says, some_count, one_say, one_entry, packed_leaves, units_of, IsStorableChange, KeyUnits, TurnsPlaces, TurnsUnit, TurnsUnits, KeyChanges, RecordChange}
 use Rattle.std.specs.List.Sorted.{IsStrictlySortedBy}
 use Rattle.std.specs.Prelude.{◌^◌}
-use Rattle.zeb_leaf.specs.declared.entries.Held.{Held}
 use Rattle.zeb_leaf.specs.declared.merging.NewBlock.{NewBlock}
 
 -- ---- what entries say of a block
-
-pub says_held : (e : Entry) (held : Held) (part : List Posting) → held.block ≡ e.block → held.records ≡ e.records → held.bytes.now ≡ e.bytes → Says held part → SaysPart e part
-says_held e held part block records bytes says = record {
-  spelled = subst (λ (b : ℕ). BlockSpells b part e.bytes) block (subst (BlockSpells held.block part) bytes says.0);
-  counted = subst (IsCount (HasRecordOf part)) records says.1;
-}
 
 pub said_by : (entries : List Entry) (term : List ℕ) (block : ℕ) (part : List Posting) (e : Entry) → IsStrictlySortedBy entry_cmp entries → Has entries e → IsAt term block e
     → SaysPart e part → SayPart entries term block part

@@ -1,10 +1,11 @@
 -- The leaves of a register of which others have the place of one, or which are its first: what each block of the register is before and after,
 -- where the entries of the one are merged with changes.
-use Rattle.zeb_leaves.proofs.Cited.{Row, ◌≡◌, ◌↔◌, ◌⊎◌, ◌∷◌, ℕ, List, [], refl, sym, subst, inl, inr, Posting, Entry, Covers, HasEntriesAt, LacksEntriesAt, leaf_key, own_key, IsLeafAlone, PartReads, SayPart, Contains, AreMerged, BlockChange, AreDistinct, BeginsLeaves, ReplacesLeaf, OwnsEntries, one_entries}
+use Rattle.zeb_leaves.proofs.Cited.{Row, ◌≡◌, ◌↔◌, ◌⊎◌, ◌∷◌, ℕ, List, [], refl, sym, subst, inl, inr, Posting, Entry, Covers, HasEntriesAt, LacksEntriesAt, leaf_key, own_key, IsLeafAlone, PartReads, SayPart, Contains, AreMerged, BlockChange, AreDistinct, BeginsLeaves, ReplacesLeaf, one_entries}
 use Rattle.zeb_leaves.proofs.AlikeEntries.{HaveAlike, Takes, takes_by}
 use Rattle.zeb_leaves.proofs.MergedSayings.{same_says, still_have}
 use Rattle.zeb_leaves.proofs.OneCover.{entries_at, up_to_then}
 use Rattle.zeb_leaves.proofs.PartedLeaves.{Found, not_up}
+use Rattle.zeb_leaves.proofs.PutTables.{OwnsEntries}
 use Rattle.zeb_leaves.proofs.ReplacedLeaves.{alone_stays, covered_before, entries_before, entries_stay, first_alone, first_covers, first_found, first_new, first_reads, found, found_covers, lacks_before, lacks_still, own_reads}
 use Rattle.zeb_leaves.proofs.SpanRuns.{below_or}
 

@@ -1,8 +1,9 @@
 -- The leaves of a database, where a walk over their rows takes the postings, hold these and nothing else.
-use Rattle.zeb_leaves.proofs.Cited.{Row, column, row_cmp, Int, Text, Blob, Has, ◌≡◌, ◌≢◌, ◌⊎◌, ◌∙◌, ◌/◌, ◌∷◌, ℕ, pos, List, [], None, drop, refl, sym, ap, ap₂, subst, inl, inr, arith, Ordering, Less, Equal, Greater, nat_cmp, slice_cmp, ordering_then, all_has, Posting, posting_cmp, posting_total, same_list, kept_rises, in_part, part_in, part_in_block, part_in_list, register_code, Key, key_in, nat_eq, nat_tests, Entry, Covers, IsAt, IsLeafAlone, IsUpTo, PartReads, SayPart, SaysPart, ShowsEntries, leaf_key, own_key, some_posting, AreWalked, HaveOwnKeys, HoldsPostings, IsBeside, Leaf, LeavesIn, ShowsLeaf, entry_key, key_of, leaf_shown, own_of, under_has, under_rises, one_said, one_shown, one_entry, shown_rises, key_posting_order, list_under, with_key, IsListOf, KeyPosting}
+use Rattle.zeb_leaves.proofs.Cited.{Row, column, row_cmp, Int, Text, Blob, Has, ◌≡◌, ◌≢◌, ◌⊎◌, ◌∙◌, ◌/◌, ◌∷◌, ℕ, pos, List, [], None, drop, refl, sym, ap, ap₂, subst, inl, inr, arith, Ordering, Less, Equal, Greater, nat_cmp, slice_cmp, ordering_then, all_has, Posting, posting_cmp, posting_total, same_list, kept_rises, in_part, part_in, part_in_block, part_in_list, register_code, Key, key_in, nat_eq, nat_tests, Entry, Covers, IsAt, IsLeafAlone, IsUpTo, PartReads, SayPart, SaysPart, ShowsEntries, leaf_key, own_key, some_posting, AreWalked, HoldsPostings, IsBeside, Leaf, LeavesIn, ShowsLeaf, entry_key, key_of, leaf_shown, own_of, under_has, under_rises, one_said, one_shown, one_entry, shown_rises, key_posting_order, list_under, with_key, IsListOf, KeyPosting}
 use Rattle.std.specs.List.Sorted.{IsStrictlySortedBy}
 use Rattle.zeb_leaves.proofs.DatabaseRows.{beside_told, front_of, leaves_less, leaves_up, shown_beside}
 use Rattle.zeb_leaves.proofs.OneCover.{entries_at, one_cover}
+use Rattle.zeb_leaves.proofs.OwnKeys.{HaveOwnKeys}
 use Rattle.zeb_leaves.proofs.SaidLists.{near}
 use Rattle.zeb_leaves.proofs.SpanRuns.{flipped, flipped_back, up_itself}
 use Rattle.zeb_leaves.proofs.WalkedLeaves.{Stands, walked_begins, walked_ends, walked_leaf, walked_posting}

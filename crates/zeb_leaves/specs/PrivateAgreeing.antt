@@ -15,7 +15,7 @@ use Rattle.zeb_leaf.specs.Leaves.{leaf_bytes}
 use Rattle.zeb_leaf.specs.declared.entries.Entry.{Entry}
 use Rattle.zeb_leaves.specs.LeafSizes.{most_leaf_bytes}
 use Rattle.zeb_leaves.specs.declared.agreeing_rows.ShownLeaf.{ShownLeaf}
-use Rattle.zeb_register.specs.Agreeing.{IsListedId, IsThere, LacksPostingsAndDict}
+use Rattle.zeb_register.specs.Agreeing.{IsListedId}
 use Rattle.zeb_register.specs.Covering.{ShowsEntries, leaf_key}
 use Rattle.zeb_register.specs.Expected.{key_posting_order}
 use Rattle.zeb_register.specs.HeldLeaves.{IsLeafAlone}
@@ -113,10 +113,6 @@ module _ (Rests : Row → Type 0) where
   LeavesIn key leaf =
       Rests (Int (pos key.index) ∷ Int (pos (register_code key.register)) ∷ leaf) × (block : ℕ) × (column leaf 1 ≡ Int (pos block))
 
-  -- no two rows have one key
-  abbrev pub HaveOwnKeys : Type 0
-  HaveOwnKeys = (key : Key) (block : ℕ) (one other : List ℕ) → Rests (rest_shown key block one) → Rests (rest_shown key block other) → one ≡ other
-
   -- they hold these postings, and nothing else
   pub record HoldsPostings (postings : List KeyPosting) : Type 0 where
     pub each : (row : Row) → Rests row → (key : Key) × (block : ℕ) × (bytes : List ℕ) × (row ≡ rest_shown key block bytes)
@@ -158,10 +154,3 @@ EachHasLeaves listed databases trees =
 
 abbrev pub PostingsRise : List ExpectedDatabase → Type 0
 PostingsRise databases = (database : ExpectedDatabase) → Has databases database → IsStrictlySortedBy key_posting_order database.postings.items
-
--- Each database that is there has under its id leaves that hold its postings. Those under any other id, of which nothing is expected, hold none.
--- `postings` and `dict` have no row.
-pub record LeavesAgree (trees : Trees) (databases : List ExpectedDatabase) : Type 0 where
-  pub there : (id : ℤ) (database : ExpectedDatabase) → IsThere trees databases id database → HasLeaves id database.postings.items trees
-  pub others : (id : ℤ) → ((database : ExpectedDatabase) → ¬ IsThere trees databases id database) → HasLeaves id [] trees
-  pub lacks : LacksPostingsAndDict trees

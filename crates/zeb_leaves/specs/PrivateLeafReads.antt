@@ -9,7 +9,7 @@ use Rattle.sqlite.specs.Order.{Row, column, value_cmp}
 use Rattle.sqlite.specs.State.{HasCleanDisk, Shown, State}
 use Rattle.sqlite.specs.Tree.{Trees}
 use Rattle.zeb_leaf_rows.specs.LeafRows.{IsLastOf}
-use Rattle.zeb_leaf_rows.specs.PrivateLeafRows.{IsFirst, ShowsFirst}
+use Rattle.zeb_leaf_rows.specs.PrivateLeafRows.{IsFirst}
 use Rattle.zeb_register.specs.Calls.{Inside, OnlyReads}
 use Rattle.zeb_register.specs.Covering.{IsUpTo, own_key}
 use Rattle.zeb_register.specs.declared.registers.RegisterOf.{RegisterOf}
@@ -24,9 +24,6 @@ pub record ShowsLast (sql : List ℕ) (params : Row) (old new : State) (result :
   pub last : HasCleanDisk new → IfOk result (λ found. (rows : List Row) × Shown sql params old new rows × IsLastOf rows found)
 
 -- the one with the least own key
-abbrev pub ShowsLeast : (Row → Type 0) → List Row → Type 0
-ShowsLeast = ShowsFirst (λ row other. IsUpTo (own_key other) row)
-
 abbrev pub IsLeast : (Row → Type 0) → Option Row → Type 0
 IsLeast = IsFirst (λ row other. IsUpTo (own_key other) row)
 

@@ -8,6 +8,7 @@ use Rattle.sqlite_rules.specs.Lists.{Has}
 use Rattle.zeb_keys.specs.Registers.{register_code}
 use Rattle.zeb_leaf.specs.Leaves.{IsLeaf}
 use Rattle.zeb_leaf.specs.declared.entries.Entry.{Entry}
+use Rattle.zeb_leaf.specs.declared.entries.TheConstants.{FULL_BYTES}
 use Rattle.zeb_leaf.specs.declared.parting.NewLeaf.{NewLeaf}
 use Rattle.zeb_register.specs.Covering.{leaf_key}
 use Rattle.zeb_leaves.specs.LeafChanges.{ArePartedFrom}
@@ -54,17 +55,13 @@ IfToldPuts is_there at term number bytes leaves tree old new =
 abbrev pub IsRowOfOne : RegisterOf → List Row → Row → Type 0
 IsRowOfOne at leaves row = (leaf : Row) × Has leaves leaf × (row ≡ register_columns at ++ leaf)
 
--- so many bytes a leaf with more than one entry takes at most where it is written
-abbrev pub filled_leaf_bytes : ℕ
-filled_leaf_bytes = 1300
-
--- the leaf has some entry, and several in at most so many bytes
+-- the leaf has some entry, and several in at most FULL_BYTES bytes
 pub record IsFilled (leaf : Row) : Type 0 where
   pub own : List Entry
   pub bytes : List ℕ
   pub is : column leaf 2 ≡ Blob bytes
   pub spelled : IsLeaf bytes own
-  pub small : 2 ≤ length own → length bytes ≤ filled_leaf_bytes
+  pub small : 2 ≤ length own → length bytes ≤ FULL_BYTES
 
 -- of leaves that have entries together, each has some
 abbrev pub AreFilled : List Row → List Entry → Type 0

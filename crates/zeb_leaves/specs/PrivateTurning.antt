@@ -1,5 +1,5 @@
 -- What only the contracts of private functions speak of; no public clause reaches it: the pieces of a run at the front, put into one leaf.
-use Rattle.std.specs.Prelude.{◌≡◌, ◌≤◌, ℕ, ℤ, List, [], ◌∷◌, Some, None, Result, OnOk, length, take, IsUtf8}
+use Rattle.std.specs.Prelude.{◌≡◌, ℕ, ℤ, List, [], ◌∷◌, Some, None, Result, OnOk, take, IsUtf8}
 use Rattle.std.specs.declared.cmp.Ordering.TheVariants.{Less}
 use Rattle.sqlite.specs.Order.{Row}
 use Rattle.sqlite.specs.State.{State}
@@ -39,10 +39,10 @@ abbrev pub CoversFirst : (Row → Type 0) → Row → List KeyChanges → Type 0
 CoversFirst Leaves leaf [] = Unit {0}
 CoversFirst Leaves leaf (piece ∷ pieces) = Covers Leaves (leaf_key piece.key.now.term (block_of piece.changes.now)) leaf
 
--- the pieces at the front are put, one at least, and so many are they; or one of all lacks leave
+-- so many pieces at the front are put; or one of all lacks leave
 abbrev pub PutsFront : ℤ → List KeyChanges → (old : Trees) → (new : State) → Result ℕ RegFault → Type 0
 PutsFront db pieces old new = Answers (IfDamaged (LacksLeave packed_leaves db pieces old))
-    (λ count. (1 ≤ count) × (count ≤ length pieces) × IsStore new × PutsKeys packed_leaves db (take count pieces) old new.now.trees)
+    (λ count. IsStore new × PutsKeys packed_leaves db (take count pieces) old new.now.trees)
 
 -- inside a transaction on a store
 abbrev pub TurnsFront : ℤ → List KeyChanges → (old new : State) → Result ℕ RegFault → Type 0

@@ -7,9 +7,9 @@ ghost use Rattle.zeb_register.specs.PrivateRowExpected.{with_key};
 ghost use Rattle.zeb_register.specs.Readings.{SaysPart};
 
 use crate::agreeing_rows::ShownLeaf;
-use crate::said_postings::push_said;
+use crate::said_postings::entry_said;
 use std::alloc::{AllocError, Global};
-use zeb_leaf::{Entry, Held};
+use zeb_leaf::Entry;
 use zeb_register::{KeyPosting, Posting, RowFault};
 
 /// The postings that an entry says, if it says any.
@@ -17,14 +17,8 @@ fn part_said(alloc: Global, entry: &Entry) -> Result<Option<Vec<Posting>>, Alloc
     ensures { IfOk result (λ found. MatchOption found ((part : List _)
         → ¬ SaysPart entry.now part) (λ part. SaysPart entry.now part.items)) }
 {
-    let held = Held {
-        block: entry.block,
-        records: entry.records,
-        bytes: entry.bytes.as_slice(),
-    };
-    let mut part = Vec::new(alloc);
-    match push_said(&mut part, &held) {
-        Ok(()) => Ok(Some(part)),
+    match entry_said(alloc, entry) {
+        Ok(part) => Ok(Some(part)),
         Err(RowFault::Damaged) => Ok(None),
         Err(RowFault::Memory) => Err(AllocError),
     }

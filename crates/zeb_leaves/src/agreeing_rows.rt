@@ -145,7 +145,7 @@ fn are_from(entries: &[Entry], own: BlockKey<'_>) -> bool
         → row_cmp (leaf_key own.entry.term.now own.entry.block) (entry_key e) ≢ Greater)) }
 {
     match entries.split_first() {
-        Some((first, _)) => !is_below(key_of_entry(first), own),
+        Some((first, _)) => !is_below(first.key(), own),
         None => true,
     }
 }
@@ -157,19 +157,8 @@ fn end_before(entries: &[Entry], end: BlockKey<'_>) -> bool
         → row_cmp (entry_key e) (leaf_key end.entry.term.now end.entry.block) ≡ Less)) }
 {
     match entries.split_last() {
-        Some((last, _)) => is_below(key_of_entry(last), end),
+        Some((last, _)) => is_below(last.key(), end),
         None => true,
-    }
-}
-
-/// The key of an entry.
-fn key_of_entry(entry: &Entry) -> BlockKey<'_>
-    ensures term { result.term.now ≡ entry.now.term }
-    ensures block { result.block ≡ entry.now.block }
-{
-    BlockKey {
-        term: entry.term.as_slice(),
-        block: entry.block,
     }
 }
 

@@ -23,10 +23,7 @@ pub(crate) fn is_below(key: BlockKey, other: BlockKey) -> bool
     ensures { result ≡ is_lt (key_cmp key.entry.term.now key.entry.block other.entry.term.now
         other.entry.block) }
 {
-    key.term
-        .cmp(other.term)
-        .then(key.block.cmp(&other.block))
-        .is_lt()
+    key.order(other).is_lt()
 }
 
 /// Sets `begun` to whether a key isn't below `from`. Where it is set already, a key before this one wasn't, and nothing is compared.

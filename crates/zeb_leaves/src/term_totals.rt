@@ -16,12 +16,12 @@ ghost use Rattle.zeb_register.specs.Terms.{TellsTotals};
 
 use crate::own_entries::own_entries;
 use crate::rows_from::leaves_from;
-use crate::said_postings::push_said;
+use crate::said_postings::entry_said;
 use crate::spans::own_key;
 use crate::terms::counts_in;
 use sqlite::{Alter, Connection, Row};
 use std::alloc::Global;
-use zeb_leaf::{BlockKey, Entry, Held};
+use zeb_leaf::{BlockKey, Entry};
 use zeb_register::{RegFault, RegisterOf, RowFault, Totals};
 
 /// How many postings an entry says. `Damaged` where it says none.
@@ -29,14 +29,7 @@ fn entry_postings(alloc: Global, entry: &Entry) -> Result<u64, RowFault>
     ensures { Answers (IfRowDamaged (SaysNone entry.now))
         (λ many. (part : List _) × SaysPart entry.now part × (many ≡ length part)) result }
 {
-    let mut part = Vec::new(alloc);
-    let held = Held {
-        block: entry.block,
-        records: entry.records,
-        bytes: entry.bytes.as_slice(),
-    };
-    push_said(&mut part, &held)?;
-    Ok(part.len() as u64)
+    Ok(entry_said(alloc, entry)?.len() as u64)
 }
 
 /// How many postings entries say together.

@@ -1,13 +1,12 @@
 //! What becomes of the entries of a leaf where pieces of a run are changed: each piece's entry is read, turned and spelled anew.
 
-ghost use Rattle.std.specs.Prelude.{◌≡◌, List, IfOk, MatchOption};
+ghost use Rattle.std.specs.Prelude.{List, IfOk, MatchOption};
 ghost use Rattle.std.specs.Option.{option_map};
 ghost use Rattle.std.specs.List.{AllByRecursion};
 ghost use Rattle.std.specs.List.Sorted.{IsStrictlySortedBy};
 ghost use Rattle.sqlite_rules.specs.Lists.{Has};
 ghost use Rattle.zeb_blocks.specs.Blocks.{LiesIn};
 ghost use Rattle.zeb_leaf.specs.Order.{IsEntry, entry_cmp};
-ghost use Rattle.zeb_leaf.specs.Spans.{key_cmp};
 ghost use Rattle.zeb_leaf.specs.declared.entries.Entry.{Entry};
 ghost use Rattle.zeb_leaf.specs.declared.spans.BlockKey.{BlockKey as KeyOfBlock};
 ghost use Rattle.zeb_leaves.specs.PrivatePieces.{HasPostings, IsPiece, LackTurn, LacksTurn, TurnAllEntries, TurnsEntries, block_of};
@@ -21,25 +20,13 @@ ghost use Rattle.zeb_register.specs.UnitChanges.{IsStorableChange, KeyUnits, Tur
 
 use crate::own_entries::own_entries;
 use crate::pieces::first_block;
-use crate::said_postings::push_said;
+use crate::said_postings::entry_said;
 use sqlite::Row;
 use std::alloc::{AllocError, Global};
-use std::cmp::Ordering;
 use zeb_blocks::{Posting, records_in, spell};
-use zeb_leaf::{BlockChange, BlockKey, Bytes, Entry, Held, NewBlock, merge};
+use zeb_leaf::{BlockChange, BlockKey, Bytes, Entry, NewBlock, merge};
 use zeb_register::for_layouts::postings_changed;
 use zeb_register::{KeyChanges, RecordChange, RowFault};
-
-/// How an entry lies to a key.
-fn place(entry: &Entry, key: BlockKey) -> Ordering
-    ensures { result ≡ key_cmp entry.now.term entry.now.block key.entry.term.now key.entry.block }
-{
-    entry
-        .term
-        .as_slice()
-        .cmp(key.term)
-        .then(entry.block.cmp(&key.block))
-}
 
 /// The entry of a block of a term, where there is one.
 fn entry_at<'a>(entries: &'a [Entry], key: BlockKey) -> Option<&'a Entry>
@@ -49,7 +36,7 @@ fn entry_at<'a>(entries: &'a [Entry], key: BlockKey) -> Option<&'a Entry>
         (λ found. Has entries.now found.now
         × IsAt key.entry.term.now key.entry.block found.now) }
 {
-    match entries.binary_search_by(|entry| place(entry, key)) {
+    match entries.binary_search_by(|entry| entry.order(key)) {
         Ok(at) => Some(&entries[at]),
         Err(_) => None,
     }
@@ -62,16 +49,10 @@ fn postings_at(alloc: Global, entries: &[Entry], key: BlockKey) -> Result<Vec<Po
         → ¬ SayPart entries.now key.entry.term.now key.entry.block part))
         (λ list. SayPart entries.now key.entry.term.now key.entry.block list.items) result }
 {
-    let mut postings = Vec::new(alloc);
-    if let Some(entry) = entry_at(entries, key) {
-        let held = Held {
-            block: entry.block,
-            records: entry.records,
-            bytes: entry.bytes.as_slice(),
-        };
-        push_said(&mut postings, &held)?;
+    match entry_at(entries, key) {
+        Some(entry) => entry_said(alloc, entry),
+        None => Ok(Vec::new(alloc)),
     }
-    Ok(postings)
 }
 
 /// The postings of a block after changes of its records, one after the other. `Damaged` where a record has other places than its change says.

@@ -45,9 +45,7 @@ returns-clause-turned g c clean inside store ends covers =
     let front = at_front c.args.at pieces n c.requires.some c.requires.pieces c.requires.first c.count_covered-count.ensures.register in
     let named = subst (λ (t' : List ℕ). Changes blocks_tree (IfToldPutsEntries true c.args.at t' block c.deref.result.now) s t) c.text_of.ensures (c.in_ok-written.ensures.put clean inside store) in
     let done = subst (λ (l : List Entry). Changes blocks_tree (IfToldPutsEntries true c.args.at term block l) s t) c.deref.ensures.value named in
-    let count = all_within pieces n c.requires.some c.count_covered-count.ensures.within in
-    let put = leaf_front_put s store c.args.at pieces n front c.args.leaf.now term block end c.in_ok-own.ensures.ok (below_front end pieces n c.count_covered-count.ensures.below) ends covers t c.in_ok-entries.entries.items c.in_ok-entries.ensures done in
-    (count.0, count.1, put.0, put.1)
+    leaf_front_put s store c.args.at pieces n front c.args.leaf.now term block end c.in_ok-own.ensures.ok (below_front end pieces n c.count_covered-count.ensures.below) ends covers t c.in_ok-entries.entries.items c.in_ok-entries.ensures done
 
 pub returns-clause-work : goal.returns-clause-work
 returns-clause-work g c clean inside store =

@@ -43,7 +43,7 @@ loop-done-preserved g c =
           stays_then first mid last before (it.call.ok clean before.inside);
       store = λ clean inside store.
           let was : HasCleanDisk mid = omega (arith, c.front_turned.ensures.call.crash.clean) in
-          (it.turned clean (so_far.stays was inside).inside (so_far.store was inside store)).2;
+          (it.turned clean (so_far.stays was inside).inside (so_far.store was inside store)).0;
       work = λ clean inside store.
           let was : HasCleanDisk mid = omega (arith, c.front_turned.ensures.call.crash.clean) in
           let one = it.work clean (so_far.stays was inside).inside (so_far.store was inside store) in
@@ -52,7 +52,7 @@ loop-done-preserved g c =
       leads = λ clean inside store.
           let was : HasCleanDisk mid = omega (arith, c.front_turned.ensures.call.crash.clean) in
           leads_more pieces done c.requires c.args.db.0 first.now.trees mid.now.trees (so_far.leads was inside store) count last.now.trees
-          (it.turned clean (so_far.stays was inside).inside (so_far.store was inside store)).3;
+          (it.turned clean (so_far.stays was inside).inside (so_far.store was inside store)).1;
     }
 
 pub returns-clause-units : goal.returns-clause-units

@@ -41,10 +41,8 @@ returns-clause-turned g c clean inside store none =
     let news = c.in_ok-entries.entries.items in
     let front = at_front c.args.at pieces n c.requires.some c.requires.pieces c.requires.first c.count_covered-count.ensures.register in
     let done = subst (λ (l : List Entry). Changes blocks_tree (IfToldPutsEntries false c.args.at [] 0 l) s t) c.deref.ensures.value (c.in_ok-written.ensures.put clean inside store) in
-    let count = all_within pieces n c.requires.some c.count_covered-count.ensures.within in
     let turned = subst (λ (own : List Entry). TurnsInto own (take (1 + n) pieces) news) c.new.ensures.items c.in_ok-entries.ensures in
-    let put = first_front_put s store c.args.at pieces n front none t news turned done in
-    (count.0, count.1, put.0, put.1)
+    first_front_put s store c.args.at pieces n front none t news turned done
 
 pub returns-clause-work : goal.returns-clause-work
 returns-clause-work g c clean inside store =
