@@ -9,8 +9,8 @@ use std::marker::Model;
 pub const LEAF_BYTES: usize = 3_000;
 
 /// So many bytes a leaf that is written has at most, unless it has a single entry: above it, a leaf is parted. To read one key or to change it is
-/// to read a whole leaf, so these are fewer than a leaf may have; three such leaves and their keys fit a page of the store.
-pub const FULL_BYTES: usize = 1_300;
+/// to read a whole leaf, so these are fewer than a leaf may have; two such leaves and their keys fit a page of the store.
+pub const FULL_BYTES: usize = 1_900;
 
 /// Bytes of a leaf that are kept: contracts see their list. Most terms are short, and so are the blocks of most terms: up to 24 bytes are kept in
 /// the value, since a leaf has a hundred entries and more, and memory for each of them would take longer than all else.

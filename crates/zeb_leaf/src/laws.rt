@@ -49,7 +49,7 @@ pub fn sizes_of_entries()
 
 /// So many bytes a leaf of several entries may have, and so many one that is written.
 pub fn bytes_of_leaves()
-    ensures { (LEAF_BYTES ≡ 3000) × (FULL_BYTES ≡ 1300) }
+    ensures { (LEAF_BYTES ≡ 3000) × (FULL_BYTES ≡ 1900) }
 {}
 
 /// The definitions, tried on worked leaves and on bytes that are none.

@@ -1,7 +1,7 @@
 //! How many rows a call looks at, by the store's limit on the steps of a statement's query.
 
 /// Whole tables need as many steps as they have rows, and calls on one record or one key pass under the limit. Words come in their order, so each
-/// leaf but the last is full: its 1,300 bytes take 128 to 140 words.
+/// leaf but the last is full: its 1,900 bytes take 194 to 200 words.
 pub static TABLES: &str = "\
 do make_tables
 do database_put Default 3000
@@ -15,7 +15,7 @@ limit none
 plain SELECT count(*) FROM postings -> 3000;
 packed SELECT count(*) FROM blocks -> 3000;
 packed SELECT count(*) FROM dict -> 3000;
-leaves SELECT count(*) FROM blocks -> 23;
+leaves SELECT count(*) FROM blocks -> 16;
 SELECT count(*) FROM records -> 3000;
 limit 30
 plain UPDATE postings SET seq = seq -> Store
