@@ -1,5 +1,5 @@
 -- What work inside a transaction does to a connection, whatever it does to rows.
-use Rattle.std.specs.Prelude.{IsTrue, MatchResult, Result}
+use Rattle.std.specs.Prelude.{◌≡◌, IsTrue, MatchResult, Result}
 use Rattle.std.specs.Borrow.{MutBor}
 use Rattle.sqlite.specs.Held.{Held, state}
 use Rattle.sqlite.specs.State.{HasCleanDisk, KeepsCommit, State, Survives}
@@ -20,6 +20,7 @@ pub record WorksInside {T E : Type 0} (old new : State) (result : Result T E) : 
   pub stays : HasCleanDisk new → IsTrue old.in_transaction → StaysInside old new result
   pub crash : Survives old new (λ _. ⊥)
 
--- the same, of a connection that a transaction borrows
-abbrev pub WorksInsideOf : {S T E : Type 0} → Ghosts S → (old new : MutBor (Held S)) → Result T E → Type 0
-WorksInsideOf store old new result = WorksInside (state store old.now) (state store new.now) result
+-- the same, of a connection that a transaction borrows, and goes on to borrow
+pub record WorksInsideOf {S T E : Type 0} (store : Ghosts S) (old new : MutBor (Held S)) (result : Result T E) : Type 0 where
+  pub same : new.ghost_name ≡ old.ghost_name
+  pub does : WorksInside (state store old.now) (state store new.now) result

@@ -1,10 +1,13 @@
 -- Changes of keys that are noted and not yet written: what the registers hold once they are.
 use Rattle.std.specs.Prelude.{◌≡◌, ◌≢◌, ◌+◌, ℕ, ℤ, List, [], ◌∷◌, length, Option, Some, None, IsTrue, Result, Err, OnOk}
+use Rattle.std.specs.Borrow.{MutBor}
 use Rattle.std.specs.BTreeMap.{get}
 use Rattle.std.specs.List.Sorted.{IsStrictlySortedBy}
 use Rattle.sqlite.specs.declared.types.Value.TheVariants.{Int}
+use Rattle.sqlite.specs.Held.{Held, state}
 use Rattle.sqlite.specs.State.{HasCleanDisk, State, Survives}
 use Rattle.sqlite.specs.Tree.{Trees}
+use Rattle.sqlite_trees.specs.declared.store.Store.{Ghosts}
 use Rattle.zeb_keys.specs.declared.keys.Key.{Key}
 use Rattle.zeb_keys.specs.Order.{key_order}
 use Rattle.zeb_register.specs.declared.faults.RegFault.{RegFault}
@@ -99,3 +102,8 @@ pub record Settles {T : Type 0} (format : Format) (row_work : ℕ) (db : ℤ) (o
   pub honest : HasCleanDisk new → IsTrue old.in_transaction → IsStore old → result ≡ Err Damaged
       → (ahead : Content) → IsStorable ahead → ¬ WillHold format old.now.trees db before ahead
   pub crash : Survives old new (λ _. ⊥)
+
+-- the same, of a connection that a transaction borrows, and goes on to borrow
+pub record SettlesOf {S T : Type 0} (store : Ghosts S) (format : Format) (row_work : ℕ) (db : ℤ) (old new : MutBor (Held S)) (before after : Pending) (work worked : Work) (result : Result T RegFault) : Type 0 where
+  pub same : new.ghost_name ≡ old.ghost_name
+  pub does : Settles format row_work db (state store old.now) (state store new.now) before after work worked result

@@ -72,7 +72,6 @@ fn note_record<S: Alter>(
     pending: &mut Pending,
     incoming: Incoming<'_>,
 ) -> Result<(), TakeFault>
-    ensures same { tx.new.conn.ghost_name ≡ tx.old.conn.ghost_name }
     ensures inside { WorksInsideOf S.Store tx.old.conn tx.new.conn result }
     ensures steps { Steps setting.now.limits fold.old.progress fold.new.progress }
     ensures folds { OnRowsOf S.Store tx.old.conn tx.new.conn
@@ -98,7 +97,6 @@ fn take_record<S: Alter, L: Layout>(
     pending: &mut Pending,
     incoming: Incoming<'_>,
 ) -> Result<(), TakeFault>
-    ensures same { tx.new.conn.ghost_name ≡ tx.old.conn.ghost_name }
     ensures inside { WorksInsideOf S.Store tx.old.conn tx.new.conn result }
     ensures steps { Advances setting.now.limits L.format L.row_work fold.old.progress
         fold.new.progress }
@@ -133,7 +131,6 @@ fn fold_file<S: Alter, L: Layout, R: Source>(
     reader: &mut R,
     file: u64,
 ) -> Result<(), FoldFault>
-    ensures same { tx.new.conn.ghost_name ≡ tx.old.conn.ghost_name }
     ensures inside { WorksInsideOf S.Store tx.old.conn tx.new.conn result }
     ensures steps { Advances setting.now.limits L.format L.row_work fold.old.progress
         fold.new.progress }
@@ -173,7 +170,6 @@ fn fold_readers<S: Alter, L: Layout, R: Source>(
     buffer: &mut RecordBuf,
     readers: &mut [R],
 ) -> Result<(), FoldFault>
-    ensures same { tx.new.conn.ghost_name ≡ tx.old.conn.ghost_name }
     ensures inside { WorksInsideOf S.Store tx.old.conn tx.new.conn result }
     ensures steps { Advances setting.now.limits L.format L.row_work fold.old.progress
         fold.new.progress }
@@ -202,7 +198,6 @@ fn take_files<S: Alter, L: Layout, R: Source>(
     buffer: &mut RecordBuf,
     readers: &mut [R],
 ) -> Result<(), Refusal>
-    ensures same { tx.new.conn.ghost_name ≡ tx.old.conn.ghost_name }
     ensures inside { WorksInsideOf S.Store tx.old.conn tx.new.conn result }
     ensures steps { Advances setting.now.limits L.format L.row_work fold.old.progress
         fold.new.progress }
@@ -239,7 +234,6 @@ pub fn fold_files<S: Alter, L: Layout, R: Source>(
     buffer: &mut RecordBuf,
     readers: &mut [R],
 ) -> Result<(), Refusal>
-    ensures same { tx.new.conn.ghost_name ≡ tx.old.conn.ghost_name }
     ensures inside { WorksInsideOf S.Store tx.old.conn tx.new.conn result }
     // How far the last number and the counts go, whatever is answered.
     ensures steps { Advances setting.now.limits L.format L.row_work fold.old.progress

@@ -92,7 +92,6 @@ fn insert<S: Alter>(
 ) -> Result<Fate, RegFault>
     requires whole { IsRecord newer.now.bytes.now newer.now.marc }
     requires free { progress.old.last < setting.now.limits.numbers }
-    ensures same { tx.new.conn.ghost_name ≡ tx.old.conn.ghost_name }
     ensures inside { WorksInsideOf S.Store tx.old.conn tx.new.conn result }
     ensures steps { Steps setting.now.limits progress.old progress.new }
     ensures inserts { OnRowsOf S.Store tx.old.conn tx.new.conn
@@ -127,7 +126,6 @@ fn replace<S: Alter>(
     newer: &Newer<'_>,
 ) -> Result<Fate, RegFault>
     requires whole { IsRecord newer.now.bytes.now newer.now.marc }
-    ensures same { tx.new.conn.ghost_name ≡ tx.old.conn.ghost_name }
     ensures inside { WorksInsideOf S.Store tx.old.conn tx.new.conn result }
     ensures supplants { OnRowsOf S.Store tx.old.conn tx.new.conn
         (Supplants setting.now progress.now.database.0 newer.now.ident.now newer.now.bytes.now
@@ -155,7 +153,6 @@ fn withdraw<S: Alter>(
     ident: &str,
     elder: &Elder,
 ) -> Result<Fate, RegFault>
-    ensures same { tx.new.conn.ghost_name ≡ tx.old.conn.ghost_name }
     ensures inside { WorksInsideOf S.Store tx.old.conn tx.new.conn result }
     ensures withdraws { OnRowsOf S.Store tx.old.conn tx.new.conn
         (Withdraws setting.now progress.now.database.0 ident.now elder.now
@@ -183,7 +180,6 @@ fn turn_record<S: Alter>(
     nth: u64,
 ) -> Result<Fate, TurnFault>
     requires whole { IsRecord newer.now.bytes.now newer.now.marc }
-    ensures same { tx.new.conn.ghost_name ≡ tx.old.conn.ghost_name }
     ensures inside { WorksInsideOf S.Store tx.old.conn tx.new.conn result }
     ensures steps { Steps setting.now.limits progress.old progress.new }
     ensures turns { OnRowsOf S.Store tx.old.conn tx.new.conn
@@ -247,7 +243,6 @@ pub(crate) fn change_record<S: Alter>(
     pending: &mut Pending,
     incoming: Incoming<'_>,
 ) -> Result<Fate, ChangeFault>
-    ensures same { tx.new.conn.ghost_name ≡ tx.old.conn.ghost_name }
     ensures inside { WorksInsideOf S.Store tx.old.conn tx.new.conn result }
     ensures steps { Steps setting.now.limits progress.old progress.new }
     ensures changes { OnRowsOf S.Store tx.old.conn tx.new.conn

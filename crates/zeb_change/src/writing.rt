@@ -10,7 +10,7 @@ ghost use Rattle.zeb_register.specs.Tallies.{CountsNothing, works_for};
 ghost use Rattle.zeb_register.specs.UnitChanges.{NumbersRise};
 ghost use Rattle.zeb_change.specs.declared.key_notes.KeyNotes.{KeyNotes};
 ghost use Rattle.zeb_change.specs.NoteWords.{KeyChange};
-ghost use Rattle.zeb_change.specs.Noted.{IsNothingNoted, KeepsUnwritten, Settles, changes_among};
+ghost use Rattle.zeb_change.specs.Noted.{IsNothingNoted, KeepsUnwritten, SettlesOf, changes_among};
 ghost use Rattle.zeb_change.specs.Inside.{WorksInsideOf};
 ghost use Rattle.zeb_change.specs.PrivateNoteWords.{IsCutOff, counts_in, places_in};
 ghost use Rattle.zeb_change.specs.PrivatePending.{AreGivenInOrder, IsGivenFrom, IsTakenFrom};
@@ -112,7 +112,6 @@ fn write_run<S: Alter, L: Layout>(
     taken: &[TakenKey],
 ) -> Result<(), RegFault>
     requires rising { IsStrictlySortedBy key_order (map (λ (one : TakenKey). one.key) taken.now) }
-    ensures same { tx.new.conn.ghost_name ≡ tx.old.conn.ghost_name }
     ensures call { InsideOf S.Store tx.old.conn tx.new.conn result (λ _. GoesOn) }
     ensures rows { (entries : List (Key × KeyNotes)) → AllZip IsTakenFrom entries taken.now
         → WritesInStore L.format db.0 entries (state S.Store tx.old.conn.now)
@@ -136,7 +135,6 @@ fn write_runs<S: Alter, L: Layout>(
     db: DatabaseId,
     pending: &mut Pending,
 ) -> Result<(), RegFault>
-    ensures same { tx.new.conn.ghost_name ≡ tx.old.conn.ghost_name }
     ensures inside { WorksInsideOf S.Store tx.old.conn tx.new.conn result }
     ensures rows { WritesInStore L.format db.0 pending.old.notes.entries
         (state S.Store tx.old.conn.now) (state S.Store tx.new.conn.now) result }
@@ -167,10 +165,8 @@ pub fn write_pending<S: Alter, L: Layout>(
     db: DatabaseId,
     pending: &mut Pending,
 ) -> Result<(), RegFault>
-    ensures same { tx.new.conn.ghost_name ≡ tx.old.conn.ghost_name }
-    ensures call { Settles L.format L.row_work db.0 (state S.Store tx.old.conn.now)
-        (state S.Store tx.new.conn.now) pending.old pending.new
-        work.old work.new result }
+    ensures call { SettlesOf S.Store L.format L.row_work db.0 tx.old.conn tx.new.conn
+        pending.old pending.new work.old work.new result }
     ensures all { OnOk result (IsNothingNoted pending.new) }
     ensures keeps { InStoreOf S.Store tx.old.conn tx.new.conn
         (λ trees. OnOk result (KeepsUnwritten L.format db.0 trees
@@ -189,10 +185,8 @@ pub fn write_where_full<S: Alter, L: Layout>(
     db: DatabaseId,
     pending: &mut Pending,
 ) -> Result<(), RegFault>
-    ensures same { tx.new.conn.ghost_name ≡ tx.old.conn.ghost_name }
-    ensures call { Settles L.format L.row_work db.0 (state S.Store tx.old.conn.now)
-        (state S.Store tx.new.conn.now) pending.old pending.new
-        work.old work.new result }
+    ensures call { SettlesOf S.Store L.format L.row_work db.0 tx.old.conn tx.new.conn
+        pending.old pending.new work.old work.new result }
     ensures keeps { InStoreOf S.Store tx.old.conn tx.new.conn
         (λ trees. OnOk result (KeepsUnwritten L.format db.0 trees
         (state S.Store tx.new.conn.now).now.trees)) }

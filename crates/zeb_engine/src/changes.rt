@@ -91,7 +91,6 @@ fn check_numbers<S: Alter>(
     database: DatabaseId,
     last: u64,
 ) -> Result<(), RegFault>
-    ensures same { tx.new.conn.ghost_name ≡ tx.old.conn.ghost_name }
     ensures call { InsideOf S.Store tx.old.conn tx.new.conn result (λ _. OnlyReads) }
     ensures numbers { InStoreOf S.Store tx.old.conn tx.new.conn
         (λ trees. OnOk result (HasNumbersTo last trees database.0)) }
@@ -111,7 +110,6 @@ fn begin_change<S: Alter>(
     name: &str,
     last: u64,
 ) -> Result<DatabaseId, RegFault>
-    ensures same { tx.new.conn.ghost_name ≡ tx.old.conn.ghost_name }
     ensures call { InsideOf S.Store tx.old.conn tx.new.conn result (λ _. GoesOn) }
     ensures put { ChangesTableOf S.Store tx.old.conn tx.new.conn databases_tree result
         (λ id. PutsDatabase id.0 name.now (pos last)) }
@@ -133,7 +131,6 @@ fn apply<S: Alter, L: Layout, R: Source>(
     buffer: &mut RecordBuf,
     readers: &mut [R],
 ) -> Result<Reply, Refusal>
-    ensures same { tx.new.conn.ghost_name ≡ tx.old.conn.ghost_name }
     ensures inside { WorksInsideOf S.Store tx.old.conn tx.new.conn result }
     ensures applies { OnRowsOf S.Store tx.old.conn tx.new.conn
         (AppliesChange (NoneFailed R.has_failed readers.new)

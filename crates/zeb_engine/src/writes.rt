@@ -63,7 +63,6 @@ fn put_texts<S: Alter>(
     text: &str,
     pattern: &str,
 ) -> Result<(), Error>
-    ensures same { tx.new.conn.ghost_name ≡ tx.old.conn.ghost_name }
     ensures call { InsideOf S.Store tx.old.conn tx.new.conn result (λ _. GoesOn) }
     ensures put { OnRowsOf S.Store tx.old.conn tx.new.conn
         ((state S.Store tx.old.conn.now).now.trees meta_tree ≡ []
@@ -82,7 +81,6 @@ fn init<S: Alter, L: Layout>(
     profile: &Profile,
     pattern: &str,
 ) -> Result<(), RegFault>
-    ensures same { tx.new.conn.ghost_name ≡ tx.old.conn.ghost_name }
     ensures call { InsideOf S.Store tx.old.conn tx.new.conn result (λ _. GoesOn) }
     ensures begins { OnRowsOf S.Store tx.old.conn tx.new.conn
         (OnOk result (LeavesNoDatabase L.format profile.now pattern.now
@@ -96,7 +94,6 @@ fn init<S: Alter, L: Layout>(
 
 /// An empty database under a name that has none.
 fn create<S: Alter, L: Layout>(tx: &mut Transaction<'_, S>, name: &DbName) -> Result<(), RegFault>
-    ensures same { tx.new.conn.ghost_name ≡ tx.old.conn.ghost_name }
     ensures call { InsideOf S.Store tx.old.conn tx.new.conn result (λ _. GoesOn) }
     ensures makes { OnRowsOf S.Store tx.old.conn tx.new.conn (Answers (IfDamaged ⊥)
         (λ _. MakesRow (name_bytes name.now) (state S.Store tx.old.conn.now).now
@@ -112,7 +109,6 @@ fn take<S: Alter, L: Layout>(
     name: &DbName,
     id: DatabaseId,
 ) -> Result<(), RegFault>
-    ensures same { tx.new.conn.ghost_name ≡ tx.old.conn.ghost_name }
     ensures call { InsideOf S.Store tx.old.conn tx.new.conn result (λ _. GoesOn) }
     ensures takes { OnRowsOf S.Store tx.old.conn tx.new.conn (Answers (IfDamaged ⊥)
         (λ _. TakesRows L.format id.0 (state S.Store tx.old.conn.now).now
@@ -128,7 +124,6 @@ fn reindex<S: Alter, L: Layout>(
     tx: &mut Transaction<'_, S>,
     profile: &Profile,
 ) -> Result<(), RegFault>
-    ensures same { tx.new.conn.ghost_name ≡ tx.old.conn.ghost_name }
     ensures call { InsideOf S.Store tx.old.conn tx.new.conn result (λ _. GoesOn) }
     ensures remakes { OnRowsOf S.Store tx.old.conn tx.new.conn
         (Answers (IfDamaged (IsUnsound profile.now (state S.Store tx.old.conn.now).now.trees))
@@ -147,7 +142,6 @@ fn upgrade<S: Alter, L: Layout>(
     tx: &mut Transaction<'_, S>,
     profile: &Profile,
 ) -> Result<(), RegFault>
-    ensures same { tx.new.conn.ghost_name ≡ tx.old.conn.ghost_name }
     ensures call { InsideOf S.Store tx.old.conn tx.new.conn result (λ _. GoesOn) }
     ensures remakes { OnRowsOf S.Store tx.old.conn tx.new.conn
         (Answers (IfDamaged (IsUnsound profile.now (state S.Store tx.old.conn.now).now.trees))
@@ -163,7 +157,6 @@ fn apply<S: Alter, L: Layout>(
     tx: &mut Transaction<'_, S>,
     write: &Write<'_>,
 ) -> Result<(), RegFault>
-    ensures same { tx.new.conn.ghost_name ≡ tx.old.conn.ghost_name }
     ensures call { InsideOf S.Store tx.old.conn tx.new.conn result (λ _. GoesOn) }
     ensures works { OnRowsOf S.Store tx.old.conn tx.new.conn
         (WriteWorks L.format write.now (state S.Store tx.old.conn.now).now

@@ -1,6 +1,5 @@
 //! The registers made anew from the kept records.
 
-ghost use Rattle.std.specs.Prelude.{◌≡◌};
 ghost use Rattle.sqlite.specs.Held.{state};
 ghost use Rattle.zeb_register.specs.Calls.{GoesOn};
 ghost use Rattle.zeb_change.specs.Inside.{WorksInsideOf};
@@ -35,7 +34,6 @@ pub fn rebuild<S: Alter, L: Layout>(
     tx: &mut Transaction<'_, S>,
     profile: &Profile,
 ) -> Result<(), RegFault>
-    ensures same { tx.new.conn.ghost_name ≡ tx.old.conn.ghost_name }
     ensures call { InsideOf S.Store tx.old.conn tx.new.conn result (λ _. GoesOn) }
     ensures rebuilds { InStoreOf S.Store tx.old.conn tx.new.conn
         (λ _. Rebuilds L.format profile.now (state S.Store tx.old.conn.now)
@@ -57,7 +55,6 @@ fn database_post<S: Alter, L: Layout>(
     profile: &Profile,
     db: DatabaseId,
 ) -> Result<(), RegFault>
-    ensures same { tx.new.conn.ghost_name ≡ tx.old.conn.ghost_name }
     ensures inside { WorksInsideOf S.Store tx.old.conn tx.new.conn result }
     ensures posts { InStoreOf S.Store tx.old.conn tx.new.conn
         (λ _. PostsDatabase L.format profile.now db.0 (state S.Store tx.old.conn.now)

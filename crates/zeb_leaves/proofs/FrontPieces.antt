@@ -13,7 +13,7 @@ use Rattle.zeb_leaves.proofs.PiecesPut.{first_pieces_lack, leaf_pieces_lack, mal
 use Rattle.zeb_leaves.proofs.PiecesWritten.{first_written, leaf_written, store_distinct}
 use Rattle.zeb_leaves.proofs.PutTables.{IsCovered, OwnsEntries}
 use Rattle.zeb_leaves.proofs.SpanRuns.{below_or, up_not_less}
-use Rattle.zeb_leaves.specs.PrivateTurning.{CoversFirst, IsBelow, IsTextOf}
+use Rattle.zeb_leaves.specs.PrivateTurning.{BeginInRegister, CoversFirst, IsBelow, IsTextOf}
 use Rattle.zeb_leaves.specs.PrivateTurnedLeaves.{AreOfOne, LeafLacksTurn, TurnsInto, TurnsLeaf}
 
 -- ---- where what a leaf covers ends
@@ -44,9 +44,7 @@ piece_key p = leaf_key p.key.now.term (block_of p.changes.now)
 
 -- the first of the pieces and so many more are of the register, with terms that are text
 pub record AreAtFront (at : RegisterOf) (pieces : List KeyChanges) (more : ℕ) : Type 0 where
-  pub some : pieces ≢ []
-  pub are : ArePieces pieces
-  pub first : AllByRecursion (IsTextOf at) (take 1 pieces)
+  pub begins : BeginInRegister at pieces
   pub others : AllByRecursion (IsTextOf at) (take more (drop 1 pieces))
 
 -- those behind the first, as the code cuts them
@@ -59,9 +57,8 @@ behind_is pieces = take_rest pieces 1
 pub below_front : (end : End) (pieces : List KeyChanges) (more : ℕ) → AllByRecursion (IsBelow end) (take more (behind_first pieces)) → AllByRecursion (IsBelow end) (take more (drop 1 pieces))
 below_front end pieces more below = subst (λ l. AllByRecursion (IsBelow end) (take more l)) (behind_is pieces) below
 
-pub at_front : (at : RegisterOf) (pieces : List KeyChanges) (more : ℕ) → pieces ≢ [] → ArePieces pieces → AllByRecursion (IsTextOf at) (take 1 pieces) → AllByRecursion (IsTextOf at) (take more (behind_first pieces)) → AreAtFront at pieces more
-at_front at pieces more some are first others =
-    record { some = some; are = are; first = first; others = subst (λ l. AllByRecursion (IsTextOf at) (take more l)) (behind_is pieces) others }
+pub at_front : (at : RegisterOf) (pieces : List KeyChanges) (more : ℕ) → BeginInRegister at pieces → AllByRecursion (IsTextOf at) (take more (behind_first pieces)) → AreAtFront at pieces more
+at_front at pieces more begins others = record { begins = begins; others = subst (λ l. AllByRecursion (IsTextOf at) (take more l)) (behind_is pieces) others }
 
 pub all_within : (pieces : List KeyChanges) (more : ℕ) → pieces ≢ [] → more ≤ length (behind_first pieces) → (1 ≤ 1 + more) × (1 + more ≤ length pieces)
 all_within [] more some few = absurd (some refl)
@@ -69,7 +66,7 @@ all_within (p ∷ ps) more some few = let all = ap length (behind_is (p ∷ ps))
 
 module _ (at : RegisterOf) (p : KeyChanges) (ps : List KeyChanges) (more : ℕ) (front : AreAtFront at (p ∷ ps) more) where
   text_of : (q : KeyChanges) → Has (p ∷ take more ps) q → IsTextOf at q
-  text_of q (inl same) = subst (IsTextOf at) (sym same) front.first.0
+  text_of q (inl same) = subst (IsTextOf at) (sym same) front.begins.first.0
   text_of q (inr later) = all_has (IsTextOf at) (take more ps) q front.others later
 
   front_in : (Own : List ℕ → ℕ → Type 0) → ((q : KeyChanges) → Has (p ∷ take more ps) q → Own q.key.now.term (block_of q.changes.now)) → ArePiecesIn (one_key at) Own (take (1 + more) (p ∷ ps))
@@ -77,7 +74,7 @@ module _ (at : RegisterOf) (p : KeyChanges) (ps : List KeyChanges) (more : ℕ) 
       let next : suc more ≡ 1 + more = omega arith in
       subst (λ n. ArePiecesIn (one_key at) Own (take n (p ∷ ps))) next (record {
         some = λ none. cc;
-        are = front_pieces (p ∷ take more ps) (drop more ps) (subst (λ (l : List KeyChanges). ArePieces (p ∷ l)) (sym (take-append-drop more ps)) front.are);
+        are = front_pieces (p ∷ take more ps) (drop more ps) (subst (λ (l : List KeyChanges). ArePieces (p ∷ l)) (sym (take-append-drop more ps)) front.begins.are);
         index = λ q here. (text_of q here).0.0;
         register = λ q here. (text_of q here).0.1;
         text = λ q here. (text_of q here).1;
@@ -90,17 +87,17 @@ module _ (at : RegisterOf) (p : KeyChanges) (ps : List KeyChanges) (more : ℕ) 
   above_first q later =
       let one = text_of p (inl refl) in
       let other = text_of q (inr later) in
-      piece_less p q (one.0.0 ∙ sym other.0.0) (one.0.1 ∙ sym other.0.1) (all_has (λ z. piece_cmp p z ≡ Less) ps q front.are.rising.0 (has_taken more ps q later))
+      piece_less p q (one.0.0 ∙ sym other.0.0) (one.0.1 ∙ sym other.0.1) (all_has (λ z. piece_cmp p z ≡ Less) ps q front.begins.are.rising.0 (has_taken more ps q later))
 
   -- the first is malformed, so that it lacks leave
   first_lacks : (trees : Trees) → IsPartMalformed (IsLeafIn trees at) p.key.now.term (block_of p.changes.now) → LacksLeave packed_leaves at.db.0 (p ∷ ps) trees
   first_lacks trees bad =
       let here = (text_of p (inl refl)).0 in
-      malformed_lacks at.db.0 (p ∷ ps) trees p (inl refl) front.are.each.0
+      malformed_lacks at.db.0 (p ∷ ps) trees p (inl refl) front.begins.are.each.0
       (subst (λ (f : Row). IsPartMalformed (In f trees) p.key.now.term (block_of p.changes.now)) (front_so at.db.0 (one_key at) at.db.0 p.key.now refl here.0 here.1) bad)
 
 front_anywhere : (at : RegisterOf) (pieces : List KeyChanges) (more : ℕ) → AreAtFront at pieces more → ArePiecesIn (one_key at) (λ term block. Unit {0}) (take (1 + more) pieces)
-front_anywhere at [] more front = absurd (front.some refl)
+front_anywhere at [] more front = absurd (front.begins.some refl)
 front_anywhere at (p ∷ ps) more front = front_in at p ps more front (λ term block. Unit {0}) (λ q here. tt)
 
 pub front_of_one : (at : RegisterOf) (pieces : List KeyChanges) (more : ℕ) → AreAtFront at pieces more → AreOfOne (take (1 + more) pieces)
@@ -133,7 +130,7 @@ module _ (pieces : List KeyChanges) (some : pieces ≢ []) (p : KeyChanges) (is 
     -- where the register has leaves, and none covers it
     pub uncovered_lacks : (trees : Trees) (at : RegisterOf) → ArePieces pieces → IsTextOf at p → IsUncovered (IsLeafIn trees at) (leaf_key term block) → LacksLeave packed_leaves at.db.0 pieces trees
     uncovered_lacks trees at are of bad =
-        let front : AreAtFront at (p ∷ whole_is.0) 0 = record { some = λ none. cc; are = subst ArePieces whole_is.1 are; first = (of, tt); others = tt } in
+        let front : AreAtFront at (p ∷ whole_is.0) 0 = record { begins = record { some = λ none. cc; are = subst ArePieces whole_is.1 are; first = (of, tt) }; others = tt } in
         subst (λ l. LacksLeave packed_leaves at.db.0 l trees) (sym whole_is.1) (first_lacks at p whole_is.0 0 front trees (inl (inr (subst (IsUncovered (IsLeafIn trees at)) key_read bad))))
 
 -- ---- those that one leaf covers
@@ -160,12 +157,12 @@ covering_there Leaves leaf (p ∷ ps) some covers = covers.is
 
 -- and shows no entries, so that the first lacks leave
 hidden_lacks : (trees : Trees) (at : RegisterOf) (leaf : Row) (pieces : List KeyChanges) (more : ℕ) → AreAtFront at pieces more → CoversFirst (IsLeafIn trees at) leaf pieces → ShowsNone leaf → LacksLeave packed_leaves at.db.0 pieces trees
-hidden_lacks trees at leaf [] more front covers none = absurd (front.some refl)
+hidden_lacks trees at leaf [] more front covers none = absurd (front.begins.some refl)
 hidden_lacks trees at leaf (p ∷ ps) more front covers none = first_lacks at p ps more front trees (inl (inl (leaf, covers, none)))
 
 front_covered : (trees : Trees) (at : RegisterOf) (leaf : Row) (term : List ℕ) (block : ℕ) (end : End) (pieces : List KeyChanges) (more : ℕ) → ShowsKey leaf term block → AreAtFront at pieces more → AllByRecursion (IsBelow end) (take more (drop 1 pieces))
     → EndsLeaf (IsLeafIn trees at) leaf end → CoversFirst (IsLeafIn trees at) leaf pieces → ArePiecesIn (one_key at) (IsCovered trees at.db.0 (one_key at) leaf) (take (1 + more) pieces)
-front_covered trees at leaf term block end [] more own front below ends covers = absurd (front.some refl)
+front_covered trees at leaf term block end [] more own front below ends covers = absurd (front.begins.some refl)
 front_covered trees at leaf term block end (p ∷ ps) more own front below ends covers = front_in at p ps more front (IsCovered trees at.db.0 (one_key at) leaf) each
   where
     each : (q : KeyChanges) → Has (p ∷ take more ps) q → Covers (IsLeafIn trees at) (piece_key q) leaf
@@ -186,7 +183,7 @@ module _ (s : State) (store : IsStore s) (at : RegisterOf) (pieces : List KeyCha
     module _ (leaf : Row) (term : List ℕ) (block : ℕ) (end : End) (key_is : ShowsKey leaf term block) (below : AllByRecursion (IsBelow end) (take more (drop 1 pieces)))
         (ends : EndsLeaf Leaves leaf end) (covers : CoversFirst Leaves leaf pieces) where
       there : Leaves leaf
-      there = covering_there Leaves leaf pieces front.some covers
+      there = covering_there Leaves leaf pieces front.begins.some covers
 
       owned : (own : List Entry) → ShowsOwn term block end leaf own → OwnsEntries Leaves leaf own
       owned own shows = owns_shown Leaves leaf there term block key_is end ends own shows

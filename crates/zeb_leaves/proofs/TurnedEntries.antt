@@ -1,5 +1,5 @@
 -- What entries say of a block before and after a piece is changed, and the changes of several pieces.
-use Rattle.zeb_leaves.proofs.Cited.{Has, all_has, ◌≡◌, ◌∙◌, ◌*◌, ◌/◌, ◌+◌, ◌<◌, ◌≤◌, ◌∷◌, ℕ, Option, Some, None, List, [], length, drop, refl, sym, ap, subst, inl, inr, arith, Less, nat_cmp, AllByRecursion, BlockSpells, LiesIn, Posting, eqb_tells, Entry, IsEntry, entry_cmp, IsAt, SayPart, SaysPart, HasRecordOf, IsCount, is_less, none_rises, get_or, drop_more, IsUtf8, entry_with, BlockChange, HasPostings, IsPiece, LacksTurn, TurnAllEntries, TurnsEntries, block_of, Says, some_count, one_say, one_entry, packed_leaves, units_of, IsStorableChange, KeyUnits, TurnsPlaces, TurnsUnit, TurnsUnits, KeyChanges, RecordChange}
+use Rattle.zeb_leaves.proofs.Cited.{Has, all_has, ◌≡◌, ◌∙◌, ◌*◌, ◌/◌, ◌+◌, ◌<◌, ◌≤◌, ◌∷◌, ℕ, Option, Some, None, List, [], length, drop, refl, sym, ap, subst, inl, inr, arith, Less, nat_cmp, AllByRecursion, LiesIn, Posting, eqb_tells, Entry, IsEntry, entry_cmp, IsAt, SayPart, SaysPart, HasRecordOf, IsCount, is_less, none_rises, get_or, drop_more, IsUtf8, entry_with, BlockChange, HasPostings, IsPiece, LacksTurn, TurnAllEntries, TurnsEntries, block_of, some_count, one_say, one_entry, packed_leaves, units_of, IsStorableChange, KeyUnits, TurnsPlaces, TurnsUnit, TurnsUnits, KeyChanges, RecordChange}
 use Rattle.std.specs.List.Sorted.{IsStrictlySortedBy}
 use Rattle.std.specs.Prelude.{◌^◌}
 use Rattle.zeb_leaf.specs.declared.merging.NewBlock.{NewBlock}

@@ -1,5 +1,5 @@
 -- What only the contracts of private functions speak of; no public clause reaches it: what pieces of one register make of the entries of a leaf.
-use Rattle.std.specs.Prelude.{◌≡◌, ◌⊎◌, ℕ, List, Result}
+use Rattle.std.specs.Prelude.{◌⊎◌, ℕ, List, Result}
 use Rattle.sqlite.specs.Order.{Row}
 use Rattle.sqlite.specs.State.{State}
 use Rattle.zeb_keys.specs.declared.keys.Key.{Key}
@@ -11,8 +11,7 @@ use Rattle.zeb_leaves.specs.PrivatePieces.{LackTurn, TurnAllEntries}
 use Rattle.zeb_leaves.specs.PrivatePutPieces.{ArePiecesIn}
 use Rattle.zeb_leaves.specs.PrivateSpans.{ShowsNone}
 use Rattle.zeb_leaves.specs.PrivateTermReads.{End, ShowsOwn}
-use Rattle.zeb_leaves.specs.PrivateTurning.{CoversFirst, PutsFront}
-use Rattle.zeb_register.specs.Clauses.{InStore}
+use Rattle.zeb_leaves.specs.PrivateTurning.{CoversFirst, GoesFurther, PutsFront}
 use Rattle.zeb_register.specs.declared.faults.RegFault.{RegFault}
 use Rattle.zeb_register.specs.declared.registers.KeyChanges.{KeyChanges}
 use Rattle.zeb_register.specs.declared.registers.RegisterOf.{RegisterOf}
@@ -35,6 +34,7 @@ TurnsLeaf term block end leaf pieces news = (own : List Entry) × ShowsOwn term 
 abbrev pub LeafLacksTurn : List ℕ → ℕ → End → Row → List KeyChanges → Type 0
 LeafLacksTurn term block end leaf pieces = ShowsNone leaf ⊎ ((own : List Entry) × ShowsOwn term block end leaf own × LackTurn own pieces)
 
--- inside a transaction on a store the pieces at the front are put, where the leaf covers the first of them
+-- a call goes further, and puts pieces at the front where the leaf covers the first of them
 abbrev pub CoversFront : RegisterOf → Row → List KeyChanges → (old new : State) → Result ℕ RegFault → Type 0
-CoversFront at leaf pieces old new result = InStore old new (λ trees. CoversFirst (IsLeafIn trees at) leaf pieces → PutsFront at.db.0 pieces trees new result)
+CoversFront at leaf pieces old new result =
+    GoesFurther pieces old new result (λ trees. CoversFirst (IsLeafIn trees at) leaf pieces → PutsFront at.db.0 pieces trees new result)

@@ -19,6 +19,7 @@ use sqlite::types::ValueRef;
 use std::alloc::{AllocError, Global};
 use zeb_keys::Register;
 use zeb_leaf::{BlockKey, Bytes, Entry, LEAF_BYTES, LeafFault, read_leaf};
+use zeb_register::for_layouts::read_number;
 
 /// What a row shows behind its database: the own key of a leaf, with its register, and bytes.
 #[derive(Clone, Copy)]
@@ -69,10 +70,7 @@ fn number_at(row: &Row, at: usize) -> Option<u64>
     ensures { MatchOption result ((n : ℕ) → column row.now at ≢ Int (pos n))
         (λ n. column row.now at ≡ Int (pos n)) }
 {
-    match row.get_ref(at) {
-        Ok(ValueRef::Int(value)) if value >= 0 => Some(value as u64),
-        _ => None,
-    }
+    read_number(row, at).ok()
 }
 
 /// The bytes at this place of a row, if such stand there.

@@ -62,7 +62,6 @@ fn covering_by_term<S: Alter>(
     block: u64,
 ) -> Result<Option<Row>, Error>
     requires { block < 2 ^ 56 }
-    ensures same { tx.new.conn.ghost_name ≡ tx.old.conn.ghost_name }
     ensures call { InsideOf S.Store tx.old.conn tx.new.conn result (λ _. OnlyReads) }
     ensures covers { TellsInsideOf S.Store tx.old.conn tx.new.conn result
         (λ trees found. IsCovering (IsLeafIn trees at) (leaf_key term.now block) found) }
@@ -83,7 +82,6 @@ fn covering_leaf<S: Alter>(
     block: u64,
 ) -> Result<Option<Row>, Error>
     requires { block < 2 ^ 56 }
-    ensures same { tx.new.conn.ghost_name ≡ tx.old.conn.ghost_name }
     ensures call { InsideOf S.Store tx.old.conn tx.new.conn result (λ _. OnlyReads) }
     ensures covers { TellsInsideOf S.Store tx.old.conn tx.new.conn result
         (λ trees found. IsCovering (IsLeafIn trees at) (leaf_key term.now block) found) }
@@ -103,7 +101,6 @@ fn covering_leaf<S: Alter>(
 
 /// No leaf. `Damaged` where the register has one.
 fn no_leaf<S: Alter>(tx: &mut Transaction<'_, S>, at: RegisterOf) -> Result<Option<Row>, RegFault>
-    ensures same { tx.new.conn.ghost_name ≡ tx.old.conn.ghost_name }
     ensures call { InsideOf S.Store tx.old.conn tx.new.conn result (λ _. OnlyReads) }
     ensures none { InStoreOf S.Store tx.old.conn tx.new.conn (λ trees. Answers
         (IfDamaged ((leaf : _) × IsLeafIn trees at leaf)) (λ found. (found ≡ None)
@@ -124,7 +121,6 @@ pub(crate) fn leaf_inside<S: Alter>(
     block: u64,
 ) -> Result<Option<Row>, RegFault>
     requires { block < 2 ^ 56 }
-    ensures same { tx.new.conn.ghost_name ≡ tx.old.conn.ghost_name }
     ensures call { InsideOf S.Store tx.old.conn tx.new.conn result (λ _. OnlyReads) }
     ensures finds { InStoreOf S.Store tx.old.conn tx.new.conn
         (λ trees. Answers (IfDamaged (IsUncovered (IsLeafIn trees at) (leaf_key term.now block)))
@@ -143,7 +139,6 @@ fn key_of_terms_above<S: Alter>(
     at: RegisterOf,
     term: &str,
 ) -> Result<Option<Row>, Error>
-    ensures same { tx.new.conn.ghost_name ≡ tx.old.conn.ghost_name }
     ensures call { InsideOf S.Store tx.old.conn tx.new.conn result (λ _. OnlyReads) }
     ensures finds { TellsInsideOf S.Store tx.old.conn tx.new.conn result
         (λ trees key. TellsKey (IsLeast (IsRowFrom at (term.now ++ 0 ∷ []) trees)) key) }
@@ -162,7 +157,6 @@ fn behind_by_term<S: Alter>(
     block: u64,
 ) -> Result<Option<Row>, Error>
     requires { block < 2 ^ 56 }
-    ensures same { tx.new.conn.ghost_name ≡ tx.old.conn.ghost_name }
     ensures call { InsideOf S.Store tx.old.conn tx.new.conn result (λ _. OnlyReads) }
     ensures finds { TellsInsideOf S.Store tx.old.conn tx.new.conn result
         (λ trees key. TellsKey (IsNextBehind (IsLeafIn trees at) (leaf_key term.now block)) key) }
@@ -183,7 +177,6 @@ pub(crate) fn key_behind<S: Alter>(
     block: u64,
 ) -> Result<Option<Row>, Error>
     requires { block < 2 ^ 56 }
-    ensures same { tx.new.conn.ghost_name ≡ tx.old.conn.ghost_name }
     ensures call { InsideOf S.Store tx.old.conn tx.new.conn result (λ _. OnlyReads) }
     ensures finds { TellsInsideOf S.Store tx.old.conn tx.new.conn result
         (λ trees key. TellsKey (IsNextBehind (IsLeafIn trees at) (leaf_key term.now block)) key) }

@@ -88,9 +88,10 @@ fn push_if_own(
     ensures { OnOk result (own.new.items
         ≡ own.old.items ++ filter (λ _. chosen) (entry_of term.now held.entry ∷ [])) }
 {
-    if chosen {
-        own.push(copy_entry(alloc, term, held)?)?;
+    if !chosen {
+        return Ok(());
     }
+    own.push(copy_entry(alloc, term, held)?)?;
     Ok(())
 }
 

@@ -46,7 +46,6 @@ pub(crate) fn leaf_of_term_inside<S: Alter>(
     term: &str,
     end: i64,
 ) -> Result<Option<Row>, Error>
-    ensures same { tx.new.conn.ghost_name ≡ tx.old.conn.ghost_name }
     ensures call { InsideOf S.Store tx.old.conn tx.new.conn result (λ _. OnlyReads) }
     ensures finds { TellsInsideOf S.Store tx.old.conn tx.new.conn result
         (λ trees found. IsGreatest (IsOfTermBelow at term.now end trees) found) }
@@ -63,7 +62,6 @@ pub(crate) fn leaf_of_terms_below_inside<S: Alter>(
     at: RegisterOf,
     term: &str,
 ) -> Result<Option<Row>, Error>
-    ensures same { tx.new.conn.ghost_name ≡ tx.old.conn.ghost_name }
     ensures call { InsideOf S.Store tx.old.conn tx.new.conn result (λ _. OnlyReads) }
     ensures finds { TellsInsideOf S.Store tx.old.conn tx.new.conn result
         (λ trees found. IsGreatest (IsOfTermsBelow at term.now trees) found) }
@@ -79,7 +77,6 @@ pub(crate) fn some_row_inside<S: Alter>(
     tx: &mut Transaction<'_, S>,
     at: RegisterOf,
 ) -> Result<Option<Row>, Error>
-    ensures same { tx.new.conn.ghost_name ≡ tx.old.conn.ghost_name }
     ensures call { InsideOf S.Store tx.old.conn tx.new.conn result (λ _. OnlyReads) }
     ensures finds { TellsInsideOf S.Store tx.old.conn tx.new.conn result
         (λ trees found. TellsSome (IsLeafIn trees at) found) }
@@ -97,7 +94,6 @@ pub(crate) fn key_of_term_from<S: Alter>(
     term: &str,
     first: i64,
 ) -> Result<Option<Row>, Error>
-    ensures same { tx.new.conn.ghost_name ≡ tx.old.conn.ghost_name }
     ensures call { InsideOf S.Store tx.old.conn tx.new.conn result (λ _. OnlyReads) }
     ensures finds { TellsInsideOf S.Store tx.old.conn tx.new.conn result
         (λ trees key. TellsKey (IsLeast (IsOfTermFrom at term.now first trees)) key) }
@@ -113,7 +109,6 @@ pub(crate) fn key_of_terms_from<S: Alter>(
     at: RegisterOf,
     first: &str,
 ) -> Result<Option<Row>, Error>
-    ensures same { tx.new.conn.ghost_name ≡ tx.old.conn.ghost_name }
     ensures call { InsideOf S.Store tx.old.conn tx.new.conn result (λ _. OnlyReads) }
     ensures finds { TellsInsideOf S.Store tx.old.conn tx.new.conn result
         (λ trees key. TellsKey (IsLeast (IsRowFrom at first.now trees)) key) }

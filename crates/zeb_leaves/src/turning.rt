@@ -1,14 +1,15 @@
 //! A run of keys whose places change, put into leaves: each leaf is read and written once for all pieces of the run that it covers.
 
-ghost use Rattle.std.specs.Prelude.{◌≡◌, ◌≢◌, ◌↔◌, ◌≤◌, [], length, take, IfErr, IfOk, IsTrue, IsUtf8, OnOk};
+ghost use Rattle.std.specs.Prelude.{◌≡◌, ◌≢◌, ◌↔◌, ◌≤◌, [], length, take, IfErr, IsTrue, IsUtf8, OnOk};
 ghost use Rattle.std.specs.List.{AllByRecursion};
 ghost use Rattle.std.specs.Option.{option_map};
 ghost use Rattle.sqlite.specs.Held.{state};
 ghost use Rattle.zeb_leaf.specs.declared.spans.BlockKey.{BlockKey as KeyOfBlock};
 ghost use Rattle.zeb_leaves.specs.PrivatePieces.{ArePieces, AreStorable};
 ghost use Rattle.zeb_leaves.specs.PrivateTurnedLeaves.{CoversFront};
-ghost use Rattle.zeb_leaves.specs.PrivateTurning.{BeginsFront, CountsChanges, CountsLeaves, CountsTurn};
-ghost use Rattle.zeb_leaves.specs.PrivateTurning.{IsBelow, IsOfRegister, IsTextOf, ReplacesFront, TurnsFront};
+ghost use Rattle.zeb_leaves.specs.PrivateTurning.{BeginInRegister, BeginsFront, CountsChanges, CountsLeaves};
+ghost use Rattle.zeb_leaves.specs.PrivateTurning.{CountsTurn, IsBelow, IsOfRegister, IsTextOf};
+ghost use Rattle.zeb_leaves.specs.PrivateTurning.{ReplacesFront, TurnsFront};
 ghost use Rattle.zeb_register.specs.Calls.{GoesOn};
 ghost use Rattle.zeb_register.specs.Connections.{InStoreOf, InsideOf};
 ghost use Rattle.zeb_register.specs.Formats.{packed_leaves};
@@ -89,16 +90,12 @@ fn register_begun<S: Alter>(
     at: RegisterOf,
     pieces: &[KeyChanges<'_>],
 ) -> Result<usize, RegFault>
-    requires some { pieces.now ≢ [] }
-    requires pieces { ArePieces pieces.now }
-    requires first { AllByRecursion (IsTextOf at) (take 1 pieces.now) }
-    ensures same { tx.new.conn.ghost_name ≡ tx.old.conn.ghost_name }
+    requires { BeginInRegister at pieces.now }
     ensures call { InsideOf S.Store tx.old.conn tx.new.conn result (λ _. GoesOn) }
     ensures turned { BeginsFront at pieces.now (state S.Store tx.old.conn.now)
         (state S.Store tx.new.conn.now) result }
     ensures work { CountsTurn 0 (state S.Store tx.old.conn.now)
         (state S.Store tx.new.conn.now) result work.old work.new }
-    ensures further { IfOk result (λ count. (1 ≤ count) × (count ≤ length pieces.now)) }
 {
     let count = 1 + count_covered(&pieces[1..], at, None);
     let entries = entries_turned(alloc, Vec::new(alloc), &pieces[..count])?;
@@ -120,17 +117,13 @@ fn leaf_turned<S: Alter>(
     end: Option<BlockKey<'_>>,
     pieces: &[KeyChanges<'_>],
 ) -> Result<usize, RegFault>
-    requires some { pieces.now ≢ [] }
-    requires pieces { ArePieces pieces.now }
-    requires first { AllByRecursion (IsTextOf at) (take 1 pieces.now) }
-    ensures same { tx.new.conn.ghost_name ≡ tx.old.conn.ghost_name }
+    requires { BeginInRegister at pieces.now }
     ensures call { InsideOf S.Store tx.old.conn tx.new.conn result (λ _. GoesOn) }
     ensures turned { ReplacesFront at leaf.now
         (option_map (λ (k : KeyOfBlock). (k.term.now, k.block)) end.entry) pieces.now
         (state S.Store tx.old.conn.now) (state S.Store tx.new.conn.now) result }
     ensures work { CountsTurn 1 (state S.Store tx.old.conn.now)
         (state S.Store tx.new.conn.now) result work.old work.new }
-    ensures further { IfOk result (λ count. (1 ≤ count) × (count ≤ length pieces.now)) }
 {
     let count = 1 + count_covered(&pieces[1..], at, end);
     let own = own_key(leaf)?;
@@ -159,16 +152,12 @@ fn covering_turned<S: Alter>(
     leaf: &Row,
     pieces: &[KeyChanges<'_>],
 ) -> Result<usize, RegFault>
-    requires some { pieces.now ≢ [] }
-    requires pieces { ArePieces pieces.now }
-    requires first { AllByRecursion (IsTextOf at) (take 1 pieces.now) }
-    ensures same { tx.new.conn.ghost_name ≡ tx.old.conn.ghost_name }
+    requires { BeginInRegister at pieces.now }
     ensures call { InsideOf S.Store tx.old.conn tx.new.conn result (λ _. GoesOn) }
     ensures turned { CoversFront at leaf.now pieces.now (state S.Store tx.old.conn.now)
         (state S.Store tx.new.conn.now) result }
     ensures work { CountsChanges 1 (state S.Store tx.old.conn.now)
         (state S.Store tx.new.conn.now) result work.old work.new }
-    ensures further { IfOk result (λ count. (1 ≤ count) × (count ≤ length pieces.now)) }
 {
     let first = pieces[0];
     let block = first_block(first.changes);
@@ -190,13 +179,11 @@ fn front_turned<S: Alter>(
 ) -> Result<usize, RegFault>
     requires some { pieces.now ≢ [] }
     requires pieces { ArePieces pieces.now }
-    ensures same { tx.new.conn.ghost_name ≡ tx.old.conn.ghost_name }
     ensures call { InsideOf S.Store tx.old.conn tx.new.conn result (λ _. GoesOn) }
     ensures turned { TurnsFront db.0 pieces.now (state S.Store tx.old.conn.now)
         (state S.Store tx.new.conn.now) result }
     ensures work { CountsChanges 1 (state S.Store tx.old.conn.now)
         (state S.Store tx.new.conn.now) result work.old work.new }
-    ensures further { IfOk result (λ count. (1 ≤ count) × (count ≤ length pieces.now)) }
 {
     let first = pieces[0];
     let at = RegisterOf {
@@ -221,7 +208,6 @@ fn pieces_turned<S: Alter>(
     pieces: &[KeyChanges<'_>],
 ) -> Result<(), RegFault>
     requires { ArePieces pieces.now }
-    ensures same { tx.new.conn.ghost_name ≡ tx.old.conn.ghost_name }
     ensures call { InsideOf S.Store tx.old.conn tx.new.conn result (λ _ a b. IsTrue a.is_open
         → GoesOn a b) }
     ensures units { ChangesKeys packed_leaves db.0 pieces.now (state S.Store tx.old.conn.now)
@@ -261,7 +247,6 @@ pub fn run_changes<S: Alter>(
     run: &[KeyChanges<'_>],
 ) -> Result<(), RegFault>
     requires rising { IsRun run.now }
-    ensures same { tx.new.conn.ghost_name ≡ tx.old.conn.ghost_name }
     ensures call { InsideOf S.Store tx.old.conn tx.new.conn result (λ _. GoesOn) }
     ensures units { ChangesKeys packed_leaves db.0 run.now (state S.Store tx.old.conn.now)
         (state S.Store tx.new.conn.now) result }
@@ -288,7 +273,6 @@ pub fn key_changes<S: Alter>(
     changes: &[RecordChange<'_>],
 ) -> Result<(), RegFault>
     requires rising { NumbersRise changes.now }
-    ensures same { tx.new.conn.ghost_name ≡ tx.old.conn.ghost_name }
     ensures call { InsideOf S.Store tx.old.conn tx.new.conn result (λ _. GoesOn) }
     ensures units { ChangesKey packed_leaves db.0 key.now changes.now
         (state S.Store tx.old.conn.now) (state S.Store tx.new.conn.now) result }

@@ -40,7 +40,6 @@ fn leaf_add<S: Alter>(
     number: i64,
     bytes: &[u8],
 ) -> Result<usize, Error>
-    ensures same { tx.new.conn.ghost_name ≡ tx.old.conn.ghost_name }
     ensures call { WritesOf S.Store tx.old.conn tx.new.conn blocks_tree
         (Gains (leaf_columns at term.now number bytes.now)) result }
     ensures rows { MakesLeaves 1 (state S.Store tx.old.conn.now) (state S.Store tx.new.conn.now)
@@ -59,7 +58,6 @@ fn leaf_set<S: Alter>(
     number: i64,
     bytes: &[u8],
 ) -> Result<usize, Error>
-    ensures same { tx.new.conn.ghost_name ≡ tx.old.conn.ghost_name }
     ensures call { WritesOf S.Store tx.old.conn tx.new.conn blocks_tree
         (Renews (IsLeafWith at term.now number) (leaf_columns at term.now number bytes.now))
         result }
@@ -89,7 +87,6 @@ fn new_leaf_add<S: Alter>(
     leaf: &NewLeaf,
 ) -> Result<(), Error>
     requires { IsUtf8 leaf.now.term }
-    ensures same { tx.new.conn.ghost_name ≡ tx.old.conn.ghost_name }
     ensures call { WritesOf S.Store tx.old.conn tx.new.conn blocks_tree
         (Gains (new_row at leaf.now)) result }
     ensures rows { MakesLeaves 1 (state S.Store tx.old.conn.now) (state S.Store tx.new.conn.now)
@@ -108,7 +105,6 @@ fn new_leaves_add<S: Alter>(
     leaves: &[NewLeaf],
 ) -> Result<(), Error>
     requires { AllByRecursion (λ (leaf : NewLeaf). IsUtf8 leaf.term) leaves.now }
-    ensures same { tx.new.conn.ghost_name ≡ tx.old.conn.ghost_name }
     ensures call { InsideOf S.Store tx.old.conn tx.new.conn result (λ _ a b. IsTrue a.is_open
         → GoesOn a b) }
     ensures put { ChangesTableOf S.Store tx.old.conn tx.new.conn blocks_tree result
@@ -131,7 +127,6 @@ fn leaf_put<S: Alter>(
     bytes: &[u8],
     is_there: bool,
 ) -> Result<(), Error>
-    ensures same { tx.new.conn.ghost_name ≡ tx.old.conn.ghost_name }
     ensures call { WritesOf S.Store tx.old.conn tx.new.conn blocks_tree
         (IfToldPuts is_there at term.now (pos block) bytes.now []) result }
     ensures rows { MakesLeaves (coming is_there) (state S.Store tx.old.conn.now)
@@ -158,7 +153,6 @@ fn leaves_put<S: Alter>(
     leaves: &[NewLeaf],
 ) -> Result<usize, Error>
     requires { AllByRecursion (λ (leaf : NewLeaf). IsUtf8 leaf.term) leaves.now }
-    ensures same { tx.new.conn.ghost_name ≡ tx.old.conn.ghost_name }
     ensures call { InsideOf S.Store tx.old.conn tx.new.conn result (λ _. GoesOn) }
     ensures put { ChangesTableOf S.Store tx.old.conn tx.new.conn blocks_tree result
         (λ _. IfToldPuts is_there at term.now (pos block) bytes.now leaves.now) }
@@ -184,7 +178,6 @@ pub(crate) fn entries_put<S: Alter>(
 ) -> Result<usize, Error>
     requires rising { IsStrictlySortedBy entry_cmp entries.now }
     requires each { AllByRecursion IsEntry entries.now }
-    ensures same { tx.new.conn.ghost_name ≡ tx.old.conn.ghost_name }
     ensures call { InsideOf S.Store tx.old.conn tx.new.conn result (λ _. GoesOn) }
     ensures put { ChangesTableOf S.Store tx.old.conn tx.new.conn blocks_tree result
         (λ _. IfToldPutsEntries is_there at key.entry.term.now key.entry.block entries.now) }

@@ -46,10 +46,11 @@ pub use Rattle.zeb_keys.proofs.Rising.{numbers_apart, key_total}
 pub use Rattle.zeb_keys.specs.Registers.{register_code}
 pub use Rattle.zeb_keys.specs.declared.Register.{Register}
 pub use Rattle.zeb_keys.specs.declared.keys.Key.{Key}
-pub use Rattle.zeb_packed.specs.PrivateNewRows.{AreLacking, GainsAll, new_block_row, new_count_row, AreValuesOf, AreToldNew, IsOfRegister, joined, GainsRows, AreApart, BeginsBlocks, SpellsNew, BeginsKey, LeavesPlaces, SomeStands, AreBehind, HoldsRun, TurnsKey}
-pub use Rattle.zeb_packed.specs.PrivatePackedChanges.{block_columns, IsClearFrom, IfTold, SpellsIn, block_key, dict_columns, PutsBlock}
+pub use Rattle.zeb_packed.specs.PrivateNewRows.{GoesOnOpenOf, AreLacking, GainsAll, new_block_row, new_count_row, AreValuesOf, AreToldNew, IsOfRegister, joined, GainsRows, AreApart, BeginsBlocks, SpellsNew, BeginsKey, LeavesPlaces, SomeStands, AreBehind, HoldsRun, TurnsKey}
+pub use Rattle.zeb_packed.proofs.PackedColumns.{block_columns, block_key, dict_columns}
+pub use Rattle.zeb_packed.specs.PrivatePackedChanges.{IsClearFrom, IfTold, SpellsIn, PutsBlock}
 pub use Rattle.zeb_packed.specs.PrivatePackedRows.{IsFallingListOf, IsRestBefore, IsRestFrom, count_row, EndsCounting, TellTerms, SomeMalformed}
-pub use Rattle.zeb_packed.specs.PrivateUnitCalls.{LacksNewBlocks, AllowsBlocks, TurnsBlocks, AllowsBlock, PutsRun, TurnsBlock}
+pub use Rattle.zeb_packed.specs.PrivateUnitCalls.{LacksNewBlocks, AllowsBlocks, TurnsBlocks, AllowsBlock, PutsRunOf, TurnsBlock}
 pub use Rattle.zeb_packed.specs.declared.new_rows.NewBlock.{NewBlock}
 pub use Rattle.zeb_packed.specs.declared.new_rows.NewCount.{NewCount}
 pub use Rattle.zeb_packed.specs.declared.new_rows.NewRows.{NewRows}

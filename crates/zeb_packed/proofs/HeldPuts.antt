@@ -1,5 +1,5 @@
 -- Rows that are put, some after others.
-use Rattle.zeb_packed.proofs.Cited.{◌≡◌, ◌≢◌, ◌∙◌, ◌++◌, ◌+◌, ◌-◌, ◌<◌, ◌≤◌, ℕ, ℤ, pos, false, List, [], ◌∷◌, drop, length, map, take, get_or, refl, sym, ap, subst, inl, inr, arith, Result, Ok, Err, IfOk, Has, has_either, has_left, has_right, map-append, take-append-drop, take_all, take_rest, GoesOn, IsTrue, Row, State, Trees, Int, Database, IsStore, Changes, blocks_tree, dict_tree, Gains, RegFault, Damaged, LacksBlock, IsTold, IsOfNumbered, KeyOf, Answers, IfDamaged, length-drop, AreApart, AreLacking, GainsAll, GainsRows, SomeStands, new_block_row, new_count_row, NewBlock, NewRows}
+use Rattle.zeb_packed.proofs.Cited.{◌≡◌, ◌≢◌, ◌∙◌, ◌++◌, ◌+◌, ◌-◌, ◌<◌, ◌≤◌, ℕ, ℤ, pos, false, List, [], ◌∷◌, drop, length, map, take, get_or, refl, sym, ap, subst, inl, inr, arith, Has, has_either, has_left, has_right, map-append, take-append-drop, take_all, take_rest, Row, State, Trees, Int, Database, IsStore, Changes, blocks_tree, dict_tree, Gains, LacksBlock, IsTold, IsOfNumbered, KeyOf, length-drop, AreApart, AreLacking, GainsAll, GainsRows, SomeStands, new_block_row, new_count_row, NewBlock, NewRows}
 use Rattle.zeb_packed.proofs.HeldTables.{block_is, block_of}
 use Rattle.zeb_packed.proofs.PackedWrites.{has_as}
 use Rattle.std.proofs.Math.Seq.{take-add}
@@ -80,11 +80,6 @@ lacks_stored db at block number trees own is lacks row there in_it = lacks row t
 
 pub all_taken : {X : Type 0} (xs : List X) (done : ℕ) → length xs ≤ done → take done xs ≡ xs
 all_taken xs done end = take_all done xs end
-
--- ---- states
-
-pub goes_still : (s : State) → IsTrue s.in_transaction → IsTrue s.is_open → GoesOn s s
-goes_still s inside opened = record { was_open = opened; is_open = opened; now_is = refl; committed_is = refl; mode = inside }
 
 -- ---- the rows of both tables
 

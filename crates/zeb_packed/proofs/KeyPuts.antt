@@ -1,5 +1,5 @@
 -- Rows of `blocks` and that of `dict`, written one after the other, as a change of the key's units.
-use Rattle.zeb_packed.proofs.Cited.{IsUtf8, packed_blocks, ◌≡◌, ◌≢◌, ◌∙◌, ◌≤◌, ◌/◌, ◌==◌, ℕ, zero, suc, ℤ, not, Result, Ok, Err, IfOk, List, [], ◌∷◌, refl, ap, subst, inl, inr, arith, AllByRecursion, State, Trees, Posting, Key, RegFault, Damaged, RecordChange, Alters, IsDictIn, Changes, IsStore, blocks_tree, dict_tree, Known, AllowsBlocks, TurnsBlocks, Answers, IfTold, IsClearFrom, BlockReads, CountsAs, AllowsChanges, IsBlockAmong, IsOwnBlock, IsRefusedAs, IsStorableChange, KeepsBut, KeyUnits, LacksNewBlocks, NumbersRise, PutsAny, PutsCount, PutsUnits, TurnsUnits}
+use Rattle.zeb_packed.proofs.Cited.{IsUtf8, packed_blocks, ◌≡◌, ◌≢◌, ◌∙◌, ◌≤◌, ◌/◌, ◌==◌, ℕ, zero, suc, ℤ, not, List, [], ◌∷◌, refl, subst, inl, inr, arith, AllByRecursion, State, Trees, Posting, Key, RecordChange, Alters, IsDictIn, Changes, IsStore, blocks_tree, dict_tree, Known, AllowsBlocks, TurnsBlocks, IfTold, IsClearFrom, BlockReads, CountsAs, AllowsChanges, IsBlockAmong, IsOwnBlock, IsStorableChange, KeepsBut, KeyUnits, LacksNewBlocks, NumbersRise, PutsAny, PutsCount, PutsUnits, TurnsUnits}
 use Rattle.zeb_packed.proofs.KeyCounts.{count_told}
 use Rattle.zeb_packed.proofs.PackedWrites.{has_as, told_as}
 use Rattle.zeb_register.proofs.BlockContents.{one_key_count}

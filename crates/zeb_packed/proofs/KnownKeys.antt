@@ -1,5 +1,5 @@
 -- A key that is changed behind a look at its count, told of the tables before the look.
-use Rattle.zeb_packed.proofs.Cited.{packed_blocks, ◌≡◌, ◌≢◌, ℕ, ℤ, Result, Ok, Err, List, [], ◌∷◌, inr, refl, sym, ap, subst, Database, State, Trees, Key, RegFault, Damaged, RecordChange, AllByRecursion, IsStorableChange, OnOk, Answers, CountsAs, IsRefusedAs, IsStore, PutsUnits, AreBehind, BeginsKey, TurnsKey, NewRows}
+use Rattle.zeb_packed.proofs.Cited.{packed_blocks, ◌≡◌, ◌≢◌, ℕ, ℤ, Result, Ok, Err, List, [], ◌∷◌, inr, refl, sym, ap, subst, Database, State, Trees, Key, RegFault, RecordChange, OnOk, Answers, CountsAs, IsRefusedAs, IsStore, PutsUnits, AreBehind, BeginsKey, TurnsKey, NewRows}
 
 abbrev Changed : ℤ → Key → List RecordChange → Trees → State → Result (Unit {0}) RegFault → Type 0
 Changed db key changes trees new = Answers (IsRefusedAs packed_blocks db key changes trees) (λ done. IsStore new × PutsUnits packed_blocks db key changes trees new.now.trees)

@@ -1,4 +1,5 @@
 pub mod FirstRows
+pub mod PackedColumns
 pub mod Falling
 pub mod PackedStatements
 pub mod BetweenStatements
@@ -29,4 +30,5 @@ pub mod HeldKeys
 pub mod HeldRuns
 pub mod NewKeys
 pub mod HeldPuts
+pub mod OpenCalls
 pub mod Cited

@@ -1,5 +1,5 @@
 -- What is written of a key in packed tables: a row of `blocks` for each block, and one of `dict`.
-use Rattle.zeb_packed.proofs.Cited.{◌≡◌, ◌≢◌, ◌↔◌, ◌∙◌, ◌==◌, ℕ, ℤ, pos, Bool, true, false, IsTrue, List, [], ◌∷◌, length, sym, ap, refl, subst, inl, inr, arith, eqb-true, Int, Database, Row, State, Trees, Has, Posting, BlockSpells, Key, register_code, Alters, OnlyReads, block_row, dict_row, IsBlockIn, IsTold, PutsCount, IfTold, PutsBlock, IsNumberedRow, IsDictIn, Gains, Renews, HasRow, Loses, Replaces, blocks_tree, dict_tree, alters_so, changes_after, changes_none, reads_goes, store_same}
+use Rattle.zeb_packed.proofs.Cited.{◌≡◌, ◌≢◌, ◌↔◌, ◌∙◌, ◌==◌, ℕ, ℤ, Bool, true, false, IsTrue, List, [], ◌∷◌, length, sym, ap, refl, subst, inl, inr, arith, eqb-true, Int, Row, State, Trees, Has, Posting, BlockSpells, Key, Alters, OnlyReads, block_row, dict_row, IsBlockIn, IsTold, PutsCount, IfTold, PutsBlock, IsDictIn, Gains, Renews, HasRow, Loses, Replaces, blocks_tree, dict_tree, alters_so, changes_after, changes_none, reads_goes, store_same}
 
 pub none_of : {X : Type 0} (list : List X) → (length list == 0) ≡ true → list ≡ []
 none_of [] is = refl
@@ -46,12 +46,6 @@ module _ (db : ℤ) (key : Key) (block : ℕ) (list : List Posting) (a b : State
     rows = λ store. changes_after blocks_tree Begins a b b reads inside (changes_none blocks_tree Begins b
         (λ told row. (λ h. inl (h, told row h), λ h. elim h [ inl was ↦ was.0 | inr put ↦ absurd (put.1.some none) ])) (store_same a b reads.now_is store));
   }
-
--- it has none behind a call that changes nothing either
-pub told_later : (db : ℤ) (key : Key) (block : ℕ) (number : ℤ) (a b : State) → OnlyReads a b → number ≡ pos block → IsTold false (IsBlockIn db key block) blocks_tree a.now.trees
-    → IsTold false (IsNumberedRow db (pos key.index) (pos (register_code key.register)) key.term number) blocks_tree b.now.trees
-told_later db key block number a b reads is told row here in_it =
-    told row (subst (λ (d : Database). HasRow d.trees blocks_tree row) reads.now_is here) (in_it.0, in_it.1, in_it.2, in_it.3, in_it.4 ∙ ap Int is)
 
 module _ (db : ℤ) (key : Key) (records : ℕ) (is_there : Bool) (a b : State) where
   abbrev Counts : ℕ → Trees → Trees → Type 0

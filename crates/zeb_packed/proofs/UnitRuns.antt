@@ -1,5 +1,8 @@
 -- Rows of a key's blocks, written run by run, as its units.
-use Rattle.zeb_packed.proofs.Cited.{packed_blocks, ◌≡◌, ◌≢◌, ◌↔◌, ◌⊎◌, ◌∙◌, ◌/◌, ◌<◌, ◌≤◌, ◌^◌, ℕ, ℤ, pos, Result, List, [], ◌∷◌, ◌++◌, drop, refl, sym, ap, subst, inl, inr, arith, eqb_tells, AllByRecursion, Int, Blob, Row, column, State, Trees, Has, BlockSpells, LiesIn, spelled_from, start_of, Posting, Key, RegFault, Place, RecordChange, SpellsPart, block_row, key_row, blocks_tree, Alters, alters_so, inside_so, told_apart, Known, PutsBlock, AllowsBlock, AllowsBlocks, PutsRun, TurnsBlock, TurnsBlocks, units_of, BlockReads, IsOfBlock, ReadsAs, places_in, IsBlockAmong, IsBlockIn, IsOwnBlock, IsStorableChange, IsTouched, KeepsBut, KeyUnits, LacksBlock, LacksNewBlocks, NumbersRise, IsNonDecreasingBy-drop, TurnsUnits, one_reading, touched, turns_kept}
+use Rattle.zeb_packed.proofs.Cited.{packed_blocks, ◌≡◌, ◌≢◌, ◌↔◌, ◌⊎◌, ◌∙◌, ◌/◌, ◌<◌, ◌≤◌, ◌^◌, ℕ, ℤ, pos, Result, List, [], ◌∷◌, ◌++◌, drop, refl, sym, ap, subst, inl, inr, arith, eqb_tells, AllByRecursion, Int, Blob, Row, column, Trees, Has, BlockSpells, LiesIn, spelled_from, start_of, Posting, Key, RegFault, Place, RecordChange, SpellsPart, block_row, key_row, blocks_tree, Alters, alters_so, inside_so, told_apart, Known, PutsBlock, AllowsBlock, AllowsBlocks, PutsRunOf, TurnsBlock, TurnsBlocks, units_of, BlockReads, IsOfBlock, ReadsAs, places_in, IsBlockAmong, IsBlockIn, IsOwnBlock, IsStorableChange, IsTouched, KeepsBut, KeyUnits, LacksBlock, LacksNewBlocks, NumbersRise, IsNonDecreasingBy-drop, TurnsUnits, one_reading, touched, turns_kept}
+use Rattle.std.specs.Borrow.{MutBor}
+use Rattle.sqlite.specs.Held.{Held, state}
+use Rattle.sqlite_trees.specs.declared.store.Store.{Ghosts}
 use Rattle.zeb_register.proofs.PackedKeyLaws.{keeps_reads}
 use Rattle.zeb_packed.proofs.UnitTurns.{over, over_in, over_out, touched_either, touched_left, touched_right, turns_agree, turns_beside, turns_from, turns_over, turns_parted, turns_then}
 
@@ -339,12 +342,16 @@ pub allows_fewer : (db : ℤ) (key : Key) (changes : List RecordChange) (These T
 allows_fewer db key changes These Those records trees fewer allows =
     record { were = allows.were; are = allows.are; found = allows.found; turns = allows.turns; lacks = lacks_fewer db key These Those changes trees fewer allows.lacks }
 
-pub run_so : (db : ℤ) (key : Key) (block : ℕ) (run : List RecordChange) (records : ℕ) (Clear Known : Type 0) (old new : State) (result : Result ℕ RegFault) → (Clear → Known) → PutsRun db key block run records Known old new result
-    → PutsRun db key block run records Clear old new result
-run_so db key block run records Clear Known old new result weaker puts =
-    inside_so old new result (λ after. Alters blocks_tree (λ tree a b. TurnsBlock db key block run records after a b × (Known → LacksBlock db key block a))) (λ after. Alters blocks_tree (λ tree a b. TurnsBlock db key block run records after a b × (Clear → LacksBlock db key block a)))
-    (λ after. alters_so blocks_tree (λ tree a b. TurnsBlock db key block run records after a b × (Known → LacksBlock db key block a)) (λ tree a b. TurnsBlock db key block run records after a b × (Clear → LacksBlock db key block a)) old new
-    (λ it. (it.0, λ clear. it.1 (weaker clear)))) puts
+pub run_so : {S : Type 0} {store : Ghosts S} {old new : MutBor (Held S)} {db : ℤ} {key : Key} {block : ℕ} {run : List RecordChange} {records : ℕ} {Clear Known : Type 0} {result : Result ℕ RegFault} → (Clear → Known) → (Known → Clear)
+    → PutsRunOf store old new db key block run records Known result → PutsRunOf store old new db key block run records Clear result
+run_so {S} {store} {old} {new} {db} {key} {block} {run} {records} {Clear} {Known} {result} known clear puts = record {
+  same = puts.same;
+  does = inside_so (state store old.now) (state store new.now) result (λ after. Alters blocks_tree (λ tree a b. TurnsBlock db key block run records after a b × (Known → LacksBlock db key block a))) (λ after. Alters blocks_tree (λ tree a b. TurnsBlock db key block run records after a b × (Clear → LacksBlock db key block a)))
+      (λ after. alters_so blocks_tree (λ tree a b. TurnsBlock db key block run records after a b × (Known → LacksBlock db key block a)) (λ tree a b. TurnsBlock db key block run records after a b × (Clear → LacksBlock db key block a)) (state store old.now) (state store new.now)
+      (λ it. (it.0, λ is. it.1 (known is)))) puts.does;
+  honest = λ clean inside store is lacks. puts.honest clean inside store is (λ it. lacks (clear it));
+  few = puts.few;
+}
 
 -- ---- all runs
 

@@ -1,11 +1,11 @@
 -- What only the contracts of private functions speak of; no public clause reaches it.
 -- Rows of keys that have none yet, which are held and put together with those of other keys.
-use Rattle.std.specs.Prelude.{◌≡◌, ◌≢◌, ◌↔◌, ◌⊎◌, ◌++◌, ◌≤◌, ℕ, ℤ, Bool, List, [], ◌∷◌, length, map, take, IsTrue, Result}
+use Rattle.std.specs.Prelude.{◌≡◌, ◌≢◌, ◌↔◌, ◌⊎◌, ◌++◌, ◌≤◌, ℕ, ℤ, Bool, List, [], ◌∷◌, length, map, take, IsTrue, Result, Err, IfOk}
 use Rattle.std.specs.Borrow.{MutBor}
 use Rattle.std.specs.List.{AllByRecursion}
 use Rattle.sqlite.specs.Held.{Held, state}
 use Rattle.sqlite.specs.Order.{Row}
-use Rattle.sqlite.specs.State.{State}
+use Rattle.sqlite.specs.State.{State, Survives}
 use Rattle.sqlite.specs.Tree.{Trees}
 use Rattle.sqlite_rules.specs.Lists.{Has}
 use Rattle.sqlite_trees.specs.declared.store.Store.{Ghosts}
@@ -13,6 +13,7 @@ use Rattle.zeb_blocks.specs.Blocks.{BlockSpells}
 use Rattle.zeb_blocks.specs.declared.postings.Posting.{Posting}
 use Rattle.zeb_keys.specs.Registers.{register_code}
 use Rattle.zeb_keys.specs.declared.keys.Key.{Key}
+use Rattle.zeb_packed.specs.PrivatePackedChanges.{IsClearFrom}
 use Rattle.zeb_packed.specs.PrivateUnitCalls.{TurnsBlocks}
 use Rattle.zeb_packed.specs.declared.new_rows.NewBlock.{NewBlock}
 use Rattle.zeb_packed.specs.declared.new_rows.NewCount.{NewCount}
@@ -29,8 +30,9 @@ use Rattle.zeb_register.specs.PrivateUnits.{units_of}
 use Rattle.zeb_register.specs.RunChanges.{IsRunRefusedAs, LacksLeave, PutsKeys}
 use Rattle.zeb_register.specs.Sql.{HasRow}
 use Rattle.zeb_register.specs.Store.{Changes, IsStore, KeepsLists, blocks_tree, dict_tree, postings_tree}
-use Rattle.zeb_register.specs.UnitChanges.{IsRefusedAs, IsStorableChange, IsTouched, LacksBlock, PutsUnits, TurnsUnits}
+use Rattle.zeb_register.specs.UnitChanges.{IsRefusedAs, IsStorableChange, IsTouched, KeyUnits, LacksBlock, NumbersRise, PutsUnits, TurnsUnits}
 use Rattle.zeb_register.specs.declared.faults.RegFault.{RegFault}
+use Rattle.zeb_register.specs.declared.faults.RegFault.TheVariants.{Damaged}
 use Rattle.zeb_register.specs.declared.registers.KeyChanges.{KeyChanges}
 use Rattle.zeb_register.specs.declared.registers.RecordChange.{RecordChange}
 
@@ -91,11 +93,27 @@ IsOfRegister first one = (one.key.now.index ≡ first.index) × (register_code o
 abbrev pub LeavesPlaces : RecordChange → Type 0
 LeavesPlaces change = change.new.now ≢ []
 
+-- changes by rising numbers that can be stored, each of which leaves its record some place, of a key that no record has
+pub record AreOfNewKey (changes : List RecordChange) (known : Known) : Type 0 where
+  pub stored : AllByRecursion IsStorableChange changes
+  pub rising : NumbersRise changes
+  pub leaves : AllByRecursion LeavesPlaces changes
+  pub none : known.records ≡ 0
+  pub clear : IsClearFrom known
+
 -- changes of records of a block make a list of none, which the bytes spell
 pub record SpellsNew (block : ℕ) (run : List RecordChange) (records after : ℕ) (bytes : List ℕ) : Type 0 where
   pub list : List Posting
   pub turns : TurnsUnits packed_blocks run (units_of [] records) (units_of list after)
   pub spells : BlockSpells block list bytes
+
+-- Changes of records of a block make its row for a key that has none there, and it is told how many records have the key then. Damaged is told
+-- only where a list of none can't be changed so.
+pub record BeginsRow (key : Key) (block : ℕ) (run : List RecordChange) (records : ℕ) (result : Result (NewBlock × ℕ) RegFault) : Type 0 where
+  pub own : IfOk result (λ made. (made.0.key.now ≡ key) × (made.0.block ≡ block))
+  pub spells : IfOk result (λ made. SpellsNew block run records made.1 made.0.bytes.items)
+  pub few : IfOk result (λ made. made.1 ≤ 999999999)
+  pub honest : result ≡ Err Damaged → (are : KeyUnits) → ¬ TurnsUnits packed_blocks run (units_of [] records) are
 
 -- The changes of a key make these rows of blocks where none of them has one: then the blocks are changed so, in any tables.
 pub record BeginsBlocks (key : Key) (changes : List RecordChange) (known : Known) (blocks : List NewBlock) (after : ℕ) : Type 0 where
@@ -135,13 +153,12 @@ pub record HoldsRun (db : ℤ) (run : List KeyChanges) (old mid : Trees) (held :
 
 -- ---- calls
 
--- on an open connection the call is one inside a transaction, which goes on
-abbrev pub GoesOnOpen : {A E : Type 0} → State → State → Result A E → Type 0
-GoesOnOpen old new result = IsTrue old.is_open → Inside old new result (λ _. GoesOn)
-
--- the same, of a connection that a transaction borrows
-abbrev pub GoesOnOpenOf : {S A E : Type 0} → Ghosts S → (old new : MutBor (Held S)) → Result A E → Type 0
-GoesOnOpenOf store old new result = GoesOnOpen (state store old.now) (state store new.now) result
+-- on an open connection the call is one inside a transaction, which goes on; the transaction borrows the same connection, and a crash leaves what it
+-- left before
+pub record GoesOnOpenOf {S A E : Type 0} (store : Ghosts S) (old new : MutBor (Held S)) (result : Result A E) : Type 0 where
+  pub same : new.ghost_name ≡ old.ghost_name
+  pub does : IsTrue (state store old.now).is_open → Inside (state store old.now) (state store new.now) result (λ _. GoesOn)
+  pub crash : Survives (state store old.now) (state store new.now) (λ _. ⊥)
 
 -- the values are those of so many rows as one statement puts, a row for each of the list
 abbrev pub AreValuesOf : {X : Type 0} → (X → Row) → List X → Row → Type 0

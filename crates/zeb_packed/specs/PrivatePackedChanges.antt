@@ -1,7 +1,7 @@
 -- What only the contracts of private functions speak of; no public clause reaches it.
 -- Parts of a key's list changed block by block, and what is written of them.
-use Rattle.std.specs.Prelude.{◌≡◌, ◌↔◌, ◌⊎◌, ◌≤◌, ◌^◌, ℕ, ℤ, Bool, List, [], ◌∷◌}
-use Rattle.sqlite.specs.declared.types.Value.TheVariants.{Int, Text, Blob}
+use Rattle.std.specs.Prelude.{◌≡◌, ◌↔◌, ◌⊎◌, ◌≤◌, ◌^◌, ℕ, ℤ, Bool, List}
+use Rattle.sqlite.specs.declared.types.Value.TheVariants.{Blob}
 use Rattle.sqlite.specs.Order.{Row, column}
 use Rattle.sqlite.specs.Tree.{Trees}
 use Rattle.zeb_blocks.specs.declared.postings.Posting.{Posting}
@@ -12,16 +12,7 @@ use Rattle.zeb_register.specs.UnitChanges.{IsBlockIn, IsTold}
 use Rattle.zeb_register.specs.PackedBlocks.{block_row}
 use Rattle.zeb_register.specs.Sql.{HasRow}
 
--- ---- the row of a key and a block, and the row of a key
-
-abbrev pub block_key : ℤ → ℤ → ℤ → List ℕ → ℤ → Row
-block_key db idx reg term block = Int db ∷ Int idx ∷ Int reg ∷ Text term ∷ Int block ∷ []
-
-abbrev pub block_columns : ℤ → ℤ → ℤ → List ℕ → ℤ → List ℕ → Row
-block_columns db idx reg term block bytes = Int db ∷ Int idx ∷ Int reg ∷ Text term ∷ Int block ∷ Blob bytes ∷ []
-
-abbrev pub dict_columns : ℤ → ℤ → ℤ → List ℕ → ℤ → Row
-dict_columns db idx reg term records = Int db ∷ Int idx ∷ Int reg ∷ Text term ∷ Int records ∷ []
+-- ---- the row of a key and a block
 
 -- the row of the key and the block spells the list, and there is none where the list is empty
 abbrev pub PutsBlock : ℤ → Key → ℕ → List Posting → ℕ → Trees → Trees → Type 0

@@ -24,7 +24,6 @@ fn one_absent<S: Alter>(
     db: DatabaseId,
     one: &NewBlock<'_>,
 ) -> Result<(), RegFault>
-    ensures same { tx.new.conn.ghost_name ≡ tx.old.conn.ghost_name }
     ensures call { InsideOf S.Store tx.old.conn tx.new.conn result (λ _. OnlyReads) }
     ensures honest { InStoreOf S.Store tx.old.conn tx.new.conn
         (λ trees. result ≡ Err RegFault.Damaged → ¬ LacksBlock db.0 one.now.key.now one.now.block
@@ -63,7 +62,6 @@ fn many_put<S: Alter>(
     blocks: &[NewBlock<'_>],
 ) -> Result<(), RegFault>
     requires { length blocks.now ≡ MANY }
-    ensures same { tx.new.conn.ghost_name ≡ tx.old.conn.ghost_name }
     ensures call { InsideOf S.Store tx.old.conn tx.new.conn result (λ _. GoesOn) }
     ensures put { PutsBlocks db.0 blocks.now (state S.Store tx.old.conn.now)
         (state S.Store tx.new.conn.now) result }
@@ -87,7 +85,6 @@ fn one_put<S: Alter>(
     db: DatabaseId,
     one: &NewBlock<'_>,
 ) -> Result<(), RegFault>
-    ensures same { tx.new.conn.ghost_name ≡ tx.old.conn.ghost_name }
     ensures call { InsideOf S.Store tx.old.conn tx.new.conn result (λ _. GoesOn) }
     ensures put { PutsBlocks db.0 (one.now ∷ []) (state S.Store tx.old.conn.now)
         (state S.Store tx.new.conn.now) result }
@@ -104,7 +101,6 @@ fn front_put<S: Alter>(
     blocks: &[NewBlock<'_>],
 ) -> Result<usize, RegFault>
     requires { blocks.now ≢ [] }
-    ensures same { tx.new.conn.ghost_name ≡ tx.old.conn.ghost_name }
     ensures call { InsideOf S.Store tx.old.conn tx.new.conn result (λ _. GoesOn) }
     ensures put { PutsFront db.0 blocks.now (state S.Store tx.old.conn.now)
         (state S.Store tx.new.conn.now) result }
@@ -125,10 +121,7 @@ fn blocks_put<S: Alter>(
     db: DatabaseId,
     blocks: &[NewBlock<'_>],
 ) -> Result<(), RegFault>
-    ensures same { tx.new.conn.ghost_name ≡ tx.old.conn.ghost_name }
     ensures call { GoesOnOpenOf S.Store tx.old.conn tx.new.conn result }
-    ensures crash { Survives (state S.Store tx.old.conn.now) (state S.Store tx.new.conn.now)
-        (λ _. ⊥) }
     ensures put { IsTrue (state S.Store tx.old.conn.now).is_open → AreApart blocks.now
         → PutsBlocks db.0 blocks.now (state S.Store tx.old.conn.now)
         (state S.Store tx.new.conn.now) result }
@@ -146,7 +139,6 @@ fn count_put<S: Alter>(
     db: DatabaseId,
     one: &NewCount<'_>,
 ) -> Result<(), Error>
-    ensures same { tx.new.conn.ghost_name ≡ tx.old.conn.ghost_name }
     ensures call { InsideOf S.Store tx.old.conn tx.new.conn result (λ _. GoesOn) }
     ensures put { ChangesTableOf S.Store tx.old.conn tx.new.conn dict_tree result
         (λ _. GainsAll (new_count_row db.0 one.now ∷ [])) }
@@ -164,7 +156,6 @@ fn many_counts_put<S: Alter>(
     counts: &[NewCount<'_>],
 ) -> Result<(), Error>
     requires { length counts.now ≡ MANY }
-    ensures same { tx.new.conn.ghost_name ≡ tx.old.conn.ghost_name }
     ensures call { InsideOf S.Store tx.old.conn tx.new.conn result (λ _. GoesOn) }
     ensures put { ChangesTableOf S.Store tx.old.conn tx.new.conn dict_tree result
         (λ _. GainsAll (map (new_count_row db.0) counts.now)) }
@@ -182,7 +173,6 @@ fn front_counts_put<S: Alter>(
     counts: &[NewCount<'_>],
 ) -> Result<usize, Error>
     requires { counts.now ≢ [] }
-    ensures same { tx.new.conn.ghost_name ≡ tx.old.conn.ghost_name }
     ensures call { InsideOf S.Store tx.old.conn tx.new.conn result (λ _. GoesOn) }
     ensures put { ChangesTableOf S.Store tx.old.conn tx.new.conn dict_tree result
         (λ count. GainsAll (map (new_count_row db.0) (take count counts.now))) }
@@ -203,10 +193,7 @@ fn counts_put<S: Alter>(
     db: DatabaseId,
     counts: &[NewCount<'_>],
 ) -> Result<(), Error>
-    ensures same { tx.new.conn.ghost_name ≡ tx.old.conn.ghost_name }
     ensures call { GoesOnOpenOf S.Store tx.old.conn tx.new.conn result }
-    ensures crash { Survives (state S.Store tx.old.conn.now) (state S.Store tx.new.conn.now)
-        (λ _. ⊥) }
     ensures put { IsTrue (state S.Store tx.old.conn.now).is_open
         → ChangesTableOf S.Store tx.old.conn tx.new.conn dict_tree result
         (λ _. GainsAll (map (new_count_row db.0) counts.now)) }
@@ -225,10 +212,7 @@ pub(crate) fn held_put<S: Alter>(
     db: DatabaseId,
     held: &NewRows<'_>,
 ) -> Result<(), RegFault>
-    ensures same { tx.new.conn.ghost_name ≡ tx.old.conn.ghost_name }
     ensures call { GoesOnOpenOf S.Store tx.old.conn tx.new.conn result }
-    ensures crash { Survives (state S.Store tx.old.conn.now) (state S.Store tx.new.conn.now)
-        (λ _. ⊥) }
     ensures put { PutsHeld db.0 held.now (state S.Store tx.old.conn.now)
         (state S.Store tx.new.conn.now) result }
 {

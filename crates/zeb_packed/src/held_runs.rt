@@ -1,12 +1,11 @@
 //! A run of keys whose places change. A key is changed at once where it has a row of `dict`, or where a change leaves a record no place; the
 //! rows of the others are held, and put together.
 
-ghost use Rattle.std.specs.Prelude.{IsUtf8, ◌≡◌, ◌≢◌, ◌≤◌, ◌*◌, [], OnOk};
+ghost use Rattle.std.specs.Prelude.{◌≢◌, ◌*◌, [], OnOk};
 ghost use Rattle.std.specs.List.{AllByRecursion};
 ghost use Rattle.sqlite.specs.Held.{state};
-ghost use Rattle.sqlite.specs.State.{Survives};
 ghost use Rattle.zeb_packed.specs.PrivateNewRows.{GoesOnOpenOf, HoldsKeys, TurnsKnown, TurnsOne};
-ghost use Rattle.zeb_packed.specs.PrivatePackedChanges.{IsClearFrom};
+ghost use Rattle.zeb_packed.specs.PrivateUnitCalls.{CanBePut};
 ghost use Rattle.zeb_register.specs.Calls.{GoesOn};
 ghost use Rattle.zeb_register.specs.Connections.{InsideOf};
 ghost use Rattle.zeb_register.specs.Formats.{packed_blocks};
@@ -35,15 +34,9 @@ fn known_turned<'a, S: Alter>(
     changes: &[RecordChange<'_>],
     held: &mut NewRows<'a>,
 ) -> Result<(), RegFault>
-    requires text { IsUtf8 key.now.term }
-    requires stored { AllByRecursion IsStorableChange changes.now }
-    requires rising { NumbersRise changes.now }
+    requires put { CanBePut key.now changes.now known }
     requires some { changes.now ≢ [] }
-    requires known { (known.records ≤ 999999999) × IsClearFrom known }
-    ensures same { tx.new.conn.ghost_name ≡ tx.old.conn.ghost_name }
     ensures call { GoesOnOpenOf S.Store tx.old.conn tx.new.conn result }
-    ensures crash { Survives (state S.Store tx.old.conn.now) (state S.Store tx.new.conn.now)
-        (λ _. ⊥) }
     ensures turned { TurnsKnown db.0 key.now changes.now known.records
         (state S.Store tx.old.conn.now) (state S.Store tx.new.conn.now) held.old held.new result }
 {
@@ -67,10 +60,7 @@ fn new_turned<'a, S: Alter>(
     requires stored { AllByRecursion IsStorableChange changes.now }
     requires rising { NumbersRise changes.now }
     requires some { changes.now ≢ [] }
-    ensures same { tx.new.conn.ghost_name ≡ tx.old.conn.ghost_name }
     ensures call { GoesOnOpenOf S.Store tx.old.conn tx.new.conn result }
-    ensures crash { Survives (state S.Store tx.old.conn.now) (state S.Store tx.new.conn.now)
-        (λ _. ⊥) }
     ensures turned { TurnsKnown db.0 key.now changes.now 0
         (state S.Store tx.old.conn.now) (state S.Store tx.new.conn.now) held.old held.new result }
 {
@@ -93,10 +83,7 @@ fn key_turned<'a, S: Alter>(
     held: &mut NewRows<'a>,
 ) -> Result<(), RegFault>
     requires rising { NumbersRise changes.now }
-    ensures same { tx.new.conn.ghost_name ≡ tx.old.conn.ghost_name }
     ensures call { GoesOnOpenOf S.Store tx.old.conn tx.new.conn result }
-    ensures crash { Survives (state S.Store tx.old.conn.now) (state S.Store tx.new.conn.now)
-        (λ _. ⊥) }
     ensures turned { TurnsOne db.0 key.now changes.now of_run.are_new
         (state S.Store tx.old.conn.now) (state S.Store tx.new.conn.now) held.old held.new result }
 {
@@ -121,10 +108,7 @@ fn keys_turned<'a, S: Alter>(
     run: &[KeyChanges<'a>],
 ) -> Result<NewRows<'a>, RegFault>
     requires rising { IsRun run.now }
-    ensures same { tx.new.conn.ghost_name ≡ tx.old.conn.ghost_name }
     ensures call { GoesOnOpenOf S.Store tx.old.conn tx.new.conn result }
-    ensures crash { Survives (state S.Store tx.old.conn.now) (state S.Store tx.new.conn.now)
-        (λ _. ⊥) }
     ensures holds { HoldsKeys db.0 run.now of_run.are_new (state S.Store tx.old.conn.now)
         (state S.Store tx.new.conn.now) result }
     ensures work { OnOk result (Works (1 * changes_in run.now) (1 * changes_in run.now)
@@ -147,7 +131,6 @@ pub(crate) fn run_made<S: Alter>(
     run: &[KeyChanges<'_>],
 ) -> Result<(), RegFault>
     requires rising { IsRun run.now }
-    ensures same { tx.new.conn.ghost_name ≡ tx.old.conn.ghost_name }
     ensures call { InsideOf S.Store tx.old.conn tx.new.conn result (λ _. GoesOn) }
     ensures units { ChangesKeys packed_blocks db.0 run.now
         (state S.Store tx.old.conn.now) (state S.Store tx.new.conn.now) result }

@@ -1,6 +1,6 @@
 //! Whether all keys of a run are new to their register. Then the row of `dict` is looked for once, and not for each key.
 
-ghost use Rattle.std.specs.Prelude.{IsUtf8, ◌≡◌, IsTrue};
+ghost use Rattle.std.specs.Prelude.{IsUtf8, IsTrue};
 ghost use Rattle.std.specs.List.{AllByRecursion};
 ghost use Rattle.zeb_packed.specs.PrivateNewRows.{AreToldNew, IsOfRegister};
 ghost use Rattle.zeb_register.specs.Calls.{OnlyReads};
@@ -53,7 +53,6 @@ pub(crate) fn run_known<S: Alter>(
     run: &[KeyChanges<'_>],
 ) -> Result<RunKnown, Error>
     requires { KeysRise run.now }
-    ensures same { tx.new.conn.ghost_name ≡ tx.old.conn.ghost_name }
     ensures call { InsideOf S.Store tx.old.conn tx.new.conn result (λ _. OnlyReads) }
     ensures told { TellsInsideOf S.Store tx.old.conn tx.new.conn result
         (λ trees known. AreToldNew known.are_new db.0 run.now trees) }

@@ -5,12 +5,9 @@ ghost use Rattle.std.specs.List.{AllByRecursion};
 ghost use Rattle.sqlite.specs.Tree.{Trees};
 ghost use Rattle.zeb_register.specs.Formats.{packed_blocks};
 ghost use Rattle.zeb_register.specs.PackedUnits.{CountsAs};
-ghost use Rattle.zeb_register.specs.PrivatePackedRows.{IsInBlock};
-ghost use Rattle.zeb_register.specs.PrivateUnits.{units_of};
-ghost use Rattle.zeb_register.specs.UnitChanges.{AllowsChanges, IsStorableChange, KeyUnits, NumbersRise, TurnsUnits};
-ghost use Rattle.zeb_packed.specs.PrivateNewRows.{AreBehind, BeginsBlocks, BeginsKey, LeavesPlaces, SpellsNew};
-ghost use Rattle.zeb_packed.specs.PrivatePackedChanges.{IsClearFrom};
-ghost use Rattle.zeb_packed.specs.PrivateUnitCalls.{AllowsBlocks};
+ghost use Rattle.zeb_register.specs.UnitChanges.{AllowsChanges, KeyUnits};
+ghost use Rattle.zeb_packed.specs.PrivateNewRows.{AreBehind, AreOfNewKey, BeginsBlocks, BeginsKey, BeginsRow, LeavesPlaces};
+ghost use Rattle.zeb_packed.specs.PrivateUnitCalls.{AllowsBlocks, AreOfBlock};
 
 use crate::packed_changes::Known;
 use crate::packed_parts::KeyBlock;
@@ -84,17 +81,10 @@ fn block_begun<'a>(
     block: u64,
     run: &[RecordChange<'_>],
 ) -> Result<(NewBlock<'a>, u64), RegFault>
-    requires stored { AllByRecursion IsStorableChange run.now }
-    requires inside { AllByRecursion (IsInBlock block) run.now }
+    requires changes { AreOfBlock block known.records run.now }
     requires leaves { AllByRecursion LeavesPlaces run.now }
     requires some { run.now ≢ [] }
-    requires few { known.records ≤ 999999999 }
-    ensures own { IfOk result (λ made. (made.0.key.now ≡ key.now) × (made.0.block ≡ block)) }
-    ensures spells { IfOk result (λ made.
-        SpellsNew block run.now known.records made.1 made.0.bytes.items) }
-    ensures few { IfOk result (λ made. made.1 ≤ 999999999) }
-    ensures damaged { result ≡ Err RegFault.Damaged → (are : KeyUnits)
-        → ¬ TurnsUnits packed_blocks run.now (units_of [] known.records) are }
+    ensures { BeginsRow key.now block run.now known.records result }
 {
     let before = KeyBlock {
         block,
@@ -112,11 +102,7 @@ fn blocks_begun<'a>(
     known: Known,
     changes: &[RecordChange<'_>],
 ) -> Result<(Vec<NewBlock<'a>>, u64), RegFault>
-    requires stored { AllByRecursion IsStorableChange changes.now }
-    requires rising { NumbersRise changes.now }
-    requires leaves { AllByRecursion LeavesPlaces changes.now }
-    requires none { known.records ≡ 0 }
-    requires clear { known.clear_from ≡ 0 }
+    requires { AreOfNewKey changes.now known }
     ensures begun { IfOk result (λ made.
         BeginsBlocks key.now changes.now known made.0.items made.1) }
     ensures damaged { result ≡ Err RegFault.Damaged → (db : _) (trees : Trees)
@@ -145,12 +131,8 @@ pub(crate) fn rows_begun<'a>(
     changes: &[RecordChange<'_>],
 ) -> Result<NewRows<'a>, RegFault>
     requires text { IsUtf8 key.now.term }
-    requires stored { AllByRecursion IsStorableChange changes.now }
-    requires rising { NumbersRise changes.now }
-    requires leaves { AllByRecursion LeavesPlaces changes.now }
+    requires changes { AreOfNewKey changes.now known }
     requires some { changes.now ≢ [] }
-    requires none { known.records ≡ 0 }
-    requires clear { IsClearFrom known }
     ensures begun { IfOk result (BeginsKey key.now changes.now) }
     ensures damaged { result ≡ Err RegFault.Damaged → (db : _) (trees : Trees)
         → CountsAs trees db key.now 0 → (were are : KeyUnits)

@@ -37,7 +37,6 @@ pub(crate) fn block_list<S: Alter>(
     block: u64,
 ) -> Result<Vec<Posting>, RegFault>
     requires { block < 2 ^ 63 }
-    ensures same { tx.new.conn.ghost_name ≡ tx.old.conn.ghost_name }
     ensures call { InsideOf S.Store tx.old.conn tx.new.conn result (λ _. OnlyReads) }
     ensures reads { InStoreOf S.Store tx.old.conn tx.new.conn
         (λ trees. Answers (IfDamaged (IsBlockMalformed trees db.0 key.now block))
@@ -101,7 +100,6 @@ pub(crate) fn key_known<S: Alter>(
     db: DatabaseId,
     key: &Key,
 ) -> Result<Known, RegFault>
-    ensures same { tx.new.conn.ghost_name ≡ tx.old.conn.ghost_name }
     ensures call { InsideOf S.Store tx.old.conn tx.new.conn result (λ _. OnlyReads) }
     ensures text { OnOk result (IsUtf8 key.now.term) }
     ensures knows { InStoreOf S.Store tx.old.conn tx.new.conn
@@ -150,7 +148,6 @@ pub(crate) fn block_write<S: Alter>(
 ) -> Result<(), Error>
     requires lies { LiesIn block list.now }
     requires small { block < 2 ^ 63 }
-    ensures same { tx.new.conn.ghost_name ≡ tx.old.conn.ghost_name }
     ensures call { WritesOf S.Store tx.old.conn tx.new.conn blocks_tree
         (IfTold is_there (IsBlockIn db.0 key.now block) (PutsBlock db.0 key.now block list.now))
         result }
@@ -181,7 +178,6 @@ pub(crate) fn block_begin<S: Alter>(
 ) -> Result<(), RegFault>
     requires lies { LiesIn block list.now }
     requires small { block < 2 ^ 63 }
-    ensures same { tx.new.conn.ghost_name ≡ tx.old.conn.ghost_name }
     ensures call { WritesOf S.Store tx.old.conn tx.new.conn blocks_tree
         (IfTold false (IsBlockIn db.0 key.now block) (PutsBlock db.0 key.now block list.now))
         result }
@@ -207,7 +203,6 @@ pub(crate) fn block_put<S: Alter>(
     number: i64,
     bytes: &[u8],
 ) -> Result<(), RegFault>
-    ensures same { tx.new.conn.ghost_name ≡ tx.old.conn.ghost_name }
     ensures call { WritesOf S.Store tx.old.conn tx.new.conn blocks_tree
         (Gains (numbered_columns at.entry number ++ Blob bytes.now ∷ [])) result }
     ensures honest { InStoreOf S.Store tx.old.conn tx.new.conn
@@ -247,7 +242,6 @@ pub(crate) fn block_absent<S: Alter>(
     at: KeyOf<'_>,
     number: i64,
 ) -> Result<(), RegFault>
-    ensures same { tx.new.conn.ghost_name ≡ tx.old.conn.ghost_name }
     ensures call { InsideOf S.Store tx.old.conn tx.new.conn result (λ _. OnlyReads) }
     ensures honest { InStoreOf S.Store tx.old.conn tx.new.conn
         (λ trees. result ≡ Err RegFault.Damaged → ¬ IsTold false (IsOfNumbered at.entry number)
@@ -270,7 +264,6 @@ pub(crate) fn dict_write<S: Alter>(
     records: u64,
     is_there: bool,
 ) -> Result<(), Error>
-    ensures same { tx.new.conn.ghost_name ≡ tx.old.conn.ghost_name }
     ensures call { WritesOf S.Store tx.old.conn tx.new.conn dict_tree
         (IfTold is_there (IsDictIn db.0 key.now) (PutsCount db.0 key.now records)) result }
 {

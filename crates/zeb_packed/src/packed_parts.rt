@@ -1,13 +1,11 @@
 //! What the packed tables hold of a key in one block, and what they hold of it after records' places are changed.
 
-ghost use Rattle.std.specs.Prelude.{◌≡◌, ◌≢◌, ◌≤◌, [], ℕ, true, false, IfOk, MatchOption};
-ghost use Rattle.std.specs.List.{AllByRecursion};
+ghost use Rattle.std.specs.Prelude.{◌≡◌, ◌≢◌, ◌≤◌, [], ℕ, true, false, MatchOption};
 ghost use Rattle.zeb_blocks.specs.Blocks.{LiesIn};
 ghost use Rattle.zeb_register.specs.PrivatePackedRows.{IsInBlock};
 ghost use Rattle.zeb_register.specs.Formats.{packed_blocks};
-ghost use Rattle.zeb_register.specs.PrivateUnits.{units_of};
-ghost use Rattle.zeb_register.specs.Answers.{Answers, IfDamaged};
-ghost use Rattle.zeb_register.specs.UnitChanges.{CountsOn, IsStorableChange, KeyUnits, TurnsUnit, TurnsUnits};
+ghost use Rattle.zeb_packed.specs.PrivateUnitCalls.{AreOfBlock, TurnsHeld};
+ghost use Rattle.zeb_register.specs.UnitChanges.{CountsOn, IsStorableChange, TurnsUnit, TurnsUnits};
 
 use crate::packed::MOST_RECORDS;
 use zeb_blocks::Posting;
@@ -29,16 +27,8 @@ impl KeyBlock {
     /// is 0 though the block has a posting, none is left to take from, or it would pass 999,999,999.
     pub(crate) fn changed_by(self, changes: &[RecordChange<'_>]) -> Result<KeyBlock, RegFault>
         requires lies { LiesIn self.block self.list.items }
-        requires inside { AllByRecursion (IsInBlock self.block) changes.now }
-        requires stored { AllByRecursion IsStorableChange changes.now }
-        requires few { self.records ≤ 999999999 }
-        ensures turned { Answers
-            (IfDamaged ((are : KeyUnits)
-            → ¬ TurnsUnits packed_blocks changes.now (units_of self.list.items self.records) are))
-            (λ held. TurnsUnits packed_blocks changes.now (units_of self.list.items self.records)
-            (units_of held.list.items held.records))
-            result }
-        ensures lies { IfOk result (λ held. LiesIn self.block held.list.items) }
+        requires changes { AreOfBlock self.block self.records changes.now }
+        ensures { TurnsHeld (TurnsUnits packed_blocks changes.now) self result }
     {
         let mut held = self;
         for change in changes {
@@ -53,14 +43,7 @@ impl KeyBlock {
         requires inside { IsInBlock self.block change.now }
         requires stored { IsStorableChange change.now }
         requires few { self.records ≤ 999999999 }
-        ensures turned { Answers
-            (IfDamaged ((are : KeyUnits)
-            → ¬ TurnsUnit packed_blocks change.now (units_of self.list.items self.records) are))
-            (λ held. TurnsUnit packed_blocks change.now (units_of self.list.items self.records)
-            (units_of held.list.items held.records))
-            result }
-        ensures lies { IfOk result (λ held. LiesIn self.block held.list.items) }
-        ensures block { IfOk result (λ held. held.block ≡ self.block) }
+        ensures { TurnsHeld (TurnsUnit packed_blocks change.now) self result }
     {
         if self.lacks_records() {
             return Err(RegFault::Damaged);

@@ -1,18 +1,16 @@
 //! A key's places changed in many records, in packed registers: the row of a block is read and written once for the records of it that
 //! stand next to each other, and the row of `dict` once for all. A block that the key can have no row for is only written.
 
-ghost use Rattle.std.specs.Prelude.{IsTrue, IsUtf8, ◌≡◌, ◌<◌, ◌≤◌, ◌^◌, ◌∷◌, List, drop, length, take, IfOk, OnOk};
+ghost use Rattle.std.specs.Prelude.{IsTrue, ◌≡◌, ◌≤◌, ◌∷◌, List, drop, length, take, OnOk};
 ghost use Rattle.std.specs.List.{AllByRecursion};
 ghost use Rattle.sqlite.specs.Held.{state};
-ghost use Rattle.sqlite.specs.State.{Survives};
 ghost use Rattle.zeb_register.specs.Calls.{GoesOn};
 ghost use Rattle.zeb_register.specs.Formats.{packed_blocks};
 ghost use Rattle.zeb_register.specs.PrivatePackedRows.{IsInBlock};
 ghost use Rattle.zeb_register.specs.Store.{blocks_tree};
 ghost use Rattle.zeb_register.specs.Tallies.{Works};
 ghost use Rattle.zeb_packed.specs.PrivateNewRows.{GoesOnOpenOf};
-ghost use Rattle.zeb_packed.specs.PrivatePackedChanges.{IsClearFrom};
-ghost use Rattle.zeb_packed.specs.PrivateUnitCalls.{AllowsBlocks, ChangesKnown, ChangesUnits, IsHonestRun, PutsRun, TurnsBlocks};
+ghost use Rattle.zeb_packed.specs.PrivateUnitCalls.{AllowsBlocks, CanBePut, ChangesKnown, ChangesUnits, IsRunOf, PutsRunOf, TurnsBlocks};
 ghost use Rattle.zeb_register.specs.Connections.{ChangesTableOf, InStoreOf, InsideOf};
 ghost use Rattle.zeb_register.specs.UnitChanges.{ChangesKey, IsStorableChange, NumbersRise};
 
@@ -34,7 +32,6 @@ pub(crate) fn changes_made<S: Alter>(
     changes: &[RecordChange<'_>],
 ) -> Result<(), RegFault>
     requires rising { NumbersRise changes.now }
-    ensures same { tx.new.conn.ghost_name ≡ tx.old.conn.ghost_name }
     ensures call { InsideOf S.Store tx.old.conn tx.new.conn result (λ _. GoesOn) }
     ensures units { ChangesKey packed_blocks db.0 key.now changes.now
         (state S.Store tx.old.conn.now) (state S.Store tx.new.conn.now) result }
@@ -71,7 +68,6 @@ fn changes_put<S: Alter>(
 ) -> Result<(), RegFault>
     requires stored { AllByRecursion IsStorableChange changes.now }
     requires rising { NumbersRise changes.now }
-    ensures same { tx.new.conn.ghost_name ≡ tx.old.conn.ghost_name }
     ensures call { InsideOf S.Store tx.old.conn tx.new.conn result (λ _. GoesOn) }
     ensures units { ChangesUnits db.0 key.now changes.now
         (state S.Store tx.old.conn.now) (state S.Store tx.new.conn.now) result }
@@ -88,14 +84,8 @@ pub(crate) fn known_put<S: Alter>(
     known: Known,
     changes: &[RecordChange<'_>],
 ) -> Result<(), RegFault>
-    requires text { IsUtf8 key.now.term }
-    requires stored { AllByRecursion IsStorableChange changes.now }
-    requires rising { NumbersRise changes.now }
-    requires known { (known.records ≤ 999999999) × IsClearFrom known }
-    ensures same { tx.new.conn.ghost_name ≡ tx.old.conn.ghost_name }
+    requires { CanBePut key.now changes.now known }
     ensures call { GoesOnOpenOf S.Store tx.old.conn tx.new.conn result }
-    ensures crash { Survives (state S.Store tx.old.conn.now) (state S.Store tx.new.conn.now)
-        (λ _. ⊥) }
     ensures units { ChangesKnown db.0 key.now changes.now known.records
         (state S.Store tx.old.conn.now) (state S.Store tx.new.conn.now) result }
 {
@@ -114,7 +104,6 @@ fn runs_put<S: Alter>(
 ) -> Result<u64, RegFault>
     requires stored { AllByRecursion IsStorableChange changes.now }
     requires few { known.records ≤ 999999999 }
-    ensures same { tx.new.conn.ghost_name ≡ tx.old.conn.ghost_name }
     ensures call { InsideOf S.Store tx.old.conn tx.new.conn result (λ _ a b. IsTrue a.is_open
         → GoesOn a b) }
     ensures turned { ChangesTableOf S.Store tx.old.conn tx.new.conn blocks_tree result
@@ -163,17 +152,9 @@ fn run_put<S: Alter>(
     known: Known,
     run: &[RecordChange<'_>],
 ) -> Result<u64, RegFault>
-    requires stored { AllByRecursion IsStorableChange run.now }
-    requires inside { AllByRecursion (IsInBlock block) run.now }
-    requires small { block < 2 ^ 63 }
-    requires few { known.records ≤ 999999999 }
-    ensures same { tx.new.conn.ghost_name ≡ tx.old.conn.ghost_name }
-    ensures call { PutsRun db.0 key.now block run.now known.records (known.clear_from ≤ block)
-        (state S.Store tx.old.conn.now) (state S.Store tx.new.conn.now) result }
-    ensures damaged { IsHonestRun db.0 key.now block run.now
-        known.records (known.clear_from ≤ block)
-        (state S.Store tx.old.conn.now) (state S.Store tx.new.conn.now) result }
-    ensures few { IfOk result (λ after. after ≤ 999999999) }
+    requires { IsRunOf block known.records run.now }
+    ensures { PutsRunOf S.Store tx.old.conn tx.new.conn db.0 key.now block run.now
+        known.records (known.clear_from ≤ block) result }
 {
     if block < known.clear_from {
         return row_renew(tx, db, key, block, known.records, run);
@@ -190,16 +171,9 @@ fn row_renew<S: Alter>(
     records: u64,
     run: &[RecordChange<'_>],
 ) -> Result<u64, RegFault>
-    requires stored { AllByRecursion IsStorableChange run.now }
-    requires inside { AllByRecursion (IsInBlock block) run.now }
-    requires small { block < 2 ^ 63 }
-    requires few { records ≤ 999999999 }
-    ensures same { tx.new.conn.ghost_name ≡ tx.old.conn.ghost_name }
-    ensures call { PutsRun db.0 key.now block run.now records (⊥)
-        (state S.Store tx.old.conn.now) (state S.Store tx.new.conn.now) result }
-    ensures damaged { IsHonestRun db.0 key.now block run.now records (⊥)
-        (state S.Store tx.old.conn.now) (state S.Store tx.new.conn.now) result }
-    ensures few { IfOk result (λ after. after ≤ 999999999) }
+    requires { IsRunOf block records run.now }
+    ensures { PutsRunOf S.Store tx.old.conn tx.new.conn db.0 key.now block run.now
+        records (⊥) result }
 {
     let list = block_list(tx, db, key, block)?;
     let is_there = !list.is_empty();
@@ -224,16 +198,9 @@ fn row_begin<S: Alter>(
     records: u64,
     run: &[RecordChange<'_>],
 ) -> Result<u64, RegFault>
-    requires stored { AllByRecursion IsStorableChange run.now }
-    requires inside { AllByRecursion (IsInBlock block) run.now }
-    requires small { block < 2 ^ 63 }
-    requires few { records ≤ 999999999 }
-    ensures same { tx.new.conn.ghost_name ≡ tx.old.conn.ghost_name }
-    ensures call { PutsRun db.0 key.now block run.now records (Unit {0})
-        (state S.Store tx.old.conn.now) (state S.Store tx.new.conn.now) result }
-    ensures damaged { IsHonestRun db.0 key.now block run.now records (Unit {0})
-        (state S.Store tx.old.conn.now) (state S.Store tx.new.conn.now) result }
-    ensures few { IfOk result (λ after. after ≤ 999999999) }
+    requires { IsRunOf block records run.now }
+    ensures { PutsRunOf S.Store tx.old.conn tx.new.conn db.0 key.now block run.now
+        records (Unit {0}) result }
 {
     let before = KeyBlock {
         block,

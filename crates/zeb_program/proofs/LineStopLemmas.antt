@@ -38,7 +38,3 @@ module _ {S : Type 0} (g : Ghosts S) (at : Tells) (format : Format) (c : Conditi
     | inl is ↦ inl (unread (subst IsUnread (sym is) tt))
     | inr (bytes, status, tells) ↦ inr (bytes, status, path_over (Err why) bytes status reaches over tells)
   ]
-
-pub same_err : {X : Type 0} {old new : X} (r : Result Status AllocError) → new ≡ old → OnErr r (new ≡ old)
-same_err (Ok status) same = tt
-same_err (Err e) same = same

@@ -65,6 +65,20 @@ told_on a b c x y z O P goes more first second = record {
   crash = quiet_then a b c first.crash second.crash;
 }
 
+-- what two calls have done follows from what each does
+pub behind_inside : {A B D E : Type 0} (a b c : State) (x : A) (r : Result B E) (O : A → State → State → Type 0) (P Q : B → State → State → Type 0) → (O x a b → GoesOn a b) → (O x a b → (y : B) → P y b c → Q y a c)
+    → Inside {E = D} a b (Ok x) O → Inside b c r P → Inside a c r Q
+behind_inside a b c x (Ok y) O P Q goes so first second = record {
+  ok = λ clean inside. let did = first.ok (clean_before b c second.crash clean) inside in so did y (second.ok clean (goes did).mode);
+  err = λ clean inside. tt;
+  crash = quiet_then a b c first.crash second.crash;
+}
+behind_inside a b c x (Err e) O P Q goes so first second = record {
+  ok = λ clean inside. tt;
+  err = λ clean inside. let on = goes (first.ok (clean_before b c second.crash clean) inside) in goes_keeps a b c on (second.err clean on.mode);
+  crash = quiet_then a b c first.crash second.crash;
+}
+
 -- ---- why the call is refused
 
 pub not_refused : {A E : Type 0} (x : A) (fault : E) → ¬ (◌≡◌ {A = Result A E} (Ok x) (Err fault))

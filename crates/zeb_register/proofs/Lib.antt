@@ -73,6 +73,7 @@ pub mod OwnersListed
 pub mod Malformed
 pub mod Answered
 pub mod HandedOn
+pub mod Wiped
 pub mod KeyPlaces
 pub mod BlockUnits
 pub mod BlockContents

@@ -1,5 +1,5 @@
 -- Rows of one record's places.
-use Rattle.zeb_register.proofs.Cited.{Row, column, row_cmp, State, Trees, rowid, is_int, Null, Int, Text, all_has, Has, value_cmp-Int, true, ◌≡◌, ◌↔◌, ◌⊎◌, ◌∙◌, ◌<◌, ◌+◌, zero, suc, ℕ, ℤ, pos, List, [], ◌∷◌, ◌++◌, map, take, Ordering, Less, Equal, Greater, length, get_or, inl, inr, refl, sym, ap, ap₂, subst, arith, nat_cmp, take_more, map-append, AllByRecursion, ordering_then, Key, register_code, Place, KeepsOthers, IsKeyed, Loses, Gains, place_key, postings_tree, Changes, blocks_tree, dict_tree, databases_tree, records_tree, TakesDatabase, IsOfDatabase, Content, place_cmp, IsWithout, TakesWhole, HoldsRows, first_two, place_row, DropsRegisters, KeepsBesidePostings, Puts, posting_columns, store_schema}
+use Rattle.zeb_register.proofs.Cited.{Alters, Row, column, row_cmp, State, Trees, rowid, is_int, Null, Int, Text, all_has, Has, value_cmp-Int, true, ◌≡◌, ◌↔◌, ◌⊎◌, ◌∙◌, ◌<◌, ◌+◌, zero, suc, ℕ, ℤ, pos, List, [], ◌∷◌, ◌++◌, map, take, Ordering, Less, Equal, Greater, length, get_or, inl, inr, refl, sym, ap, ap₂, subst, arith, nat_cmp, take_more, map-append, AllByRecursion, ordering_then, Key, register_code, Place, KeepsOthers, IsKeyed, Loses, Gains, place_key, postings_tree, Changes, blocks_tree, dict_tree, databases_tree, records_tree, TakesDatabase, IsOfDatabase, Content, place_cmp, IsWithout, TakesWhole, HoldsRows, first_two, place_row, DropsRegisters, KeepsBesidePostings, Puts, posting_columns, store_schema}
 use Rattle.std.specs.List.Sorted.{IsStrictlySortedBy}
 use Rattle.zeb_register.proofs.ContentLemmas.{ints_order}
 
@@ -113,6 +113,10 @@ none_left P tree old new keyed lost none = at (new tree) refl
         let int = int_row r (all_has _ (new tree) r keyed.1 here) in
         let was = ((lost int.1).0 (int.0, subst (Has (new tree)) int.2 here)).0 in
         absurd (subst (λ l. Has l (Int was.0 ∷ int.1)) none was.1)
+
+-- the rows of the database are taken out of two of the registers' tables
+abbrev pub DropsTwo : ℤ → State → State → State → Type 0
+DropsTwo db b c d = Alters blocks_tree (Loses (IsOfDatabase db)) b c × Alters dict_tree (Loses (IsOfDatabase db)) c d
 
 pub drops : (db : ℤ) (a b c d : State) → Changes postings_tree (Loses (IsOfDatabase db)) a b → Changes blocks_tree (Loses (IsOfDatabase db)) b c → Changes dict_tree (Loses (IsOfDatabase db)) c d → DropsRegisters db a d
 drops db a b c d one two three = record {

@@ -9,7 +9,7 @@ use Rattle.sqlite.specs.Tree.{Trees}
 use Rattle.sqlite.specs.State.{State, HasCleanDisk}
 use Rattle.zeb_register.specs.declared.faults.RegFault.{RegFault}
 use Rattle.zeb_register.specs.declared.faults.RegFault.TheVariants.{Damaged, Store}
-use Rattle.zeb_register.specs.Calls.{Alters, Inside, MayRefuse}
+use Rattle.zeb_register.specs.Calls.{MayRefuse}
 use Rattle.zeb_register.specs.Content.{Content, IsStorable}
 use Rattle.zeb_register.specs.Faults.{fault_of}
 use Rattle.zeb_register.specs.Sql.{KeepsTables}
@@ -22,12 +22,6 @@ OnStore old new Said = HasCleanDisk new → IsStore old → Said old.now.trees
 -- on a clean disk this is said of a store's tables as they were before a call inside a transaction
 abbrev pub InStore : State → State → (Trees → Type 0) → Type 0
 InStore old new Said = HasCleanDisk new → IsTrue old.in_transaction → IsStore old → Said old.now.trees
-
--- ---- what an accepted call does
-
--- inside a transaction, which goes on, one table is written so
-abbrev pub Writes : {A E : Type 0} → ℕ → (ℕ → Trees → Trees → Type 0) → State → State → Result A E → Type 0
-Writes tree Rows old new result = Inside old new result (λ _. Alters tree Rows)
 
 -- ---- what an accepted call tells
 

@@ -1,6 +1,6 @@
--- What the clauses of many calls say, of a connection: the state that it had before the call, and the one that it has now. Each of these unfolds
--- by itself.
-use Rattle.std.specs.Prelude.{ℕ, Bool, Result}
+-- What the clauses of many calls say, of a connection: the state that it had before the call, and the one that it has now. Each of these but
+-- `InsideOf` unfolds by itself.
+use Rattle.std.specs.Prelude.{◌≡◌, ℕ, Bool, Result}
 use Rattle.std.specs.Borrow.{MutBor}
 use Rattle.sqlite.specs.declared.error.Error.{Error}
 use Rattle.sqlite.specs.Held.{Held, state}
@@ -8,8 +8,8 @@ use Rattle.sqlite.specs.State.{State}
 use Rattle.sqlite.specs.Tree.{Trees}
 use Rattle.sqlite_trees.specs.declared.store.Store.{Ghosts}
 use Rattle.zeb_register.specs.declared.faults.RegFault.{RegFault}
-use Rattle.zeb_register.specs.Calls.{Inside, Reading}
-use Rattle.zeb_register.specs.Clauses.{ChangesTable, InStore, IsDueRefusal, IsDueRefusalInside, IsHonest, IsHonestInside, IsReasoned, IsReasonedError, IsReasonedErrorInside, OnStore, Tells, TellsInside, TellsWhether, Writes}
+use Rattle.zeb_register.specs.Calls.{Alters, Inside, Reading}
+use Rattle.zeb_register.specs.Clauses.{ChangesTable, InStore, IsDueRefusal, IsDueRefusalInside, IsHonest, IsHonestInside, IsReasoned, IsReasonedError, IsReasonedErrorInside, OnStore, Tells, TellsInside, TellsWhether}
 
 -- ---- of a connection outside a transaction
 
@@ -48,11 +48,12 @@ module _ {S : Type 0} (store : Ghosts S) (old new : Held S) where
 
 -- ---- of a connection inside a transaction, which borrows it
 
-module _ {S : Type 0} (store : Ghosts S) (old new : MutBor (Held S)) where
-  -- a call works, and has done this where it is accepted
-  abbrev pub InsideOf : {A E : Type 0} → Result A E → (A → State → State → Type 0) → Type 0
-  InsideOf result Done = Inside (state store old.now) (state store new.now) result Done
+-- a call works, and has done this where it is accepted; the transaction borrows the same connection
+pub record InsideOf {S A E : Type 0} (store : Ghosts S) (old new : MutBor (Held S)) (result : Result A E) (Done : A → State → State → Type 0) : Type 0 where
+  pub same : new.ghost_name ≡ old.ghost_name
+  pub does : Inside (state store old.now) (state store new.now) result Done
 
+module _ {S : Type 0} (store : Ghosts S) (old new : MutBor (Held S)) where
   -- this is said of a store's tables as they were before a call
   abbrev pub InStoreOf : (Trees → Type 0) → Type 0
   InStoreOf Said = InStore (state store old.now) (state store new.now) Said
@@ -63,7 +64,7 @@ module _ {S : Type 0} (store : Ghosts S) (old new : MutBor (Held S)) where
 
   -- the transaction goes on, and one table is written so
   abbrev pub WritesOf : {A E : Type 0} → ℕ → (ℕ → Trees → Trees → Type 0) → Result A E → Type 0
-  WritesOf tree Rows result = Writes tree Rows (state store old.now) (state store new.now) result
+  WritesOf tree Rows result = InsideOf store old new result (λ _. Alters tree Rows)
 
   -- the one table is changed so by an accepted call
   abbrev pub ChangesTableOf : {A E : Type 0} → ℕ → Result A E → (A → ℕ → Trees → Trees → Type 0) → Type 0

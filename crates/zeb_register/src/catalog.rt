@@ -118,7 +118,6 @@ pub fn databases_inside<S: Alter>(
     alloc: Global,
     tx: &mut Transaction<'_, S>,
 ) -> Result<Vec<ListedDatabase>, RegFault>
-    ensures same { tx.new.conn.ghost_name ≡ tx.old.conn.ghost_name }
     ensures call { InsideOf S.Store tx.old.conn tx.new.conn result (λ _. OnlyReads) }
     ensures value { TellsInsideOf S.Store tx.old.conn tx.new.conn result
         (λ trees list. AreDatabases trees list.items) }
@@ -162,7 +161,6 @@ pub fn database_put<S: Alter>(
     name: &str,
     last: u64,
 ) -> Result<DatabaseId, RegFault>
-    ensures same { tx.new.conn.ghost_name ≡ tx.old.conn.ghost_name }
     ensures call { InsideOf S.Store tx.old.conn tx.new.conn result (λ _. GoesOn) }
     ensures put { ChangesTableOf S.Store tx.old.conn tx.new.conn databases_tree result
         (λ id. PutsDatabase id.0 name.now (pos last)) }
@@ -189,7 +187,6 @@ fn id_inside<S: Alter>(
     tx: &mut Transaction<'_, S>,
     name: &str,
 ) -> Result<Option<DatabaseId>, RegFault>
-    ensures same { tx.new.conn.ghost_name ≡ tx.old.conn.ghost_name }
     ensures call { InsideOf S.Store tx.old.conn tx.new.conn result (λ _. OnlyReads) }
     ensures value { TellsInsideOf S.Store tx.old.conn tx.new.conn result
         (λ trees. IsIdOf trees name.now) }
@@ -218,7 +215,6 @@ pub(crate) fn database_drop<S: Alter>(
     tx: &mut Transaction<'_, S>,
     db: DatabaseId,
 ) -> Result<(), Error>
-    ensures same { tx.new.conn.ghost_name ≡ tx.old.conn.ghost_name }
     ensures call { WritesOf S.Store tx.old.conn tx.new.conn databases_tree (TakesDatabase db.0)
         result }
 {

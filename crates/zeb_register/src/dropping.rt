@@ -1,6 +1,6 @@
 //! A database is taken out, in whichever format the registers are kept.
 
-ghost use Rattle.std.specs.Prelude.{◌≡◌, OnOk};
+ghost use Rattle.std.specs.Prelude.{OnOk};
 ghost use Rattle.sqlite.specs.Held.{state};
 ghost use Rattle.zeb_register.specs.Calls.{GoesOn};
 ghost use Rattle.zeb_register.specs.Connections.{InStoreOf, InsideOf};
@@ -20,7 +20,6 @@ pub fn database_drop_whole<S: Alter>(
     tx: &mut Transaction<'_, S>,
     db: DatabaseId,
 ) -> Result<(), Error>
-    ensures same { tx.new.conn.ghost_name ≡ tx.old.conn.ghost_name }
     ensures call { InsideOf S.Store tx.old.conn tx.new.conn result (λ _. GoesOn) }
     ensures taken { InStoreOf S.Store tx.old.conn tx.new.conn
         (λ trees. OnOk result
@@ -36,7 +35,6 @@ pub fn database_drop_whole<S: Alter>(
 
 /// Takes the rows of the database out of each table of the registers.
 fn registers_drop<S: Alter>(tx: &mut Transaction<'_, S>, db: DatabaseId) -> Result<(), Error>
-    ensures same { tx.new.conn.ghost_name ≡ tx.old.conn.ghost_name }
     ensures call { InsideOf S.Store tx.old.conn tx.new.conn result
         (λ _ a b. GoesOn a b × (IsStore a → DropsRegisters db.0 a b)) }
 {

@@ -55,7 +55,6 @@ pub fn record_put<S: Alter>(
     ident: &str,
     bytes: &[u8],
 ) -> Result<(), Error>
-    ensures same { tx.new.conn.ghost_name ≡ tx.old.conn.ghost_name }
     ensures call { WritesOf S.Store tx.old.conn tx.new.conn records_tree
         (Replaces (SharesRecord db.0 (pos sysno) ident.now)
         (record_row db.0 (pos sysno) ident.now bytes.now)) result }
@@ -73,7 +72,6 @@ pub fn record_take<S: Alter>(
     db: DatabaseId,
     sysno: u64,
 ) -> Result<(), Error>
-    ensures same { tx.new.conn.ghost_name ≡ tx.old.conn.ghost_name }
     ensures call { WritesOf S.Store tx.old.conn tx.new.conn records_tree
         (Loses (HasNumber db.0 (pos sysno))) result }
 {
@@ -90,7 +88,6 @@ pub fn record_of_ident<S: Alter>(
     db: DatabaseId,
     ident: &str,
 ) -> Result<Option<Elder>, RegFault>
-    ensures same { tx.new.conn.ghost_name ≡ tx.old.conn.ghost_name }
     ensures call { InsideOf S.Store tx.old.conn tx.new.conn result (λ _. OnlyReads) }
     ensures value { TellsInsideOf S.Store tx.old.conn tx.new.conn result
         (λ trees. IsElderOf trees db.0 ident.now) }
@@ -195,7 +192,6 @@ pub fn record_from_inside<S: Alter>(
     db: DatabaseId,
     start: u64,
 ) -> Result<Option<Record>, RegFault>
-    ensures same { tx.new.conn.ghost_name ≡ tx.old.conn.ghost_name }
     ensures call { InsideOf S.Store tx.old.conn tx.new.conn result (λ _. OnlyReads) }
     ensures value { TellsByNumberInside start (state S.Store tx.old.conn.now)
         (state S.Store tx.new.conn.now) result (λ trees. IsFirstFrom trees db.0 start) }

@@ -42,7 +42,6 @@ pub(crate) fn first_text(rows: &[Row]) -> Result<Option<String>, RowFault>
 
 /// Keeps a text under a name, in place of the one that was there.
 pub fn meta_put<S: Alter>(tx: &mut Transaction<'_, S>, name: &str, value: &str) -> Result<(), Error>
-    ensures same { tx.new.conn.ghost_name ≡ tx.old.conn.ghost_name }
     ensures call { WritesOf S.Store tx.old.conn tx.new.conn meta_tree
         (Replaces (IsEntryOf name.now) (entry name.now value.now)) result }
 {

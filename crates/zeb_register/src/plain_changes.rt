@@ -40,7 +40,6 @@ pub(crate) fn key_changes_plain<S: Alter>(
     key: &Key,
     changes: &[RecordChange<'_>],
 ) -> Result<(), RegFault>
-    ensures same { tx.new.conn.ghost_name ≡ tx.old.conn.ghost_name }
     ensures call { InsideOf S.Store tx.old.conn tx.new.conn result (λ _. GoesOn) }
     ensures units { ChangesKey plain_rows db.0 key.now changes.now
         (state S.Store tx.old.conn.now) (state S.Store tx.new.conn.now) result }
@@ -64,7 +63,6 @@ fn unit_change<S: Alter>(
     new: &[Place],
 ) -> Result<(), RegFault>
     requires rising { IsStrictlySortedBy place_cmp new.now }
-    ensures same { tx.new.conn.ghost_name ≡ tx.old.conn.ghost_name }
     ensures call { InsideOf S.Store tx.old.conn tx.new.conn result (λ _. GoesOn) }
     ensures units { ChangesUnit db.0 key.now sysno old.now new.now
         (state S.Store tx.old.conn.now) (state S.Store tx.new.conn.now) result }
@@ -113,7 +111,6 @@ fn holds_places<S: Alter>(
     sysno: u64,
     places: &[Place],
 ) -> Result<bool, RegFault>
-    ensures same { tx.new.conn.ghost_name ≡ tx.old.conn.ghost_name }
     ensures call { InsideOf S.Store tx.old.conn tx.new.conn result (λ _. OnlyReads) }
     ensures told { InStoreOf S.Store tx.old.conn tx.new.conn
         (λ trees. Answers (IfDamaged (¬ RowsRead trees db.0 key.now sysno places.now))
@@ -132,7 +129,6 @@ fn places_take<S: Alter>(
     key: &Key,
     sysno: u64,
 ) -> Result<(), Error>
-    ensures same { tx.new.conn.ghost_name ≡ tx.old.conn.ghost_name }
     ensures call { WritesOf S.Store tx.old.conn tx.new.conn postings_tree
         (Loses (IsPlaceIn db.0 key.now sysno)) result }
 {
@@ -151,7 +147,6 @@ fn places_put<S: Alter>(
     sysno: u64,
     places: &[Place],
 ) -> Result<(), Error>
-    ensures same { tx.new.conn.ghost_name ≡ tx.old.conn.ghost_name }
     ensures call { InsideOf S.Store tx.old.conn tx.new.conn result
         (λ _ a b. IsTrue a.is_open → GoesOn a b) }
     ensures put { InStoreOf S.Store tx.old.conn tx.new.conn
@@ -172,7 +167,6 @@ fn place_put<S: Alter>(
     sysno: u64,
     place: Place,
 ) -> Result<(), Error>
-    ensures same { tx.new.conn.ghost_name ≡ tx.old.conn.ghost_name }
     ensures call { WritesOf S.Store tx.old.conn tx.new.conn postings_tree
         (Gains (posting_columns db.0 key.now sysno place)) result }
 {

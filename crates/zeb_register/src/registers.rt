@@ -129,7 +129,6 @@ pub trait Layout {
         old: &[Place],
         new: &[Place],
     ) -> Result<(), RegFault>
-        ensures same { tx.new.conn.ghost_name ≡ tx.old.conn.ghost_name }
         ensures call { InsideOf S.Store tx.old.conn tx.new.conn result (λ _. GoesOn) }
         ensures units { ChangesKey format db.0 key.now
             (record { sysno = sysno; old = old.entry; new = new.entry } ∷ [])
@@ -160,7 +159,6 @@ pub trait Layout {
         changes: &[RecordChange<'_>],
     ) -> Result<(), RegFault>
         requires rising { NumbersRise changes.now }
-        ensures same { tx.new.conn.ghost_name ≡ tx.old.conn.ghost_name }
         ensures call { InsideOf S.Store tx.old.conn tx.new.conn result (λ _. GoesOn) }
         ensures units { ChangesKey format db.0 key.now changes.now
             (state S.Store tx.old.conn.now) (state S.Store tx.new.conn.now) result }
@@ -181,7 +179,6 @@ pub trait Layout {
         run: &[KeyChanges<'_>],
     ) -> Result<(), RegFault>
         requires rising { IsRun run.now }
-        ensures same { tx.new.conn.ghost_name ≡ tx.old.conn.ghost_name }
         ensures call { InsideOf S.Store tx.old.conn tx.new.conn result (λ _. GoesOn) }
         ensures units { ChangesKeys format db.0 run.now
             (state S.Store tx.old.conn.now) (state S.Store tx.new.conn.now) result }
@@ -202,7 +199,6 @@ pub trait Layout {
 
     /// Takes a database out, with its records and its rows in every table of the registers.
     fn database_take<S: Alter>(tx: &mut Transaction<'_, S>, db: DatabaseId) -> Result<(), Error>
-        ensures same { tx.new.conn.ghost_name ≡ tx.old.conn.ghost_name }
         ensures call { InsideOf S.Store tx.old.conn tx.new.conn result (λ _. GoesOn) }
         ensures taken { InStoreOf S.Store tx.old.conn tx.new.conn
             (λ trees. OnOk result

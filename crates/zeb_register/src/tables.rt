@@ -57,7 +57,6 @@ fn create_text(table: StoreTable) -> &'static str
 
 /// Makes the table where it is absent.
 fn table_make<S: Alter>(tx: &mut Transaction<'_, S>, table: StoreTable) -> Result<(), Error>
-    ensures same { tx.new.conn.ghost_name ≡ tx.old.conn.ghost_name }
     ensures made { HasCleanDisk (state S.Store tx.new.conn.now)
         → IsTrue (state S.Store tx.old.conn.now).in_transaction
         → HasEmpty (schema_before table) (state S.Store tx.old.conn.now)
@@ -81,7 +80,6 @@ fn tables_make<S: Alter>(
 ) -> Result<(), Error>
     requires follow { (schema_after first ≡ schema_before second)
         × (schema_after second ≡ schema_before third) }
-    ensures same { tx.new.conn.ghost_name ≡ tx.old.conn.ghost_name }
     ensures made { HasCleanDisk (state S.Store tx.new.conn.now)
         → IsTrue (state S.Store tx.old.conn.now).in_transaction
         → HasEmpty (schema_before first) (state S.Store tx.old.conn.now)
@@ -101,7 +99,6 @@ fn tables_make<S: Alter>(
 ///
 /// A table or a view that has one of these names is taken for it, whatever its columns are. It is refused where an index has one.
 pub fn make_tables<S: Alter>(tx: &mut Transaction<'_, S>) -> Result<(), Error>
-    ensures same { tx.new.conn.ghost_name ≡ tx.old.conn.ghost_name }
     ensures made { DoneUnder no_schema (state S.Store tx.old.conn.now)
         (state S.Store tx.new.conn.now) result (λ _ b. IsEmptyStore b) }
     ensures there { DoneUnder store_schema (state S.Store tx.old.conn.now)

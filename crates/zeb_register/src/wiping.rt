@@ -1,6 +1,5 @@
 //! All rows are taken out, of each table or of those of the registers.
 
-ghost use Rattle.std.specs.Prelude.{◌≡◌};
 ghost use Rattle.zeb_register.specs.Store.{IsStore, IsEmptyStore, LacksLists, LacksRegisters, KeepsLists};
 ghost use Rattle.zeb_register.specs.Calls.{GoesOn};
 ghost use Rattle.zeb_register.specs.Connections.{InsideOf};
@@ -11,7 +10,6 @@ use sqlite::{Alter, Error, Transaction};
 
 /// Takes every row out of every table.
 pub fn wipe<S: Alter>(tx: &mut Transaction<'_, S>) -> Result<(), Error>
-    ensures same { tx.new.conn.ghost_name ≡ tx.old.conn.ghost_name }
     ensures call { InsideOf S.Store tx.old.conn tx.new.conn result
         (λ _ a b. GoesOn a b × (IsStore a → IsEmptyStore b)) }
 {
@@ -21,7 +19,6 @@ pub fn wipe<S: Alter>(tx: &mut Transaction<'_, S>) -> Result<(), Error>
 
 /// Takes the rows of the lists out.
 fn lists_wipe<S: Alter>(tx: &mut Transaction<'_, S>) -> Result<(), Error>
-    ensures same { tx.new.conn.ghost_name ≡ tx.old.conn.ghost_name }
     ensures call { InsideOf S.Store tx.old.conn tx.new.conn result
         (λ _ a b. GoesOn a b × (IsStore a → IsStore b × LacksLists b.now.trees)) }
 {
@@ -32,7 +29,6 @@ fn lists_wipe<S: Alter>(tx: &mut Transaction<'_, S>) -> Result<(), Error>
 
 /// Takes every row out of the tables of the registers. What is kept of texts, databases and records stays.
 pub fn registers_wipe<S: Alter>(tx: &mut Transaction<'_, S>) -> Result<(), Error>
-    ensures same { tx.new.conn.ghost_name ≡ tx.old.conn.ghost_name }
     ensures call { InsideOf S.Store tx.old.conn tx.new.conn result
         (λ _ a b. GoesOn a b × (IsStore a → IsStore b × LacksRegisters b.now.trees
         × KeepsLists a.now.trees b.now.trees)) }

@@ -32,7 +32,6 @@ pub(crate) fn blocks_add<S: Alter>(
     tx: &mut Transaction<'_, S>,
     values: &[ValueRef<'_>],
 ) -> Result<usize, Error>
-    ensures same { tx.new.conn.ghost_name ≡ tx.old.conn.ghost_name }
     ensures call { InsideOf S.Store tx.old.conn tx.new.conn result (λ _. GoesOn) }
     ensures put { (db : _) (blocks : List _)
         → AreValuesOf (new_block_row db) blocks (bound values.now)
@@ -86,7 +85,6 @@ pub(crate) fn counts_add<S: Alter>(
     tx: &mut Transaction<'_, S>,
     values: &[ValueRef<'_>],
 ) -> Result<usize, Error>
-    ensures same { tx.new.conn.ghost_name ≡ tx.old.conn.ghost_name }
     ensures call { InsideOf S.Store tx.old.conn tx.new.conn result (λ _. GoesOn) }
     ensures put { (db : _) (counts : List _)
         → AreValuesOf (new_count_row db) counts (bound values.now)

@@ -24,7 +24,6 @@ pub(crate) fn block_bytes<S: Alter>(
     at: KeyOf<'_>,
     number: i64,
 ) -> Result<Vec<Row>, Error>
-    ensures same { tx.new.conn.ghost_name ≡ tx.old.conn.ghost_name }
     ensures call { InsideOf S.Store tx.old.conn tx.new.conn result (λ rows a b. ListsInside
         (IsRest blocks_tree (numbered_columns at.entry number)) a b rows.items) }
 {
@@ -42,7 +41,6 @@ pub(crate) fn dict_records<S: Alter>(
     tx: &mut Transaction<'_, S>,
     at: KeyOf<'_>,
 ) -> Result<Vec<Row>, Error>
-    ensures same { tx.new.conn.ghost_name ≡ tx.old.conn.ghost_name }
     ensures call { InsideOf S.Store tx.old.conn tx.new.conn result (λ rows a b. ListsInside
         (IsRest dict_tree (key_columns at.entry)) a b rows.items) }
     ensures text { IsUtf8 at.entry.key.now.term }
@@ -61,7 +59,6 @@ pub(crate) fn dict_from<S: Alter>(
     tx: &mut Transaction<'_, S>,
     at: KeyOf<'_>,
 ) -> Result<Vec<Row>, Error>
-    ensures same { tx.new.conn.ghost_name ≡ tx.old.conn.ghost_name }
     ensures call { InsideOf S.Store tx.old.conn tx.new.conn result (λ rows a b. ReadsInside
         (λ trees rows. (all : List _) × IsListOf
         (IsRestFrom dict_tree (register_front at.entry.db.0 at.entry.key.now.index
@@ -82,7 +79,6 @@ pub(crate) fn block_add<S: Alter>(
     number: i64,
     bytes: &[u8],
 ) -> Result<usize, Error>
-    ensures same { tx.new.conn.ghost_name ≡ tx.old.conn.ghost_name }
     ensures call { WritesOf S.Store tx.old.conn tx.new.conn blocks_tree
         (Gains (numbered_columns at.entry number ++ Blob bytes.now ∷ [])) result }
     ensures alone { InStoreOf S.Store tx.old.conn tx.new.conn (λ trees. OnOk result
@@ -105,7 +101,6 @@ pub(crate) fn block_set<S: Alter>(
     number: i64,
     bytes: &[u8],
 ) -> Result<usize, Error>
-    ensures same { tx.new.conn.ghost_name ≡ tx.old.conn.ghost_name }
     ensures call { WritesOf S.Store tx.old.conn tx.new.conn blocks_tree
         (Renews (IsOfNumbered at.entry number) (numbered_columns at.entry number ++ Blob
         bytes.now ∷ [])) result }
@@ -124,7 +119,6 @@ pub(crate) fn block_remove<S: Alter>(
     at: KeyOf<'_>,
     number: i64,
 ) -> Result<usize, Error>
-    ensures same { tx.new.conn.ghost_name ≡ tx.old.conn.ghost_name }
     ensures call { WritesOf S.Store tx.old.conn tx.new.conn blocks_tree
         (Loses (IsOfNumbered at.entry number)) result }
 {
@@ -143,7 +137,6 @@ pub(crate) fn dict_add<S: Alter>(
     at: KeyOf<'_>,
     records: i64,
 ) -> Result<usize, Error>
-    ensures same { tx.new.conn.ghost_name ≡ tx.old.conn.ghost_name }
     ensures call { WritesOf S.Store tx.old.conn tx.new.conn dict_tree
         (Gains (key_columns at.entry ++ Int records ∷ [])) result }
 {
@@ -161,7 +154,6 @@ pub(crate) fn dict_set<S: Alter>(
     at: KeyOf<'_>,
     records: i64,
 ) -> Result<usize, Error>
-    ensures same { tx.new.conn.ghost_name ≡ tx.old.conn.ghost_name }
     ensures call { WritesOf S.Store tx.old.conn tx.new.conn dict_tree
         (Renews (IsOfKey at.entry) (key_columns at.entry ++ Int records ∷ [])) result }
 {
@@ -178,7 +170,6 @@ pub(crate) fn dict_remove<S: Alter>(
     tx: &mut Transaction<'_, S>,
     at: KeyOf<'_>,
 ) -> Result<usize, Error>
-    ensures same { tx.new.conn.ghost_name ≡ tx.old.conn.ghost_name }
     ensures call { WritesOf S.Store tx.old.conn tx.new.conn dict_tree (Loses (IsOfKey at.entry))
         result }
 {

@@ -1,6 +1,5 @@
 //! Statements on the table `databases`.
 
-ghost use Rattle.std.specs.Prelude.{◌≡◌};
 ghost use Rattle.zeb_register.specs.Store.{databases_tree};
 ghost use Rattle.zeb_register.specs.PrivateRowStatements.{AddsDatabase, SetsLast, IsDatabaseRow, IsListedRow, Lists, ListsInside};
 ghost use Rattle.zeb_register.specs.Calls.{Alters};
@@ -33,7 +32,6 @@ pub(crate) fn database_rows_inside<S: Alter>(
     tx: &mut Transaction<'_, S>,
     name: &str,
 ) -> Result<Vec<Row>, Error>
-    ensures same { tx.new.conn.ghost_name ≡ tx.old.conn.ghost_name }
     ensures call { InsideOf S.Store tx.old.conn tx.new.conn result
         (λ rows a b. ListsInside (λ trees. IsDatabaseRow trees name.now) a b rows.items) }
 {
@@ -50,7 +48,6 @@ pub(crate) fn listed_rows<S: Alter>(conn: &mut Connection<S>) -> Result<Vec<Row>
 }
 
 pub(crate) fn listed_rows_inside<S: Alter>(tx: &mut Transaction<'_, S>) -> Result<Vec<Row>, Error>
-    ensures same { tx.new.conn.ghost_name ≡ tx.old.conn.ghost_name }
     ensures call { InsideOf S.Store tx.old.conn tx.new.conn result
         (λ rows a b. ListsInside IsListedRow a b rows.items) }
     ensures err { IsReasonedErrorInsideOf S.Store tx.old.conn tx.new.conn result }
@@ -63,7 +60,6 @@ pub(crate) fn database_add<S: Alter>(
     name: &str,
     last: i64,
 ) -> Result<(), Error>
-    ensures same { tx.new.conn.ghost_name ≡ tx.old.conn.ghost_name }
     ensures call { InsideOf S.Store tx.old.conn tx.new.conn result
         (λ _ a b. Alters databases_tree (AddsDatabase b.last_rowid name.now last) a b) }
 {
@@ -75,7 +71,6 @@ pub(crate) fn last_set<S: Alter>(
     id: i64,
     last: i64,
 ) -> Result<(), Error>
-    ensures same { tx.new.conn.ghost_name ≡ tx.old.conn.ghost_name }
     ensures call { WritesOf S.Store tx.old.conn tx.new.conn databases_tree (SetsLast id last)
         result }
 {

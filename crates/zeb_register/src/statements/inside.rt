@@ -17,7 +17,6 @@ use std::alloc::Global;
 
 /// Reads nothing, and gives the allocator by which it was read. It is refused where the connection is closed.
 pub fn nothing_inside<S: Alter>(tx: &mut Transaction<'_, S>) -> Result<Global, Error>
-    ensures same { tx.new.conn.ghost_name ≡ tx.old.conn.ghost_name }
     ensures call { InsideOf S.Store tx.old.conn tx.new.conn result (λ _. OnlyReads) }
     ensures err { IsReasonedErrorInsideOf S.Store tx.old.conn tx.new.conn result }
 {
@@ -31,7 +30,6 @@ pub(crate) fn rows_from_inside<S: Alter>(
     db: i64,
     start: i64,
 ) -> Result<Vec<Row>, Error>
-    ensures same { tx.new.conn.ghost_name ≡ tx.old.conn.ghost_name }
     ensures call { InsideOf S.Store tx.old.conn tx.new.conn result
         (λ rows a b. ReadsInside (λ trees rows. (all : List _)
         × IsListOf (IsRestAtLeast records_tree (Int db ∷ []) start trees) all × (rows ≡ take 1 all))

@@ -1,6 +1,6 @@
 //! Statements on the table `postings`: a row for each posting.
 
-ghost use Rattle.std.specs.Prelude.{IsUtf8, ◌≡◌, [], ◌∷◌, ◌++◌};
+ghost use Rattle.std.specs.Prelude.{IsUtf8, [], ◌∷◌, ◌++◌};
 ghost use Rattle.sqlite.specs.State.{IsUnchanged};
 ghost use Rattle.sqlite.specs.declared.types.Value.TheVariants.{Text};
 ghost use Rattle.zeb_register.specs.PrivateRowStatements.{Lists, ListsInside};
@@ -61,7 +61,6 @@ pub(crate) fn place_rows<S: Alter>(
     at: KeyOf<'_>,
     number: i64,
 ) -> Result<Vec<Row>, Error>
-    ensures same { tx.new.conn.ghost_name ≡ tx.old.conn.ghost_name }
     ensures call { InsideOf S.Store tx.old.conn tx.new.conn result
         (λ rows a b. ListsInside (IsRest postings_tree (numbered_columns at.entry number)) a b
         rows.items) }

@@ -27,7 +27,6 @@ pub(crate) fn elder_rows<S: Alter>(
     db: i64,
     ident: &str,
 ) -> Result<Vec<Row>, Error>
-    ensures same { tx.new.conn.ghost_name ≡ tx.old.conn.ghost_name }
     ensures call { InsideOf S.Store tx.old.conn tx.new.conn result
         (λ rows a b. ListsInside (IsElderRow db ident.now) a b rows.items) }
     ensures err { IsReasonedErrorInsideOf S.Store tx.old.conn tx.new.conn result }

@@ -63,7 +63,6 @@ pub(crate) fn table_wipe<S: Alter>(
     tx: &mut Transaction<'_, S>,
     table: StoreTable,
 ) -> Result<(), Error>
-    ensures same { tx.new.conn.ghost_name ≡ tx.old.conn.ghost_name }
     ensures call { WritesOf S.Store tx.old.conn tx.new.conn (tree_at table) Empties result }
 {
     write(tx, wipe_text(table), &[])
@@ -75,7 +74,6 @@ pub(crate) fn table_clear<S: Alter>(
     table: Table,
     db: DatabaseId,
 ) -> Result<(), Error>
-    ensures same { tx.new.conn.ghost_name ≡ tx.old.conn.ghost_name }
     ensures call { WritesOf S.Store tx.old.conn tx.new.conn (tree_of table)
         (Loses (IsOfDatabase db.0)) result }
 {

@@ -41,17 +41,17 @@ loop-nth-preserved g c =
           (read_on.0, read_on.1 ∙ so_far.1);
       crash = search rules;
       stays = λ clean mode.
-          let was : HasCleanDisk (state g.S.Store c.loop-nth.tx.conn.now) = omega (arith, c.take_record.ensures.inside.crash.clean) in
+          let was : HasCleanDisk (state g.S.Store c.loop-nth.tx.conn.now) = omega (arith, c.take_record.ensures.inside.does.crash.clean) in
           let so_far = c.loop-nth.invariant.stays was mode in
-          continues_then _ _ _ so_far (c.in_ok-take_record.ensures.inside.stays clean so_far.mode);
+          continues_then _ _ _ so_far (c.in_ok-take_record.ensures.inside.does.stays clean so_far.mode);
       steps = advances_then _ _ _ _ _ _ c.loop-nth.invariant.steps c.take_record.ensures.steps;
       counted = omega (arith, c.loop-nth.invariant.counted, c.in_ok-take_record.ensures.counted);
       store = λ clean mode store.
-          let was : HasCleanDisk (state g.S.Store c.loop-nth.tx.conn.now) = omega (arith, c.take_record.ensures.inside.crash.clean) in
+          let was : HasCleanDisk (state g.S.Store c.loop-nth.tx.conn.now) = omega (arith, c.take_record.ensures.inside.does.crash.clean) in
           let takes = c.in_ok-take_record.ensures.takes clean (c.loop-nth.invariant.stays was mode).mode (c.loop-nth.invariant.store was mode store) in
           store_of (state g.S.Store c.take_record.new.tx.conn.now) takes.2.store;
       takes = λ clean mode store failed end result goes.
-          let was : HasCleanDisk (state g.S.Store c.loop-nth.tx.conn.now) = omega (arith, c.take_record.ensures.inside.crash.clean) in
+          let was : HasCleanDisk (state g.S.Store c.loop-nth.tx.conn.now) = omega (arith, c.take_record.ensures.inside.does.crash.clean) in
           let took = subst₂ (λ i bytes. TakesRecord c.args.setting.now g.L.Layout.format g.L.Layout.row_work i c.args.file c.loop-nth.nth bytes now next (Ok tt)) (ap (λ d. d.0) c.loop-nth.invariant.steps.database) c.bytes.ensures
           (c.in_ok-take_record.ensures.takes clean (c.loop-nth.invariant.stays was mode).mode (c.loop-nth.invariant.store was mode store)) in
           c.loop-nth.invariant.takes was mode store failed end result
@@ -93,7 +93,7 @@ returns-in_err-take_record-clause-takes g c clean mode store =
     let first = at (state g.S.Store c.args.tx.now.conn.now) c.args.pending.now c.args.fold.now in
     let now = at (state g.S.Store c.loop-nth.tx.conn.now) c.loop-nth.pending c.loop-nth.fold in
     let next = at (state g.S.Store c.take_record.new.tx.conn.now) c.take_record.new.pending c.take_record.new.fold in
-    let was : HasCleanDisk (state g.S.Store c.loop-nth.tx.conn.now) = omega (arith, c.take_record.ensures.inside.crash.clean) in
+    let was : HasCleanDisk (state g.S.Store c.loop-nth.tx.conn.now) = omega (arith, c.take_record.ensures.inside.does.crash.clean) in
     let took = subst₂ (λ i bytes. TakesRecord c.args.setting.now g.L.Layout.format g.L.Layout.row_work i c.args.file c.loop-nth.nth bytes now next (Err refusal)) (ap (λ d. d.0) c.loop-nth.invariant.steps.database) c.bytes.ensures
     (c.in_err-take_record.ensures.takes clean (c.loop-nth.invariant.stays was mode).mode (c.loop-nth.invariant.store was mode store)) in
     subst (TakesReader c.args.setting.now g.L.Layout.format g.L.Layout.row_work c.args.fold.now.progress.database.0 failed (g.R.Source.remaining c.args.reader.now) c.args.file 1 first next) (sym (ap (as_refusal fold_refusal) result))

@@ -46,22 +46,22 @@ loop-index-preserved g c =
       able = able_on g at_here;
       crash = search rules;
       stays = λ clean mode.
-          let was : HasCleanDisk (state g.S.Store c.loop-index.tx.conn.now) = omega (arith, c.fold_file.ensures.inside.crash.clean) in
+          let was : HasCleanDisk (state g.S.Store c.loop-index.tx.conn.now) = omega (arith, c.fold_file.ensures.inside.does.crash.clean) in
           let so_far = c.loop-index.invariant.stays was mode in
-          continues_then _ _ _ so_far (c.in_ok-fold_file.ensures.inside.stays clean so_far.mode);
+          continues_then _ _ _ so_far (c.in_ok-fold_file.ensures.inside.does.stays clean so_far.mode);
       steps = advances_then _ _ _ _ _ _ c.loop-index.invariant.steps c.fold_file.ensures.steps;
       unread = λ j d behind.
           let other : j ≢ index = omega (arith, behind) in
           get_or-set_other readers index j _ d other ∙ c.loop-index.invariant.unread j d (omega (arith, behind));
       fine = fine_more g.R.Source.has_failed readers index c.loop-index.invariant.fine c.fold_file.new.reader (omega (arith, c.loop-index-test.true, c.loop-index.auto.readers)) fine;
       store = λ clean mode store.
-          let was : HasCleanDisk (state g.S.Store c.loop-index.tx.conn.now) = omega (arith, c.fold_file.ensures.inside.crash.clean) in
+          let was : HasCleanDisk (state g.S.Store c.loop-index.tx.conn.now) = omega (arith, c.fold_file.ensures.inside.does.crash.clean) in
           let mid = c.loop-index.invariant.store was mode store in
           let took = c.in_ok-fold_file.ensures.takes clean (c.loop-index.invariant.stays was mode).mode mid in
           store_of (state g.S.Store c.fold_file.new.tx.conn.now) (rest_stores c.args.setting.now g.L.Layout.format g.L.Layout.row_work c.loop-index.fold.progress.database.0 (index + 1) took.0.slices took.0.fault 1 now next
           (stores (state g.S.Store c.loop-index.tx.conn.now) mid) took.2);
       takes = λ clean mode store failed end result goes.
-          let was : HasCleanDisk (state g.S.Store c.loop-index.tx.conn.now) = omega (arith, c.fold_file.ensures.inside.crash.clean) in
+          let was : HasCleanDisk (state g.S.Store c.loop-index.tx.conn.now) = omega (arith, c.fold_file.ensures.inside.does.crash.clean) in
           let took = subst₂ (λ i f. TakesReader c.args.setting.now g.L.Layout.format g.L.Layout.row_work i f (g.R.Source.remaining (get_or readers index c.index-readers-index.result)) (index + 1) 1 now next (Ok tt))
           (ap (λ d. d.0) c.loop-index.invariant.steps.database) fine
           (c.in_ok-fold_file.ensures.takes clean (c.loop-index.invariant.stays was mode).mode (c.loop-index.invariant.store was mode store)) in
@@ -95,7 +95,7 @@ returns-in_err-fold_file-clause-takes g c clean mode store =
     let first = at (state g.S.Store c.args.tx.now.conn.now) c.args.pending.now c.args.fold.now in
     let now = at (state g.S.Store c.loop-index.tx.conn.now) c.loop-index.pending c.loop-index.fold in
     let next = at (state g.S.Store c.fold_file.new.tx.conn.now) c.fold_file.new.pending c.fold_file.new.fold in
-    let was : HasCleanDisk (state g.S.Store c.loop-index.tx.conn.now) = omega (arith, c.fold_file.ensures.inside.crash.clean) in
+    let was : HasCleanDisk (state g.S.Store c.loop-index.tx.conn.now) = omega (arith, c.fold_file.ensures.inside.does.crash.clean) in
     let took = subst (λ i. TakesReader setting g.L.Layout.format g.L.Layout.row_work i failed (g.R.Source.remaining (get_or readers index c.index-readers-index.result)) (index + 1) 1 now next (Err refusal))
     (ap (λ d. d.0) c.loop-index.invariant.steps.database)
     (c.in_err-fold_file.ensures.takes clean (c.loop-index.invariant.stays was mode).mode (c.loop-index.invariant.store was mode store)) in

@@ -10,11 +10,14 @@ use Rattle.zeb_change.proofs.files.take_files.Goals as goal
 
 pub returns-clause-inside : goal.returns-clause-inside
 returns-clause-inside g c = record {
-  stays = λ clean mode.
-      let was : HasCleanDisk (state g.S.Store c.fold_readers.new.tx.conn.now) = omega (arith, c.write_pending.ensures.call.crash.clean) in
-      let stays = c.in_ok-fold_readers.ensures.inside.stays was mode in
-      continues_then _ _ _ stays (c.in_ok-write_pending.ensures.call.stays clean stays.mode);
-  crash = search rules;
+  same = search rules;
+  does = record {
+    stays = λ clean mode.
+        let was : HasCleanDisk (state g.S.Store c.fold_readers.new.tx.conn.now) = omega (arith, c.write_pending.ensures.call.does.crash.clean) in
+        let stays = c.in_ok-fold_readers.ensures.inside.does.stays was mode in
+        continues_then _ _ _ stays (c.in_ok-write_pending.ensures.call.does.stays clean stays.mode);
+    crash = search rules;
+  };
 }
 
 pub returns-in_err-write_pending-clause-steps : goal.returns-in_err-write_pending-clause-steps
@@ -69,10 +72,10 @@ taken : (g : given.Over) (c : After-write_pending g) → HasCleanDisk (state g.S
     (at (state g.S.Store c.args.tx.now.conn.now) c.args.pending.now c.args.fold.now) (at (state g.S.Store c.fold_readers.new.tx.conn.now) c.fold_readers.new.pending c.fold_readers.new.fold)) (Ok tt)
     × IsTrue (state g.S.Store c.fold_readers.new.tx.conn.now).in_transaction × IsStore (state g.S.Store c.fold_readers.new.tx.conn.now)
 taken g c clean mode store =
-    let was : HasCleanDisk (state g.S.Store c.fold_readers.new.tx.conn.now) = omega (arith, c.write_pending.ensures.call.crash.clean) in
+    let was : HasCleanDisk (state g.S.Store c.fold_readers.new.tx.conn.now) = omega (arith, c.write_pending.ensures.call.does.crash.clean) in
     let takes = c.in_ok-fold_readers.ensures.takes was mode store in (
       takes,
-      (c.in_ok-fold_readers.ensures.inside.stays was mode).mode,
+      (c.in_ok-fold_readers.ensures.inside.does.stays was mode).mode,
       store_of (state g.S.Store c.fold_readers.new.tx.conn.now) (files_stores c.args.setting.now g.L.Layout.format g.L.Layout.row_work c.args.fold.now.progress.database.0 takes.0 1
           (at (state g.S.Store c.args.tx.now.conn.now) c.args.pending.now c.args.fold.now) (at (state g.S.Store c.fold_readers.new.tx.conn.now) c.fold_readers.new.pending c.fold_readers.new.fold)
           (stores (state g.S.Store c.args.tx.now.conn.now) store) takes.2),
@@ -87,7 +90,7 @@ returns-in_err-write_pending-clause-changes g c clean mode store =
     let mid = at (state g.S.Store c.fold_readers.new.tx.conn.now) c.fold_readers.new.pending c.fold_readers.new.fold in
     let new = at (state g.S.Store c.write_pending.new.tx.conn.now) c.write_pending.new.pending (worked c.fold_readers.new.fold c.write_pending.new.work) in
     let takes = taken g (goal.at.returns-in_err-write_pending-clause-changes g c).After-write_pending clean mode store in
-    let does = at_id (ap (λ d. d.0) c.fold_readers.ensures.steps.database) c.in_err-write_pending.ensures.call in (
+    let does = at_id (ap (λ d. d.0) c.fold_readers.ensures.steps.database) c.in_err-write_pending.ensures.call.does in (
       takes.0.0,
       λ _. takes.0.1 (inr refl),
       subst (λ r. ChangesFiles c.args.setting.now g.L.Layout.format g.L.Layout.row_work db takes.0.0 first new r) (sym told) (
@@ -103,7 +106,7 @@ returns-clause-changes g c clean mode store =
     let new = state g.S.Store c.write_pending.new.tx.conn.now in
     let takes = taken g (goal.at.returns-clause-changes g c).After-write_pending clean mode store in
     let same : c.fold_readers.new.fold.progress.database.0 ≡ c.args.fold.now.progress.database.0 = ap (λ d. d.0) c.fold_readers.ensures.steps.database in
-    let does = at_id same c.in_ok-write_pending.ensures.call in (
+    let does = at_id same c.in_ok-write_pending.ensures.call.does in (
       takes.0.0,
       λ _. takes.0.1 (inr refl),
       (

@@ -11,11 +11,14 @@ use Rattle.zeb_change.proofs.files.take_record.Goals as goal
 
 pub returns-clause-inside : goal.returns-clause-inside
 returns-clause-inside g c = record {
-  stays = λ clean mode.
-      let was : HasCleanDisk (state g.S.Store c.note_record.new.tx.conn.now) = omega (arith, c.write_where_full.ensures.call.crash.clean) in
-      let stays = c.in_ok-note_record.ensures.inside.stays was mode in
-      continues_then _ _ _ stays (c.in_ok-write_where_full.ensures.call.stays clean stays.mode);
-  crash = search rules;
+  same = search rules;
+  does = record {
+    stays = λ clean mode.
+        let was : HasCleanDisk (state g.S.Store c.note_record.new.tx.conn.now) = omega (arith, c.write_where_full.ensures.call.does.crash.clean) in
+        let stays = c.in_ok-note_record.ensures.inside.does.stays was mode in
+        continues_then _ _ _ stays (c.in_ok-write_where_full.ensures.call.does.stays clean stays.mode);
+    crash = search rules;
+  };
 }
 
 -- ---- how far it goes
@@ -45,10 +48,10 @@ noted : (g : given.Over) (c : After-write_where_full g) → HasCleanDisk (state 
     (at (state g.S.Store c.args.tx.now.conn.now) c.args.pending.now c.args.fold.now) (at (state g.S.Store c.note_record.new.tx.conn.now) c.note_record.new.pending c.note_record.new.fold) (Ok tt)
     × IsTrue (state g.S.Store c.note_record.new.tx.conn.now).in_transaction × IsStore (state g.S.Store c.note_record.new.tx.conn.now)
 noted g c clean mode store =
-    let was : HasCleanDisk (state g.S.Store c.note_record.new.tx.conn.now) = omega (arith, c.write_where_full.ensures.call.crash.clean) in
+    let was : HasCleanDisk (state g.S.Store c.note_record.new.tx.conn.now) = omega (arith, c.write_where_full.ensures.call.does.crash.clean) in
     let folds = c.in_ok-note_record.ensures.folds was mode store in (
       folds,
-      (c.in_ok-note_record.ensures.inside.stays was mode).mode,
+      (c.in_ok-note_record.ensures.inside.does.stays was mode).mode,
       store_of (state g.S.Store c.note_record.new.tx.conn.now) (folded_stores c.args.setting.now c.args.fold.now.progress.database.0 c.args.incoming.file c.args.incoming.nth c.args.incoming.bytes.now
           (at (state g.S.Store c.args.tx.now.conn.now) c.args.pending.now c.args.fold.now) (at (state g.S.Store c.note_record.new.tx.conn.now) c.note_record.new.pending c.note_record.new.fold)
           (stores (state g.S.Store c.args.tx.now.conn.now) store) folds),
@@ -63,7 +66,7 @@ returns-in_err-write_where_full-clause-takes g c clean mode store =
     let mid = at (state g.S.Store c.note_record.new.tx.conn.now) c.note_record.new.pending c.note_record.new.fold in
     let new = at (state g.S.Store c.write_where_full.new.tx.conn.now) c.write_where_full.new.pending (worked c.note_record.new.fold c.write_where_full.new.work) in
     let folds = noted g (goal.at.returns-in_err-write_where_full-clause-takes g c).After-write_where_full clean mode store in
-    let does = at_id (ap (λ d. d.0) c.note_record.ensures.steps.database) c.in_err-write_where_full.ensures.call in
+    let does = at_id (ap (λ d. d.0) c.note_record.ensures.steps.database) c.in_err-write_where_full.ensures.call.does in
     write_failed g.L.Layout.format g.L.Layout.row_work db (FoldsRecord c.args.setting.now db c.args.incoming.file c.args.incoming.nth c.args.incoming.bytes.now) first mid new folds.0
     f (λ is. does.honest clean folds.1 folds.2 (ap Err is)) (as_refusal take_refusal c.from_residual-in_err-write_where_full.result) (ap (as_refusal take_refusal) told)
 
@@ -73,7 +76,7 @@ returns-clause-takes g c clean mode store =
     let new = state g.S.Store c.write_where_full.new.tx.conn.now in
     let folds = noted g (goal.at.returns-clause-takes g c).After-write_where_full clean mode store in
     let same : c.note_record.new.fold.progress.database.0 ≡ c.args.fold.now.progress.database.0 = ap (λ d. d.0) c.note_record.ensures.steps.database in
-    let does = at_id same c.in_ok-write_where_full.ensures.call in (
+    let does = at_id same c.in_ok-write_where_full.ensures.call.does in (
       at mid c.note_record.new.pending c.note_record.new.fold,
       folds.0,
       settled_at g.L.Layout.format g.L.Layout.row_work c.args.fold.now.progress.database.0 mid new c.note_record.new.pending c.write_where_full.new.pending c.note_record.new.fold c.write_where_full.new.work

@@ -23,8 +23,8 @@ done g c clean mode store result told =
     let old = state g.S.Store c.args.tx.now.conn.now in
     let mid = state g.S.Store c.record_of_ident.new.tx.conn.now in
     let new = point (state g.S.Store c.turn_record.new.tx.conn.now) c.turn_record.new.pending c.turn_record.new.progress.last in
-    let was : HasCleanDisk mid = omega (arith, c.turn_record.ensures.inside.crash.clean) in
-    let look = c.in_ok-elder.ensures.call.ok was mode in
+    let was : HasCleanDisk mid = omega (arith, c.turn_record.ensures.inside.does.crash.clean) in
+    let look = c.in_ok-elder.ensures.call.does.ok was mode in
     let sound : IsSound c.args.setting.now.profile.now c.as_str-ident.result.now c.args.incoming.bytes.now =
     record { whole = c.in_ok-marc.ensures.reads.0.sound; named = c.in_ok-marc.ensures.reads.1 ∙ ap Ok (sym c.as_str-ident.ensures.value); text = c.as_str-ident.utf8 } in
     subst (λ (r : Result Fate TurnFault). ChangesRecord c.args.setting.now c.args.progress.now.database.0 c.args.incoming.file c.args.incoming.nth c.args.incoming.bytes.now

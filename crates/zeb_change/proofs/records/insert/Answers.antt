@@ -10,7 +10,7 @@ returns-clause-inserts g c clean mode store =
       c.requires.free,
       refl,
       record {
-        rows = wrote _ _ _ store (c.in_ok-record_put.ensures.call.ok clean mode);
+        rows = wrote _ _ _ store (c.in_ok-record_put.ensures.call.does.ok clean mode);
         noted = record { were = []; are = c.deref.result.now; had = refl; has = are; keys = c.in_ok-note_keys.ensures none_rise are.rising };
       },
     )

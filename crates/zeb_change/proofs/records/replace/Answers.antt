@@ -18,7 +18,7 @@ returns-clause-supplants g c clean mode store =
       refl,
       c.in_ok-old.ensures.read.0,
       record {
-        rows = wrote _ _ _ store (c.in_ok-record_put.ensures.call.ok clean mode);
+        rows = wrote _ _ _ store (c.in_ok-record_put.ensures.call.does.ok clean mode);
         noted = record { were = c.deref.result.now; are = c.deref-2.result.now; had = was; has = are; keys = c.in_ok-note_keys.ensures was.rising are.rising };
       },
     )

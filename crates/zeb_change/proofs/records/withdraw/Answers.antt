@@ -16,7 +16,7 @@ returns-clause-withdraws g c clean mode store =
       refl,
       c.in_ok-old.ensures.read.0,
       record {
-        rows = wrote _ _ _ store (c.in_ok-record_take.ensures.call.ok clean mode);
+        rows = wrote _ _ _ store (c.in_ok-record_take.ensures.call.does.ok clean mode);
         noted = record { were = c.deref.result.now; are = []; had = was; has = refl; keys = c.in_ok-note_keys.ensures was.rising none_rise };
       },
     )

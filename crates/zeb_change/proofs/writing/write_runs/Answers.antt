@@ -49,21 +49,21 @@ loop-taken-preserved g c =
     let from = subst (AllZip IsTakenFrom out.entries) (sym c.deref.ensures.value) out.each in
     record {
       same = search rules;
-      crash = quiet_then first mid last so_far.crash c.write_run.ensures.call.crash;
+      crash = quiet_then first mid last so_far.crash c.write_run.ensures.call.does.crash;
       stays = λ clean mode.
-          let was : HasCleanDisk mid = omega (arith, c.write_run.ensures.call.crash.clean) in
+          let was : HasCleanDisk mid = omega (arith, c.write_run.ensures.call.does.crash.clean) in
           let stays = so_far.stays was mode in
-          continues_then first mid last stays (goes_on mid last (c.in_ok-write_run.ensures.call.ok clean stays.mode));
+          continues_then first mid last stays (goes_on mid last (c.in_ok-write_run.ensures.call.does.ok clean stays.mode));
       store = λ clean mode store.
-          let was : HasCleanDisk mid = omega (arith, c.write_run.ensures.call.crash.clean) in
+          let was : HasCleanDisk mid = omega (arith, c.write_run.ensures.call.does.crash.clean) in
           (c.in_ok-write_run.ensures.rows out.entries from clean (so_far.stays was mode).mode (so_far.store was mode store)).0;
       leads = λ clean mode store end result writes.
-          let was : HasCleanDisk mid = omega (arith, c.write_run.ensures.call.crash.clean) in
+          let was : HasCleanDisk mid = omega (arith, c.write_run.ensures.call.does.crash.clean) in
           let put = (c.in_ok-write_run.ensures.rows out.entries from clean (so_far.stays was mode).mode (so_far.store was mode store)).1 in
           so_far.leads was mode store end result (subst (λ (es : List (Key × KeyNotes)). WritesNotes format c.args.db.0 es mid.now.trees end result) (sym out.first)
           (then_written format c.args.db.0 out.entries left (subst DoKeysRise out.first (out.rising some)) mid.now.trees last.now.trees put end result writes));
       due = λ clean mode store.
-          let was : HasCleanDisk mid = omega (arith, c.write_run.ensures.call.crash.clean) in
+          let was : HasCleanDisk mid = omega (arith, c.write_run.ensures.call.does.crash.clean) in
           due_written format g.L.Layout.row_work (changes_among out.entries) first.now.trees mid.now.trees last.now.trees c.args.work.now c.loop-taken.work c.write_run.new.work
           c.args.pending.now c.loop-taken.pending c.take_run.new.self c.counts_are_numbers.ensures (so_far.due was mode store)
           (c.in_ok-write_run.ensures.work out.entries from clean (so_far.stays was mode).mode (so_far.store was mode store)) (ap changes_among out.first ∙ count_both out.entries left);
@@ -106,7 +106,7 @@ returns-in_err-write_run-clause-rows g c clean mode store =
     let told : c.from_residual-in_err-write_run.result ≡ Err fault = search rules in
     let some = some_of taken.items taken.len (omega (arith, taken.ok.0)) (sym c.if-is_empty.ensures) in
     let from = subst (AllZip IsTakenFrom out.entries) (sym c.deref.ensures.value) out.each in
-    let was : HasCleanDisk mid = omega (arith, c.write_run.ensures.call.crash.clean) in
+    let was : HasCleanDisk mid = omega (arith, c.write_run.ensures.call.does.crash.clean) in
     let refused = (c.in_err-write_run.ensures.rows out.entries from clean (so_far.stays was mode).mode (so_far.store was mode store)).1 in
     let all = first_refused format db out.entries left (subst DoKeysRise out.first (out.rising some)) mid.now.trees fault refused in
     let writes = so_far.leads was mode store last.now.trees (Err fault) (subst (λ (es : List (Key × KeyNotes)). WritesNotes format db es mid.now.trees last.now.trees (Err fault)) (sym out.first) all) in

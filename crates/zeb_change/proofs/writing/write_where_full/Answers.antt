@@ -4,10 +4,8 @@ use Rattle.zeb_change.proofs.writing.write_where_full.Goals as goal
 
 pub returns-clause-call : goal.returns-clause-call
 returns-clause-call g c = record {
-  stays = search rules;
-  written = λ clean mode store. still_settled g.L.Layout.format g.L.Layout.row_work c.args.db.0 (state g.S.Store c.args.tx.now.conn.now) c.args.pending.now c.args.work.now store;
-  honest = λ clean mode store told. absurd (cc);
-  crash = search rules;
+  same = search rules;
+  does = record { stays = search rules; written = λ clean mode store. still_settled _ _ _ _ _ _ store; honest = λ clean mode store told. absurd (cc); crash = search rules };
 }
 
 pub returns-clause-keeps : goal.returns-clause-keeps

@@ -10,40 +10,52 @@ use Rattle.zeb_engine.proofs.changes.apply.Goals as goal
 -- ---- what it does to the connection
 
 pub returns-in_err-database-clause-inside : goal.returns-in_err-database-clause-inside
-returns-in_err-database-clause-inside g c =
-    let told : c.from_residual.result ≡ Err (register_refusal c.in_err-database.field-0.0) = search rules in
-    rw told (record { stays = c.in_err-database.ensures.call.err; crash = c.begin_change.ensures.call.crash })
+returns-in_err-database-clause-inside g c = record {
+  same = search rules;
+  does =
+      let told : c.from_residual.result ≡ Err (register_refusal c.in_err-database.field-0.0) = search rules in
+      rw told (record { stays = c.in_err-database.ensures.call.does.err; crash = c.begin_change.ensures.call.does.crash });
+}
 
 pub returns-in_err-fold_files-clause-inside : goal.returns-in_err-fold_files-clause-inside
-returns-in_err-fold_files-clause-inside g c =
-    let told : c.from_residual-in_err-fold_files.result ≡ Err c.in_err-fold_files.field-0.0 = search rules in
-    rw told (record {
-      stays = λ clean mode.
-          let on = c.in_ok-database.ensures.call.ok (omega (arith, clean, c.fold_files.ensures.inside.crash.clean)) mode in
-          kept_then _ _ _ (goes_on _ _ on) (c.in_err-fold_files.ensures.inside.stays clean on.mode);
-      crash = quiet_then _ _ _ c.begin_change.ensures.call.crash c.fold_files.ensures.inside.crash;
-    })
+returns-in_err-fold_files-clause-inside g c = record {
+  same = search rules;
+  does =
+      let told : c.from_residual-in_err-fold_files.result ≡ Err c.in_err-fold_files.field-0.0 = search rules in
+      rw told (record {
+        stays = λ clean mode.
+            let on = c.in_ok-database.ensures.call.does.ok (omega (arith, clean, c.fold_files.ensures.inside.does.crash.clean)) mode in
+            kept_then _ _ _ (goes_on _ _ on) (c.in_err-fold_files.ensures.inside.does.stays clean on.mode);
+        crash = quiet_then _ _ _ c.begin_change.ensures.call.does.crash c.fold_files.ensures.inside.does.crash;
+      });
+}
 
 pub returns-in_err-database_put-clause-inside : goal.returns-in_err-database_put-clause-inside
-returns-in_err-database_put-clause-inside g c =
-    let told : c.from_residual-in_err-database_put.result ≡ Err (register_refusal c.in_err-database_put.field-0.0) = search rules in
-    rw told (record {
-      stays = λ clean mode.
-          let second : HasCleanDisk (state g.S.Store c.fold_files.new.tx.conn.now) = omega (arith, clean, c.database_put.ensures.call.crash.clean) in
-          let on = c.in_ok-database.ensures.call.ok (omega (arith, second, c.fold_files.ensures.inside.crash.clean)) mode in
-          let further = c.in_ok-fold_files.ensures.inside.stays second on.mode in
-          kept_then _ _ _ (goes_on _ _ on) (kept_then _ _ _ further (c.in_err-database_put.ensures.call.err clean further.mode));
-      crash = quiet_then _ _ _ c.begin_change.ensures.call.crash (quiet_then _ _ _ c.fold_files.ensures.inside.crash c.database_put.ensures.call.crash);
-    })
+returns-in_err-database_put-clause-inside g c = record {
+  same = search rules;
+  does =
+      let told : c.from_residual-in_err-database_put.result ≡ Err (register_refusal c.in_err-database_put.field-0.0) = search rules in
+      rw told (record {
+        stays = λ clean mode.
+            let second : HasCleanDisk (state g.S.Store c.fold_files.new.tx.conn.now) = omega (arith, clean, c.database_put.ensures.call.does.crash.clean) in
+            let on = c.in_ok-database.ensures.call.does.ok (omega (arith, second, c.fold_files.ensures.inside.does.crash.clean)) mode in
+            let further = c.in_ok-fold_files.ensures.inside.does.stays second on.mode in
+            kept_then _ _ _ (goes_on _ _ on) (kept_then _ _ _ further (c.in_err-database_put.ensures.call.does.err clean further.mode));
+        crash = quiet_then _ _ _ c.begin_change.ensures.call.does.crash (quiet_then _ _ _ c.fold_files.ensures.inside.does.crash c.database_put.ensures.call.does.crash);
+      });
+}
 
 pub returns-clause-inside : goal.returns-clause-inside
 returns-clause-inside g c = record {
-  stays = λ clean mode.
-      let second : HasCleanDisk (state g.S.Store c.fold_files.new.tx.conn.now) = omega (arith, clean, c.database_put.ensures.call.crash.clean) in
-      let on = c.in_ok-database.ensures.call.ok (omega (arith, second, c.fold_files.ensures.inside.crash.clean)) mode in
-      let further = c.in_ok-fold_files.ensures.inside.stays second on.mode in
-      continues_then _ _ _ (goes_on _ _ on) (continues_then _ _ _ further (goes_on _ _ (c.in_ok-database_put.ensures.call.ok clean further.mode)));
-  crash = quiet_then _ _ _ c.begin_change.ensures.call.crash (quiet_then _ _ _ c.fold_files.ensures.inside.crash c.database_put.ensures.call.crash);
+  same = search rules;
+  does = record {
+    stays = λ clean mode.
+        let second : HasCleanDisk (state g.S.Store c.fold_files.new.tx.conn.now) = omega (arith, clean, c.database_put.ensures.call.does.crash.clean) in
+        let on = c.in_ok-database.ensures.call.does.ok (omega (arith, second, c.fold_files.ensures.inside.does.crash.clean)) mode in
+        let further = c.in_ok-fold_files.ensures.inside.does.stays second on.mode in
+        continues_then _ _ _ (goes_on _ _ on) (continues_then _ _ _ further (goes_on _ _ (c.in_ok-database_put.ensures.call.does.ok clean further.mode)));
+    crash = quiet_then _ _ _ c.begin_change.ensures.call.does.crash (quiet_then _ _ _ c.fold_files.ensures.inside.does.crash c.database_put.ensures.call.does.crash);
+  };
 }
 
 pub returns-clause-no_work : goal.returns-clause-no_work
@@ -118,9 +130,9 @@ pub returns-in_err-fold_files-clause-applies : goal.returns-in_err-fold_files-cl
 returns-in_err-fold_files-clause-applies g c clean inside store =
     let refusal = c.in_err-fold_files.field-0.0 in
     let told : c.from_residual-in_err-fold_files.result ≡ Err refusal = search rules in
-    let first : HasCleanDisk (state g.S.Store c.begin_change.new.tx.conn.now) = omega (arith, c.fold_files.ensures.inside.crash.clean) in
+    let first : HasCleanDisk (state g.S.Store c.begin_change.new.tx.conn.now) = omega (arith, c.fold_files.ensures.inside.does.crash.clean) in
     rw told (inr (inr (folded g (goal.at.returns-in_err-fold_files-clause-applies g c).After-fold_files first inside store (Err refusal)
-    (c.in_err-fold_files.ensures.changes clean (c.in_ok-database.ensures.call.ok first inside).mode (c.in_ok-database.ensures.put first inside store).layout))))
+    (c.in_err-fold_files.ensures.changes clean (c.in_ok-database.ensures.call.does.ok first inside).mode (c.in_ok-database.ensures.put first inside store).layout))))
 
 pub returns-in_err-database_put-clause-applies : goal.returns-in_err-database_put-clause-applies
 returns-in_err-database_put-clause-applies g c clean inside store =
@@ -128,13 +140,13 @@ returns-in_err-database_put-clause-applies g c clean inside store =
     let now = state g.S.Store c.fold_files.new.tx.conn.now in
     let fault = c.in_err-database_put.field-0.0 in
     let told : c.from_residual-in_err-database_put.result ≡ Err (register_refusal fault) = search rules in
-    let second : HasCleanDisk now = omega (arith, c.database_put.ensures.call.crash.clean) in
-    let first : HasCleanDisk mid = omega (arith, c.fold_files.ensures.inside.crash.clean) in
-    let on = c.in_ok-database.ensures.call.ok first inside in
+    let second : HasCleanDisk now = omega (arith, c.database_put.ensures.call.does.crash.clean) in
+    let first : HasCleanDisk mid = omega (arith, c.fold_files.ensures.inside.does.crash.clean) in
+    let on = c.in_ok-database.ensures.call.does.ok first inside in
     let layout = (c.in_ok-database.ensures.put first inside store).layout in
     let of = c.in_ok-fold_files.ensures.changes second on.mode layout in
     let kept = passes _ _ _ _ of.0 mid now _ _ layout of.2 in
-    rw told (inl (fault_fails fault (λ is. c.in_err-database_put.ensures.honest clean (c.in_ok-fold_files.ensures.inside.stays second on.mode).mode kept.store (ap Err is))))
+    rw told (inl (fault_fails fault (λ is. c.in_err-database_put.ensures.honest clean (c.in_ok-fold_files.ensures.inside.does.stays second on.mode).mode kept.store (ap Err is))))
 
 pub returns-clause-applies : goal.returns-clause-applies
 unfolding folded
@@ -144,12 +156,12 @@ returns-clause-applies g c clean inside store =
     let new = state g.S.Store c.database_put.new.tx.conn.now in
     let last = c.fold_files.new.fold.progress.last in
     let again = c.in_ok-database_put.field-0.0 in
-    let second : HasCleanDisk now = omega (arith, c.database_put.ensures.call.crash.clean) in
-    let first : HasCleanDisk mid = omega (arith, c.fold_files.ensures.inside.crash.clean) in
-    let on = c.in_ok-database.ensures.call.ok first inside in
+    let second : HasCleanDisk now = omega (arith, c.database_put.ensures.call.does.crash.clean) in
+    let first : HasCleanDisk mid = omega (arith, c.fold_files.ensures.inside.does.crash.clean) in
+    let on = c.in_ok-database.ensures.call.does.ok first inside in
     let layout = (c.in_ok-database.ensures.put first inside store).layout in
     let of = c.in_ok-fold_files.ensures.changes second on.mode layout in
-    let put = c.in_ok-database_put.ensures.put clean (c.in_ok-fold_files.ensures.inside.stays second on.mode).mode (passes _ _ _ _ of.0 mid now _ _ layout of.2).store in
+    let put = c.in_ok-database_put.ensures.put clean (c.in_ok-fold_files.ensures.inside.does.stays second on.mode).mode (passes _ _ _ _ of.0 mid now _ _ layout of.2).store in
     record {
       folded = folded g (goal.at.returns-clause-applies g c).After-fold_files first inside store (Ok tt) of;
       id = again;

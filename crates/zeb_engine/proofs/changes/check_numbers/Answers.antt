@@ -7,34 +7,43 @@ use Rattle.zeb_engine.proofs.changes.check_numbers.Goals as goal
 
 pub returns-in_err-next-clause-call : goal.returns-in_err-next-clause-call
 returns-in_err-next-clause-call g c = record {
-  ok = search rules;
-  err = λ clean inside. on_err c.from_residual.result _ (kept_still (state g.S.Store c.args.tx.now.conn.now));
-  crash = search rules;
+  same = search rules;
+  does = record {
+    ok = search rules;
+    err = λ clean inside. on_err c.from_residual.result _ (kept_still (state g.S.Store c.args.tx.now.conn.now));
+    crash = search rules;
+  };
 }
 
 pub returns-in_err-above-clause-call : goal.returns-in_err-above-clause-call
 returns-in_err-above-clause-call g c = record {
-  ok = search rules;
-  err = λ clean inside.
-      let one = c.in_ok-first.ensures.call.ok (omega (arith, clean, c.record_from_inside-2.ensures.call.crash.clean)) inside in
-      on_err c.from_residual-in_err-above.result _ (goes_keeps _ _ _ (reads_goes _ _ one) (c.in_err-above.ensures.call.err clean one.mode));
-  crash = search rules;
+  same = search rules;
+  does = record {
+    ok = search rules;
+    err = λ clean inside.
+        let one = c.in_ok-first.ensures.call.does.ok (omega (arith, clean, c.record_from_inside-2.ensures.call.does.crash.clean)) inside in
+        on_err c.from_residual-in_err-above.result _ (goes_keeps _ _ _ (reads_goes _ _ one) (c.in_err-above.ensures.call.does.err clean one.mode));
+    crash = search rules;
+  };
 }
 
 pub returns-clause-call : goal.returns-clause-call
-returns-clause-call g c =
-    let old = state g.S.Store c.args.tx.now.conn.now in
-    let mid = state g.S.Store c.record_from_inside.new.tx.conn.now in
-    let new = state g.S.Store c.record_from_inside-2.new.tx.conn.now in
-    record {
-      ok = λ clean inside.
-          let one = c.in_ok-first.ensures.call.ok (omega (arith, clean, c.record_from_inside-2.ensures.call.crash.clean)) inside in
-          if_done c.check_found.result _ (reads_then old mid new one (c.in_ok-above.ensures.call.ok clean one.mode));
-      err = λ clean inside.
-          let one = c.in_ok-first.ensures.call.ok (omega (arith, clean, c.record_from_inside-2.ensures.call.crash.clean)) inside in
-          on_err c.check_found.result _ (reads_keep old new (reads_then old mid new one (c.in_ok-above.ensures.call.ok clean one.mode)));
-      crash = search rules;
-    }
+returns-clause-call g c = record {
+  same = search rules;
+  does =
+      let old = state g.S.Store c.args.tx.now.conn.now in
+      let mid = state g.S.Store c.record_from_inside.new.tx.conn.now in
+      let new = state g.S.Store c.record_from_inside-2.new.tx.conn.now in
+      record {
+        ok = λ clean inside.
+            let one = c.in_ok-first.ensures.call.does.ok (omega (arith, clean, c.record_from_inside-2.ensures.call.does.crash.clean)) inside in
+            if_done c.check_found.result _ (reads_then old mid new one (c.in_ok-above.ensures.call.does.ok clean one.mode));
+        err = λ clean inside.
+            let one = c.in_ok-first.ensures.call.does.ok (omega (arith, clean, c.record_from_inside-2.ensures.call.does.crash.clean)) inside in
+            on_err c.check_found.result _ (reads_keep old new (reads_then old mid new one (c.in_ok-above.ensures.call.does.ok clean one.mode)));
+        crash = search rules;
+      };
+}
 
 -- ---- what it tells
 
@@ -45,8 +54,8 @@ returns-clause-numbers g c clean inside store =
     let id = c.args.database.0 in
     let next = c.in_ok-next.next in
     let is = c.in_ok-next.ensures.above in
-    let first_clean : HasCleanDisk mid = omega (arith, clean, c.record_from_inside-2.ensures.call.crash.clean) in
-    let one = c.in_ok-first.ensures.call.ok first_clean inside in
+    let first_clean : HasCleanDisk mid = omega (arith, clean, c.record_from_inside-2.ensures.call.does.crash.clean) in
+    let one = c.in_ok-first.ensures.call.does.ok first_clean inside in
     let least = c.in_ok-first.ensures.value.small first_clean inside store (omega arith) in
     let more = subst (λ (d : Database). IsFirstFrom d.trees id next c.in_ok-above.above) one.now_is
     (c.in_ok-above.ensures.value.small clean one.mode (store_same old mid one.now_is store) is.1) in
@@ -68,7 +77,7 @@ returns-in_err-first-clause-honest g c clean inside store damaged = λ well.
 pub returns-in_err-above-clause-honest : goal.returns-in_err-above-clause-honest
 returns-in_err-above-clause-honest g c clean inside store damaged = λ well.
     let fault : c.record_from_inside-2.result ≡ Err Damaged = search rules in
-    let one = c.in_ok-first.ensures.call.ok (omega (arith, clean, c.record_from_inside-2.ensures.call.crash.clean)) inside in
+    let one = c.in_ok-first.ensures.call.does.ok (omega (arith, clean, c.record_from_inside-2.ensures.call.does.crash.clean)) inside in
     let able = subst (λ (d : Database). AreReadable d.trees c.args.database.0) (sym one.now_is) well.readable in
     c.record_from_inside-2.ensures.honest clean one.mode (store_same (state g.S.Store c.args.tx.now.conn.now) (state g.S.Store c.record_from_inside.new.tx.conn.now) one.now_is store) fault able
 
@@ -78,8 +87,8 @@ returns-clause-honest g c clean inside store damaged = λ well.
     let mid = state g.S.Store c.record_from_inside.new.tx.conn.now in
     let next = c.in_ok-next.next in
     let is = c.in_ok-next.ensures.above in
-    let first_clean : HasCleanDisk mid = omega (arith, clean, c.record_from_inside-2.ensures.call.crash.clean) in
-    let one = c.in_ok-first.ensures.call.ok first_clean inside in
+    let first_clean : HasCleanDisk mid = omega (arith, clean, c.record_from_inside-2.ensures.call.does.crash.clean) in
+    let one = c.in_ok-first.ensures.call.does.ok first_clean inside in
     let least = c.in_ok-first.ensures.value.small first_clean inside store (omega arith) in
     let more = subst (λ (d : Database). IsFirstFrom d.trees c.args.database.0 next c.in_ok-above.above) one.now_is
     (c.in_ok-above.ensures.value.small clean one.mode (store_same old mid one.now_is store) is.1) in

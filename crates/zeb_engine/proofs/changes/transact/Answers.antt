@@ -14,7 +14,7 @@ returns-in_err-reply-clause-transacts g c =
     let Does = AppliesChange (NoneFailed g.R.Source.has_failed c.apply.new.readers) (asked change.setting g.L.Layout.format g.L.Layout.row_work change.name.now (map g.R.Source.remaining c.args.readers.now)) (last_of change.found)
     c.args.work.now c.apply.new.work in
     subst₂ (λ h r. Transacts Does (state g.S.Store c.args.connection.now) (state g.S.Store h) r) same (sym told)
-    (undone Does g.S.Store c.args.connection.now c.transaction-tx.result.conn.now (state g.S.Store c.apply.new.tx.conn.now) begun c.apply.ensures.inside.crash end refusal c.drop-tx.ensures.survives
+    (undone Does g.S.Store c.args.connection.now c.transaction-tx.result.conn.now (state g.S.Store c.apply.new.tx.conn.now) begun c.apply.ensures.inside.does.crash end refusal c.drop-tx.ensures.survives
     (λ clean store new. c.in_err-reply.ensures.applies clean (rw begun refl) store))
 
 pub returns-in_err-commit-clause-transacts : goal.returns-in_err-commit-clause-transacts
@@ -27,7 +27,7 @@ returns-in_err-commit-clause-transacts g c =
     let Does = AppliesChange (NoneFailed g.R.Source.has_failed c.apply.new.readers) (asked change.setting g.L.Layout.format g.L.Layout.row_work change.name.now (map g.R.Source.remaining c.args.readers.now)) (last_of change.found)
     c.args.work.now c.apply.new.work in
     subst₂ (λ h r. Transacts Does (state g.S.Store c.args.connection.now) (state g.S.Store h) r) same (sym told)
-    (uncommitted Does g.S.Store c.args.connection.now c.transaction-tx.result.conn.now (state g.S.Store c.apply.new.tx.conn.now) begun c.apply.ensures.inside.crash end c.in_ok-reply.reply c.commit.ensures.survives
+    (uncommitted Does g.S.Store c.args.connection.now c.transaction-tx.result.conn.now (state g.S.Store c.apply.new.tx.conn.now) begun c.apply.ensures.inside.does.crash end c.in_ok-reply.reply c.commit.ensures.survives
     (λ clean store. c.in_ok-reply.ensures.applies clean (rw begun refl) store) Store (λ new. inl (inl refl)))
 
 pub returns-clause-transacts : goal.returns-clause-transacts
@@ -39,7 +39,7 @@ returns-clause-transacts g c =
     let Does = AppliesChange (NoneFailed g.R.Source.has_failed c.apply.new.readers) (asked change.setting g.L.Layout.format g.L.Layout.row_work change.name.now (map g.R.Source.remaining c.args.readers.now)) (last_of change.found)
     c.args.work.now c.apply.new.work in
     subst (λ h. Transacts Does (state g.S.Store c.args.connection.now) (state g.S.Store h) (Ok c.in_ok-reply.reply)) same
-    (committed Does g.S.Store c.args.connection.now c.transaction-tx.result.conn.now (state g.S.Store c.apply.new.tx.conn.now) begun c.apply.ensures.inside.crash end c.in_ok-reply.reply c.commit.ensures.survives
+    (committed Does g.S.Store c.args.connection.now c.transaction-tx.result.conn.now (state g.S.Store c.apply.new.tx.conn.now) begun c.apply.ensures.inside.does.crash end c.in_ok-reply.reply c.commit.ensures.survives
     (λ clean store. c.in_ok-reply.ensures.applies clean (rw begun refl) store) (λ clean. (c.in_ok-commit.ensures.ok clean).1))
 
 -- ---- readers that fail

@@ -7,14 +7,14 @@ returns-in_err-commit-clause-survives g c =
     let begun = c.transaction-tx.ensures.begun in
     let did = c.in-Ok.ensures in
     tables_survive g.S.Store c.args.connection.now c.transaction-tx.result.conn.now (state g.S.Store c.make_tables.new.tx.conn.now) c.commit.new.self.0 c.connection-2-1.given.0 (search rules) begun
-    c.make_tables.ensures.call.crash c.commit.ensures.survives (λ first. did.call.ok first (rw begun refl)) (λ first. did.there first (rw begun refl)) (λ first. did.made first (rw begun refl))
+    c.make_tables.ensures.call.does.crash c.commit.ensures.survives (λ first. did.call.does.ok first (rw begun refl)) (λ first. did.there first (rw begun refl)) (λ first. did.made first (rw begun refl))
 
 pub returns-clause-survives : goal.returns-clause-survives
 returns-clause-survives g c =
     let begun = c.transaction-tx.ensures.begun in
     let did = c.in-Ok.ensures in
     tables_survive g.S.Store c.args.connection.now c.transaction-tx.result.conn.now (state g.S.Store c.make_tables.new.tx.conn.now) c.commit.new.self.0 c.connection-2-1.given.0 (search rules) begun
-    c.make_tables.ensures.call.crash c.commit.ensures.survives (λ first. did.call.ok first (rw begun refl)) (λ first. did.there first (rw begun refl)) (λ first. did.made first (rw begun refl))
+    c.make_tables.ensures.call.does.crash c.commit.ensures.survives (λ first. did.call.does.ok first (rw begun refl)) (λ first. did.there first (rw begun refl)) (λ first. did.made first (rw begun refl))
 
 pub returns-clause-makes : goal.returns-clause-makes
 returns-clause-makes g c clean =

@@ -9,7 +9,7 @@ returns-in_err-rebuild-clause-remakes g c clean inside store =
 
 pub returns-clause-remakes : goal.returns-clause-remakes
 returns-clause-remakes g c clean inside store = (
-  (c.in_ok-rebuild.ensures.rebuilds (omega (arith, c.meta_put.ensures.call.crash.clean)) inside store).checked,
+  (c.in_ok-rebuild.ensures.rebuilds (omega (arith, c.meta_put.ensures.call.does.crash.clean)) inside store).checked,
   remakes g.L.Layout.format c.args.profile.now (codes "profile") _ _ (state g.S.Store c.args.tx.now.conn.now) (state g.S.Store c.rebuild.new.tx.conn.now) (state g.S.Store c.meta_put.new.tx.conn.now)
-      c.text.ensures clean inside store c.in_ok-rebuild.ensures.call (λ cleaner mode there. (c.in_ok-rebuild.ensures.rebuilds cleaner mode there).built) c.in_ok-meta_put.ensures.call,
+      c.text.ensures clean inside store c.in_ok-rebuild.ensures.call.does (λ cleaner mode there. (c.in_ok-rebuild.ensures.rebuilds cleaner mode there).built) c.in_ok-meta_put.ensures.call.does,
 )

@@ -10,4 +10,4 @@ returns-in_err-rebuild-clause-remakes g c clean inside store =
 pub returns-clause-remakes : goal.returns-clause-remakes
 returns-clause-remakes g c clean inside store =
     remakes g.L.Layout.format c.args.profile.now (codes "version") _ _ (state g.S.Store c.args.tx.now.conn.now) (state g.S.Store c.rebuild.new.tx.conn.now) (state g.S.Store c.meta_put.new.tx.conn.now)
-    c.version.ensures clean inside store c.in_ok-rebuild.ensures.call (λ cleaner mode there. (c.in_ok-rebuild.ensures.rebuilds cleaner mode there).built) c.in_ok-meta_put.ensures.call
+    c.version.ensures clean inside store c.in_ok-rebuild.ensures.call.does (λ cleaner mode there. (c.in_ok-rebuild.ensures.rebuilds cleaner mode there).built) c.in_ok-meta_put.ensures.call.does

@@ -63,8 +63,8 @@ asked_next : (g : given.Over) (c : After-write_where_full g) → HasCleanDisk (s
 asked_next g c clean mode =
     let now = state g.S.Store c.loop-turn.tx.conn.now in
     let mid = state g.S.Store c.record_from_inside.new.tx.conn.now in
-    let clean_mid : HasCleanDisk mid = omega (arith, c.write_where_full.ensures.call.crash.clean) in
-    asked (state g.S.Store c.args.tx.now.conn.now) now mid clean_mid c.record_from_inside.ensures.call.crash (λ clean_now. c.loop-turn.invariant.stays clean_now mode) c.in_ok-record.ensures.call.ok
+    let clean_mid : HasCleanDisk mid = omega (arith, c.write_where_full.ensures.call.does.crash.clean) in
+    asked (state g.S.Store c.args.tx.now.conn.now) now mid clean_mid c.record_from_inside.ensures.call.does.crash (λ clean_now. c.loop-turn.invariant.stays clean_now mode) c.in_ok-record.ensures.call.does.ok
 
 -- it is the first from a number on that the lists keep
 record IsNext (id : ℤ) (next : ℕ) (found : Record) (old now mid : State) : Type 0 where
@@ -79,7 +79,7 @@ next_read : (g : given.Over) (c : After-write_where_full g) → HasCleanDisk (st
 next_read g c clean mode store =
     let now = state g.S.Store c.loop-turn.tx.conn.now in
     let mid = state g.S.Store c.record_from_inside.new.tx.conn.now in
-    let clean_mid : HasCleanDisk mid = omega (arith, c.write_where_full.ensures.call.crash.clean) in
+    let clean_mid : HasCleanDisk mid = omega (arith, c.write_where_full.ensures.call.does.crash.clean) in
     let at = asked_next g c clean mode in
     let kept = c.loop-turn.invariant.kept at.clean mode store in
     let value = subst (IsFirstFrom now.now.trees c.args.db.0 c.loop-turn.next) c.in-Some.is (c.in_ok-record.ensures.value.small clean_mid at.was.mode kept.0 (omega (arith, c.loop-turn.invariant.small))) in
@@ -120,11 +120,11 @@ loop-turn-preserved g c =
       crash = search rules;
       stays = λ clean mode.
           let at = asked_next g full clean mode in
-          continues_then old mid new at.goes (c.in_ok-write_where_full.ensures.call.stays clean at.goes.mode);
+          continues_then old mid new at.goes (c.in_ok-write_where_full.ensures.call.does.stays clean at.goes.mode);
       small = omega (arith, c.in_ok-record_note.ensures.number);
       kept = λ clean mode store.
           let read = next_read g full clean mode store in
-          let settled = c.in_ok-write_where_full.ensures.call.written clean read.at.on.mode read.store in
+          let settled = c.in_ok-write_where_full.ensures.call.does.written clean read.at.on.mode read.store in
           (settled.0, keeps_then old.now.trees mid.now.trees new.now.trees (same_lists old.now.trees (state g.S.Store c.loop-turn.tx.conn.now) mid read.at.on.now_is read.kept.1) settled.1);
       checked = λ clean mode store.
           let read = next_read g full clean mode store in
@@ -134,7 +134,7 @@ loop-turn-preserved g c =
           let both = then_noted g full clean mode store before had storable lacks in
           record {
             content = both.1.content;
-            held = ((c.in_ok-write_where_full.ensures.call.written clean read.at.on.mode read.store).2 both.1.content both.1.storable both.1.held).0;
+            held = ((c.in_ok-write_where_full.ensures.call.does.written clean read.at.on.mode read.store).2 both.1.content both.1.storable both.1.held).0;
             storable = both.1.storable;
             is = next_posted profile old.now.trees id c.loop-turn.next before both.0.content both.0.is found read.first (one_number old store id (pos found.sysno)) both.1.content both.1.is;
           };
@@ -144,13 +144,16 @@ loop-turn-preserved g c =
 
 pub returns-in_default-clause-inside : goal.returns-in_default-clause-inside
 returns-in_default-clause-inside g c = record {
-  stays = λ clean mode.
-      let old = state g.S.Store c.args.tx.now.conn.now in
-      let now = state g.S.Store c.loop-turn.tx.conn.now in
-      let mid = state g.S.Store c.record_from_inside.new.tx.conn.now in
-      let at = asked old now mid (omega (arith, c.write_pending.ensures.call.crash.clean)) c.record_from_inside.ensures.call.crash (λ clean_now. c.loop-turn.invariant.stays clean_now mode) c.in_ok-record.ensures.call.ok in
-      stays_then old mid (state g.S.Store c.write_pending.new.tx.conn.now) c.write_pending.result at.goes (c.write_pending.ensures.call.stays clean at.goes.mode);
-  crash = search rules;
+  same = search rules;
+  does = record {
+    stays = λ clean mode.
+        let old = state g.S.Store c.args.tx.now.conn.now in
+        let now = state g.S.Store c.loop-turn.tx.conn.now in
+        let mid = state g.S.Store c.record_from_inside.new.tx.conn.now in
+        let at = asked old now mid (omega (arith, c.write_pending.ensures.call.does.crash.clean)) c.record_from_inside.ensures.call.does.crash (λ clean_now. c.loop-turn.invariant.stays clean_now mode) c.in_ok-record.ensures.call.does.ok in
+        stays_then old mid (state g.S.Store c.write_pending.new.tx.conn.now) c.write_pending.result at.goes (c.write_pending.ensures.call.does.stays clean at.goes.mode);
+    crash = search rules;
+  };
 }
 
 -- what is noted is the content that the registers hold then
@@ -162,8 +165,8 @@ returns-in_default-clause-posts g c clean mode store =
     let new = state g.S.Store c.write_pending.new.tx.conn.now in
     let format = g.L.Layout.format in
     let id = c.args.db.0 in
-    let clean_mid : HasCleanDisk mid = omega (arith, c.write_pending.ensures.call.crash.clean) in
-    let at = asked old now mid clean_mid c.record_from_inside.ensures.call.crash (λ clean_now. c.loop-turn.invariant.stays clean_now mode) c.in_ok-record.ensures.call.ok in
+    let clean_mid : HasCleanDisk mid = omega (arith, c.write_pending.ensures.call.does.crash.clean) in
+    let at = asked old now mid clean_mid c.record_from_inside.ensures.call.does.crash (λ clean_now. c.loop-turn.invariant.stays clean_now mode) c.in_ok-record.ensures.call.does.ok in
     let kept = c.loop-turn.invariant.kept at.clean mode store in
     let there = store_same now mid at.on.now_is kept.0 in
     let value = subst (IsFirstFrom now.now.trees id c.loop-turn.next) c.in_default.is (c.in_ok-record.ensures.value.small clean_mid at.was.mode kept.0 (omega (arith, c.loop-turn.invariant.small))) in
@@ -183,11 +186,11 @@ returns-in_default-clause-posts g c clean mode store =
             storable = such.storable;
             is = all_posted c.args.profile.now old.now.trees id c.loop-turn.next before such.content such.is none;
           },
-    )) (c.write_pending.ensures.call.written clean at.on.mode there) c.write_pending.ensures.all)
+    )) (c.write_pending.ensures.call.does.written clean at.on.mode there) c.write_pending.ensures.all)
     (λ told before had storable lacks fine.
     let such = c.loop-turn.invariant.posted at.clean mode store before had storable lacks in
     let held = subst (λ (db : Database). WillHold format db.trees id c.loop-turn.pending such.content) (sym at.on.now_is) such.held in
-    c.write_pending.ensures.call.honest clean at.on.mode there told such.content such.storable held)
+    c.write_pending.ensures.call.does.honest clean at.on.mode there told such.content such.storable held)
 
 -- ---- before it
 
@@ -196,7 +199,7 @@ pub returns-in_err-record-clause-posts : goal.returns-in_err-record-clause-posts
 returns-in_err-record-clause-posts g c clean mode store =
     let old = state g.S.Store c.args.tx.now.conn.now in
     let now = state g.S.Store c.loop-turn.tx.conn.now in
-    let clean_now : HasCleanDisk now = omega (arith, c.record_from_inside.ensures.call.crash.clean) in
+    let clean_now : HasCleanDisk now = omega (arith, c.record_from_inside.ensures.call.does.crash.clean) in
     let was = c.loop-turn.invariant.stays clean_now mode in
     let kept = c.loop-turn.invariant.kept clean_now mode store in
     let told : c.from_residual.result ≡ Err c.in_err-record.field-0.0 = search rules in
@@ -207,7 +210,7 @@ pub returns-in_err-record_note-clause-posts : goal.returns-in_err-record_note-cl
 returns-in_err-record_note-clause-posts g c clean mode store =
     let now = state g.S.Store c.loop-turn.tx.conn.now in
     let found = c.in-Some.record in
-    let clean_now : HasCleanDisk now = omega (arith, c.record_from_inside.ensures.call.crash.clean) in
+    let clean_now : HasCleanDisk now = omega (arith, c.record_from_inside.ensures.call.does.crash.clean) in
     let was = c.loop-turn.invariant.stays clean_now mode in
     let kept = c.loop-turn.invariant.kept clean_now mode store in
     let value = subst (IsFirstFrom now.now.trees c.args.db.0 c.loop-turn.next) c.in-Some.is (c.in_ok-record.ensures.value.small clean was.mode kept.0 (omega (arith, c.loop-turn.invariant.small))) in
@@ -223,4 +226,4 @@ returns-in_err-write_where_full-clause-posts g c clean mode store =
     rw told (λ is before had storable lacks fine.
     let read = next_read g full clean mode store in
     let noted = (then_noted g full clean mode store before had storable lacks).1 in
-    c.in_err-write_where_full.ensures.call.honest clean read.at.on.mode read.store (ap Err is) noted.content noted.storable noted.held)
+    c.in_err-write_where_full.ensures.call.does.honest clean read.at.on.mode read.store (ap Err is) noted.content noted.storable noted.held)

@@ -21,24 +21,24 @@ loop-database-init g c =
     let old = state g.S.Store c.args.tx.now.conn.now in
     let wiped = state g.S.Store c.registers_wipe.new.tx.conn.now in
     let new = state g.S.Store c.databases_inside.new.tx.conn.now in
-    let clean_wiped = λ (clean : HasCleanDisk new). (let e : HasCleanDisk wiped = omega (arith, c.databases_inside.ensures.call.crash.clean) in e) in
+    let clean_wiped = λ (clean : HasCleanDisk new). (let e : HasCleanDisk wiped = omega (arith, c.databases_inside.ensures.call.does.crash.clean) in e) in
     record {
       same = search rules;
       crash = search rules;
       goes_on = λ clean mode.
-          let on = (c.in_ok-registers_wipe.ensures.call.ok (clean_wiped clean) mode).0 in
-          read_then old wiped new on (c.in_ok-databases.ensures.call.ok clean on.mode);
+          let on = (c.in_ok-registers_wipe.ensures.call.does.ok (clean_wiped clean) mode).0 in
+          read_then old wiped new on (c.in_ok-databases.ensures.call.does.ok clean on.mode);
       kept = λ clean mode store.
-          let done = c.in_ok-registers_wipe.ensures.call.ok (clean_wiped clean) mode in
-          let read = c.in_ok-databases.ensures.call.ok clean done.0.mode in
+          let done = c.in_ok-registers_wipe.ensures.call.does.ok (clean_wiped clean) mode in
+          let read = c.in_ok-databases.ensures.call.does.ok clean done.0.mode in
           (store_same wiped new read.now_is (done.1 store).0, subst (λ (db : Database). KeepsLists old.now.trees db.trees) (sym read.now_is) (done.1 store).2);
       listed = λ clean mode store.
-          let done = c.in_ok-registers_wipe.ensures.call.ok (clean_wiped clean) mode in
+          let done = c.in_ok-registers_wipe.ensures.call.does.ok (clean_wiped clean) mode in
           same_databases old.now.trees wiped.now.trees (done.1 store).2 _ (subst (AreDatabases wiped.now.trees) (sym c.deref-database-items.ensures.value) (c.in_ok-databases.ensures.value clean done.0.mode (done.1 store).0));
       checked = λ clean mode store d there. absurd there;
       posted = λ clean mode store.
-          let done = c.in_ok-registers_wipe.ensures.call.ok (clean_wiped clean) mode in
-          let read = c.in_ok-databases.ensures.call.ok clean done.0.mode in
+          let done = c.in_ok-registers_wipe.ensures.call.does.ok (clean_wiped clean) mode in
+          let read = c.in_ok-databases.ensures.call.does.ok clean done.0.mode in
           record {
             content = λ _ _. [];
             held = subst (λ (db : Database). holds_in g.L.Layout.format db.trees (λ _ _. [])) (sym read.now_is) (registers_empty g.L.Layout.format wiped.now.trees (done.1 store).1);
@@ -66,7 +66,7 @@ next_listed g c clean mode store =
     let index = c.loop-database.database-index in
     let item = c.database-item.result in
     let done = take index items in
-    let clean_now : HasCleanDisk (state g.S.Store c.loop-database.tx.conn.now) = omega (arith, c.database_post.ensures.inside.crash.clean) in
+    let clean_now : HasCleanDisk (state g.S.Store c.loop-database.tx.conn.now) = omega (arith, c.database_post.ensures.inside.does.crash.clean) in
     let are = c.loop-database.invariant.listed clean_now mode store in
     let such = c.loop-database.invariant.posted clean_now mode store in
     let split : items ≡ done ++ item ∷ drop (suc index) items = split_at items index item c.loop-database-test.true ∙ ap (λ x. done ++ x ∷ drop (suc index) items) (sym c.database-item.is) in
@@ -91,14 +91,14 @@ loop-database-preserved g c =
     let index = c.loop-database.database-index in
     let item = c.database-item.result in
     let done = take index items in
-    let clean_now = λ (clean : HasCleanDisk new). (let e : HasCleanDisk now = omega (arith, c.database_post.ensures.inside.crash.clean) in e) in
+    let clean_now = λ (clean : HasCleanDisk new). (let e : HasCleanDisk now = omega (arith, c.database_post.ensures.inside.does.crash.clean) in e) in
     let more : take (index + 1) items ≡ done ++ item ∷ [] = take_more items index item c.loop-database-test.true ∙ ap (λ x. done ++ x ∷ []) (sym c.database-item.is) in
     record {
       same = search rules;
       crash = search rules;
       goes_on = λ clean mode.
           let on = c.loop-database.invariant.goes_on (clean_now clean) mode in
-          goes_further old now new on (c.in_ok-database_post.ensures.inside.stays clean on.mode);
+          goes_further old now new on (c.in_ok-database_post.ensures.inside.does.stays clean on.mode);
       kept = λ clean mode store.
           let kept = c.loop-database.invariant.kept (clean_now clean) mode store in
           let then_kept = c.in_ok-database_post.ensures.posts clean (c.loop-database.invariant.goes_on (clean_now clean) mode).mode kept.0 in
@@ -170,8 +170,8 @@ returns-in_err-databases-clause-rebuilds g c clean mode store =
     let old = state g.S.Store c.args.tx.now.conn.now in
     let wiped = state g.S.Store c.registers_wipe.new.tx.conn.now in
     let new = state g.S.Store c.databases_inside.new.tx.conn.now in
-    let clean_wiped : HasCleanDisk wiped = omega (arith, c.databases_inside.ensures.call.crash.clean) in
-    let done = c.in_ok-registers_wipe.ensures.call.ok clean_wiped mode in
+    let clean_wiped : HasCleanDisk wiped = omega (arith, c.databases_inside.ensures.call.does.crash.clean) in
+    let done = c.in_ok-registers_wipe.ensures.call.does.ok clean_wiped mode in
     refused_so g.L.Layout.format c.args.profile.now old new c.in_err-databases.field-0.0 c.from_residual-in_err-databases.result (search rules) (λ told readable sound.
     let fault : c.databases_inside.result ≡ Err Damaged = search rules in
     c.databases_inside.ensures.honest clean done.0.mode (done.1 store).0 fault (readable_databases old.now.trees wiped.now.trees (done.1 store).2 readable.databases))
@@ -193,15 +193,18 @@ returns-in_err-database_post-clause-rebuilds g c clean mode store =
     (readable_still old.now.trees now.now.trees base.kept.1 item.id.0 (readable.records item.id.0 (string_bytes item.name) (pos item.last) base.there), sound_then old.now.trees now.now.trees base.kept.1 profile item.id.0 (sound item.id.0 (string_bytes item.name) (pos item.last) base.there)))
 
 pub returns-in_err-database_post-clause-call : goal.returns-in_err-database_post-clause-call
-returns-in_err-database_post-clause-call g c =
-    let old = state g.S.Store c.args.tx.now.conn.now in
-    let now = state g.S.Store c.loop-database.tx.conn.now in
-    let told : c.from_residual-in_err-database_post.result ≡ Err c.in_err-database_post.field-0.0 = search rules in
-    record {
-      ok = λ clean mode. rw told tt;
-      err = λ clean mode.
-          let clean_now : HasCleanDisk now = omega (arith, c.database_post.ensures.inside.crash.clean) in
-          let on = c.loop-database.invariant.goes_on clean_now mode in
-          rw told (kept_then old now (state g.S.Store c.database_post.new.tx.conn.now) (goes_on old now on) (c.in_err-database_post.ensures.inside.stays clean on.mode));
-      crash = search rules;
-    }
+returns-in_err-database_post-clause-call g c = record {
+  same = search rules;
+  does =
+      let old = state g.S.Store c.args.tx.now.conn.now in
+      let now = state g.S.Store c.loop-database.tx.conn.now in
+      let told : c.from_residual-in_err-database_post.result ≡ Err c.in_err-database_post.field-0.0 = search rules in
+      record {
+        ok = λ clean mode. rw told tt;
+        err = λ clean mode.
+            let clean_now : HasCleanDisk now = omega (arith, c.database_post.ensures.inside.does.crash.clean) in
+            let on = c.loop-database.invariant.goes_on clean_now mode in
+            rw told (kept_then old now (state g.S.Store c.database_post.new.tx.conn.now) (goes_on old now on) (c.in_err-database_post.ensures.inside.does.stays clean on.mode));
+        crash = search rules;
+      };
+}

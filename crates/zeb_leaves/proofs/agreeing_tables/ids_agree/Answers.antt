@@ -1,4 +1,4 @@
-use Rattle.zeb_leaves.proofs.Cited.{state, HasCleanDisk, ◌≡◌, ◌↔◌, ◌∙◌, sym, ap, subst, refl, inl, inr, arith, false, true, slice_get, Bool, IsUnchanged, Ok, Reading, reading_then, EachHasLeaves, OthersAreEmpty, nothing_then, store_same, quiet_then, unchanged_then, column_is, key_posting_order, ListedDatabase, ExpectedDatabase}
+use Rattle.zeb_leaves.proofs.Cited.{state, HasCleanDisk, ◌≡◌, ◌↔◌, ◌∙◌, sym, ap, subst, refl, inl, inr, arith, false, true, slice_get, reading_then, EachHasLeaves, OthersAreEmpty, store_same, column_is, key_posting_order, ListedDatabase, ExpectedDatabase}
 use Rattle.std.proofs.lemmas.Int.{ints}
 use Rattle.std.specs.Bool.{IsTrue}
 use Rattle.std.specs.List.Sorted.{IsStrictlySortedBy}
@@ -6,7 +6,6 @@ use Rattle.zeb_leaves.proofs.LeavesOfIds.{told_leaves}
 use Rattle.zeb_register.proofs.ContentLemmas.{has_at}
 use Rattle.zeb_register.proofs.ListsInStep.{at_or_below, got_in, got_is, got_same}
 use Rattle.zeb_register.proofs.YesNoAnswers.{first_told}
-use Rattle.sqlite.specs.declared.error.Error.{Error}
 use Rattle.zeb_leaves.proofs.HandedOn.{answered, error_behind, error_reasoned, failed_behind, failed_reading, shows_none}
 use Rattle.zeb_leaves.proofs.agreeing_tables.ids_agree.Goals as goal
 
@@ -19,10 +18,7 @@ returns-then-not-branch-clause-value g c clean store up =
 
 pub loop-at-init : goal.loop-at-init
 loop-at-init g c = record {
-  idle = c.others_are_empty.ensures.call.idle;
-  ok = c.in_ok-others_are_empty.ensures.call.ok;
-  same = c.others_are_empty.ensures.call.same;
-  crash = c.others_are_empty.ensures.call.crash;
+  so_far = answered _ _ _ true c.in_ok-others_are_empty.ensures.call;
   others = λ clean store. let yes' : c.in_ok-others_are_empty.field-0 ≡ true = c.if-not-branch.false in (c.in_ok-others_are_empty.ensures.value clean store).0 yes';
   done = λ clean store up k one database below. absurd (omega arith);
 }
@@ -35,7 +31,7 @@ returns-then-not-branch-2-clause-value g c clean store up =
     let one = c.index-listed-at.result in
     let database = c.index-expected-at.result in
     let clean1 : HasCleanDisk s1 = omega (arith, c.leaves_hold.ensures.call.crash.clean) in
-    let at = (inv.ok clean1).0.now_is in
+    let at = (inv.so_far.ok clean1).0.now_is in
     let rising = subst (IsStrictlySortedBy key_posting_order) (sym c.deref.ensures.value) (up database (has_at _ _ _ c.index-expected-at.is c.loop-at-test.true)) in
     let place = ap (λ (l : ListedDatabase). l.id.0) c.index-listed-at.is in
     let told = told_leaves s0 s1 _ one.id.0 _ database.postings.items _ at (column_is c.column.ensures.fits (omega (arith, ints, c.column.ensures.value, place))) c.deref.ensures.value (c.in_ok-leaves_hold.ensures.value clean (store_same s0 s1 at store) rising) in (
@@ -56,13 +52,10 @@ loop-at-preserved g c =
     let s2 = state g.S.Store c.leaves_hold.new.conn in
     let clean_a = λ (clean : HasCleanDisk s2). (let e : HasCleanDisk s1 = omega (arith, c.leaves_hold.ensures.call.crash.clean) in e) in
     record {
-      idle = λ i. c.leaves_hold.ensures.call.idle (inv.idle i);
-      ok = λ clean. unchanged_then s0 s1 s2 (inv.ok (clean_a clean)) (c.in_ok-leaves_hold.ensures.call.ok clean);
-      same = λ clean i. nothing_then s0 s1 s2 (inv.same (clean_a clean) i) (c.leaves_hold.ensures.call.same clean (inv.idle i));
-      crash = quiet_then s0 s1 s2 inv.crash c.leaves_hold.ensures.call.crash;
+      so_far = answered _ _ _ true (reading_then _ _ _ true _ inv.so_far c.in_ok-leaves_hold.ensures.call);
       others = λ clean. inv.others (clean_a clean);
       done = λ clean store up k one database below here there.
-          let at = (inv.ok (clean_a clean)).0.now_is in
+          let at = (inv.so_far.ok (clean_a clean)).0.now_is in
           elim (at_or_below k c.loop-at.at below) [
             | inl before ↦ inv.done (clean_a clean) store up k one database before here there
             | inr this ↦
@@ -101,33 +94,22 @@ pub returns-then-not-branch-clause-refused : goal.returns-then-not-branch-clause
 returns-then-not-branch-clause-refused g c clean store = tt
 
 pub returns-in_err-leaves_hold-clause-call : goal.returns-in_err-leaves_hold-clause-call
-returns-in_err-leaves_hold-clause-call g c =
-    let inv = c.loop-at.invariant in
-    let first : Reading {A = Bool} {E = Error} (state g.S.Store c.args.conn.now) (state g.S.Store c.loop-at.conn) (Ok true) (λ _. IsUnchanged) = record { idle = inv.idle; ok = inv.ok; same = inv.same; crash = inv.crash } in
-    failed_behind _ _ _ _ true _ c.from_residual-in_err-leaves_hold.result _ _ first c.in_err-leaves_hold.ensures.call c.from_residual-in_err-leaves_hold.ensures.1
+returns-in_err-leaves_hold-clause-call g c = failed_behind _ _ _ _ true _ c.from_residual-in_err-leaves_hold.result _ _ c.loop-at.invariant.so_far c.in_err-leaves_hold.ensures.call c.from_residual-in_err-leaves_hold.ensures.1
 
 pub returns-in_err-leaves_hold-clause-value : goal.returns-in_err-leaves_hold-clause-value
 returns-in_err-leaves_hold-clause-value g c clean store up = shows_none _ c.from_residual-in_err-leaves_hold.result _ c.from_residual-in_err-leaves_hold.ensures.1
 
 pub returns-in_err-leaves_hold-clause-refused : goal.returns-in_err-leaves_hold-clause-refused
-returns-in_err-leaves_hold-clause-refused g c =
-    let inv = c.loop-at.invariant in
-    let first : Reading {A = Bool} {E = Error} (state g.S.Store c.args.conn.now) (state g.S.Store c.loop-at.conn) (Ok true) (λ _. IsUnchanged) = record { idle = inv.idle; ok = inv.ok; same = inv.same; crash = inv.crash } in
-    error_behind _ _ _ true _ c.from_residual-in_err-leaves_hold.result first c.in_err-leaves_hold.ensures.call.crash c.in_err-leaves_hold.ensures.refused c.from_residual-in_err-leaves_hold.ensures.1
+returns-in_err-leaves_hold-clause-refused g c = error_behind _ _ _ true _ c.from_residual-in_err-leaves_hold.result c.loop-at.invariant.so_far c.in_err-leaves_hold.ensures.call.crash c.in_err-leaves_hold.ensures.refused c.from_residual-in_err-leaves_hold.ensures.1
 
 pub returns-then-not-branch-2-clause-call : goal.returns-then-not-branch-2-clause-call
-returns-then-not-branch-2-clause-call g c =
-    let inv = c.loop-at.invariant in
-    let first : Reading {A = Bool} {E = Error} (state g.S.Store c.args.conn.now) (state g.S.Store c.loop-at.conn) (Ok true) (λ _. IsUnchanged) = record { idle = inv.idle; ok = inv.ok; same = inv.same; crash = inv.crash } in
-    answered _ _ _ false (reading_then _ _ _ true _ first c.in_ok-leaves_hold.ensures.call)
+returns-then-not-branch-2-clause-call g c = answered _ _ _ false (reading_then _ _ _ true _ c.loop-at.invariant.so_far c.in_ok-leaves_hold.ensures.call)
 
 pub returns-then-not-branch-2-clause-refused : goal.returns-then-not-branch-2-clause-refused
 returns-then-not-branch-2-clause-refused g c clean store = tt
 
 pub returns-clause-call : goal.returns-clause-call
-returns-clause-call g c =
-    let inv = c.loop-at.invariant in
-    record { idle = inv.idle; ok = inv.ok; same = inv.same; crash = inv.crash }
+returns-clause-call g c = c.loop-at.invariant.so_far
 
 pub returns-clause-refused : goal.returns-clause-refused
 returns-clause-refused g c clean store = tt

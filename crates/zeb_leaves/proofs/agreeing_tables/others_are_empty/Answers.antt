@@ -1,4 +1,4 @@
-use Rattle.zeb_leaves.proofs.Cited.{state, HasCleanDisk, rules, ◌≡◌, Ok, sym, subst, arith, to_z-of_z, blocks_tree, IsUnchanged, Bool, FitsSigned, false, true, to_z, w64, IsEmptyBeside, nothing_then, reading_behind, store_same, quiet_then, failed_after, Reading, IsReasonedError, RegFault}
+use Rattle.zeb_leaves.proofs.Cited.{state, HasCleanDisk, rules, ◌≡◌, Ok, sym, subst, arith, to_z-of_z, blocks_tree, IsUnchanged, Bool, FitsSigned, false, true, to_z, w64, IsEmptyBeside, reading_behind, store_same, Reading}
 use Rattle.std.proofs.lemmas.Int.{ints}
 use Rattle.zeb_leaves.proofs.LeavesOfIds.{next_there, others_empty, told_empty}
 use Rattle.zeb_leaves.proofs.OpenCalls.{open_then}
@@ -15,10 +15,7 @@ returns-in_default-clause-value g c clean store =
 
 pub ids-init : goal.ids-init
 ids-init g c = record {
-  idle = c.ends_in_blocks.ensures.call.idle;
-  ok = c.in_ok-ends.ensures.call.ok;
-  same = c.ends_in_blocks.ensures.call.same;
-  crash = c.ends_in_blocks.ensures.call.crash;
+  so_far = answered _ _ _ true c.in_ok-ends.ensures.call;
   reached = λ clean store.
       let trees = (state g.S.Store c.args.conn.now).now.trees in
       let fits : FitsSigned w64 c.in-Some.ends.first = search rules in
@@ -27,9 +24,7 @@ ids-init g c = record {
 }
 
 pub returns-then-not-branch-clause-call : goal.returns-then-not-branch-clause-call
-returns-then-not-branch-clause-call g c =
-    let inv = c.ids.invariant in
-    open_then (state g.S.Store c.args.conn.now) (state g.S.Store c.ids.conn) _ true _ false (record { idle = inv.idle; ok = inv.ok; same = inv.same; crash = inv.crash }) c.in_ok-is_empty_beside.ensures.call
+returns-then-not-branch-clause-call g c = open_then _ _ _ true _ false c.ids.invariant.so_far c.in_ok-is_empty_beside.ensures.call
 
 pub returns-then-not-branch-clause-value : goal.returns-then-not-branch-clause-value
 returns-then-not-branch-clause-value g c clean store =
@@ -37,7 +32,7 @@ returns-then-not-branch-clause-value g c clean store =
     let s0 = state g.S.Store c.args.conn.now in
     let s1 = state g.S.Store c.ids.conn in
     let clean1 : HasCleanDisk s1 = omega (arith, c.is_empty_beside.ensures.call.crash.clean) in
-    let at = (inv.ok clean1).0.now_is in
+    let at = (inv.so_far.ok clean1).0.now_is in
     let id = to_z w64 c.ids.id-bits in
     let told = told_empty s0 s1 c.args.listed.now id _ at (c.in_ok-is_empty_beside.ensures.value clean (store_same s0 s1 at store)) in (
       λ h. absurd (let e : false ≡ true = h in cc),
@@ -48,9 +43,7 @@ returns-then-not-branch-clause-value g c clean store =
     )
 
 pub returns-then-id-ends-clause-call : goal.returns-then-id-ends-clause-call
-returns-then-id-ends-clause-call g c =
-    let inv = c.ids.invariant in
-    open_then (state g.S.Store c.args.conn.now) (state g.S.Store c.ids.conn) _ true _ true (record { idle = inv.idle; ok = inv.ok; same = inv.same; crash = inv.crash }) c.in_ok-is_empty_beside.ensures.call
+returns-then-id-ends-clause-call g c = open_then _ _ _ true _ true c.ids.invariant.so_far c.in_ok-is_empty_beside.ensures.call
 
 pub returns-then-id-ends-clause-value : goal.returns-then-id-ends-clause-value
 returns-then-id-ends-clause-value g c clean store =
@@ -58,7 +51,7 @@ returns-then-id-ends-clause-value g c clean store =
     let s0 = state g.S.Store c.args.conn.now in
     let s1 = state g.S.Store c.ids.conn in
     let clean1 : HasCleanDisk s1 = omega (arith, c.is_empty_beside.ensures.call.crash.clean) in
-    let at = (inv.ok clean1).0.now_is in
+    let at = (inv.so_far.ok clean1).0.now_is in
     let id = to_z w64 c.ids.id-bits in
     let here = (told_empty s0 s1 c.args.listed.now id _ at (c.in_ok-is_empty_beside.ensures.value clean (store_same s0 s1 at store))).0 c.if-not-branch.false in
     (λ _. others_empty s0 store c.args.listed.now (all_reached blocks_tree s0.now.trees (IsEmptyBeside c.args.listed.now s0.now.trees) c.in-Some.ends.last id (inv.reached clean1 store) here (omega (arith, ints, c.if-id-ends.true, c.ids.id-is))), λ _. search rules)
@@ -68,7 +61,7 @@ returns-in_default-2-clause-call g c =
     let inv = c.ids.invariant in
     let s0 = state g.S.Store c.args.conn.now in
     let s2 = state g.S.Store c.is_empty_beside.new.conn in
-    let first : Reading {A = Bool} {E = RegFault} s0 s2 (Ok true) (λ _. IsUnchanged) = open_then s0 (state g.S.Store c.ids.conn) s2 true _ true (record { idle = inv.idle; ok = inv.ok; same = inv.same; crash = inv.crash }) c.in_ok-is_empty_beside.ensures.call in
+    let first : Reading {A = Bool} {E = Error} s0 s2 (Ok true) (λ _. IsUnchanged) = open_then s0 (state g.S.Store c.ids.conn) s2 true _ true inv.so_far c.in_ok-is_empty_beside.ensures.call in
     reading_behind _ _ _ _ true _ first.idle first.ok first.same first.crash c.in_ok-next.ensures.call (λ shown. shown)
 
 pub returns-in_default-2-clause-value : goal.returns-in_default-2-clause-value
@@ -77,10 +70,10 @@ returns-in_default-2-clause-value g c clean store =
     let s0 = state g.S.Store c.args.conn.now in
     let s1 = state g.S.Store c.ids.conn in
     let s2 = state g.S.Store c.is_empty_beside.new.conn in
-    let first : Reading {A = Bool} {E = RegFault} s0 s2 (Ok true) (λ _. IsUnchanged) = open_then s0 s1 s2 true _ true (record { idle = inv.idle; ok = inv.ok; same = inv.same; crash = inv.crash }) c.in_ok-is_empty_beside.ensures.call in
+    let first : Reading {A = Bool} {E = Error} s0 s2 (Ok true) (λ _. IsUnchanged) = open_then s0 s1 s2 true _ true inv.so_far c.in_ok-is_empty_beside.ensures.call in
     let clean2 : HasCleanDisk s2 = omega (arith, c.next_in_blocks.ensures.call.crash.clean) in
     let clean1 : HasCleanDisk s1 = omega (arith, clean2, c.is_empty_beside.ensures.call.crash.clean) in
-    let at1 = (inv.ok clean1).0.now_is in
+    let at1 = (inv.so_far.ok clean1).0.now_is in
     let at2 = (first.ok clean2).0.now_is in
     let id = to_z w64 c.ids.id-bits in
     let here = (told_empty s0 s1 c.args.listed.now id _ at1 (c.in_ok-is_empty_beside.ensures.value clean2 (store_same s0 s1 at1 store))).0 c.if-not-branch.false in
@@ -94,17 +87,13 @@ ids-preserved g c =
     let s0 = state g.S.Store c.args.conn.now in
     let s1 = state g.S.Store c.ids.conn in
     let s2 = state g.S.Store c.is_empty_beside.new.conn in
-    let first : Reading {A = Bool} {E = RegFault} s0 s2 (Ok true) (λ _. IsUnchanged) = open_then s0 s1 s2 true _ true (record { idle = inv.idle; ok = inv.ok; same = inv.same; crash = inv.crash }) c.in_ok-is_empty_beside.ensures.call in
-    let next = reading_behind {F = RegFault} _ _ _ _ true _ first.idle first.ok first.same first.crash c.in_ok-next.ensures.call (λ shown. shown) in
+    let first : Reading {A = Bool} {E = Error} s0 s2 (Ok true) (λ _. IsUnchanged) = open_then s0 s1 s2 true _ true inv.so_far c.in_ok-is_empty_beside.ensures.call in
     record {
-      idle = next.idle;
-      ok = next.ok;
-      same = next.same;
-      crash = next.crash;
+      so_far = reading_behind _ _ _ _ true _ first.idle first.ok first.same first.crash c.in_ok-next.ensures.call (λ shown. shown);
       reached = λ clean store.
           let clean2 : HasCleanDisk s2 = omega (arith, c.next_in_blocks.ensures.call.crash.clean) in
           let clean1 : HasCleanDisk s1 = omega (arith, clean2, c.is_empty_beside.ensures.call.crash.clean) in
-          let at1 = (inv.ok clean1).0.now_is in
+          let at1 = (inv.so_far.ok clean1).0.now_is in
           let at2 = (first.ok clean2).0.now_is in
           let id = to_z w64 c.ids.id-bits in
           let here = (told_empty s0 s1 c.args.listed.now id _ at1 (c.in_ok-is_empty_beside.ensures.value clean2 (store_same s0 s1 at1 store))).0 c.if-not-branch.false in
@@ -117,28 +106,13 @@ ids-preserved g c =
 
 pub returns-in_err-next-clause-call : goal.returns-in_err-next-clause-call
 returns-in_err-next-clause-call g c =
-    let inv = c.ids.invariant in
-    let s0 = state g.S.Store c.args.conn.now in
-    let s2 = state g.S.Store c.is_empty_beside.new.conn in
-    let s3 = state g.S.Store c.next_in_blocks.new.conn in
-    let first : Reading {A = Bool} {E = RegFault} s0 s2 (Ok true) (λ _. IsUnchanged) = open_then s0 (state g.S.Store c.ids.conn) s2 true _ true (record { idle = inv.idle; ok = inv.ok; same = inv.same; crash = inv.crash }) c.in_ok-is_empty_beside.ensures.call in
-    let it : Reading s0 s3 c.from_residual-in_err-next.result (λ _. IsUnchanged) = record {
-      idle = λ i. c.next_in_blocks.ensures.call.idle (first.idle i);
-      ok = λ clean. search rules;
-      same = λ clean i. nothing_then s0 s2 s3 (first.same (omega (arith, c.next_in_blocks.ensures.call.crash.clean)) i) (c.next_in_blocks.ensures.call.same clean (first.idle i));
-      crash = quiet_then s0 s2 s3 first.crash c.next_in_blocks.ensures.call.crash;
-    } in
-    it
+    let first = open_then _ _ _ true _ true c.ids.invariant.so_far c.in_ok-is_empty_beside.ensures.call in
+    failed_behind _ _ _ _ true _ c.from_residual-in_err-next.result _ _ first c.in_err-next.ensures.call c.from_residual-in_err-next.ensures.1
 
 pub returns-in_err-next-clause-refused : goal.returns-in_err-next-clause-refused
 returns-in_err-next-clause-refused g c =
-    let inv = c.ids.invariant in
-    let s0 = state g.S.Store c.args.conn.now in
-    let s2 = state g.S.Store c.is_empty_beside.new.conn in
-    let s3 = state g.S.Store c.next_in_blocks.new.conn in
-    let first : Reading {A = Bool} {E = RegFault} s0 s2 (Ok true) (λ _. IsUnchanged) = open_then s0 (state g.S.Store c.ids.conn) s2 true _ true (record { idle = inv.idle; ok = inv.ok; same = inv.same; crash = inv.crash }) c.in_ok-is_empty_beside.ensures.call in
-    let reasoned : IsReasonedError s2 s3 c.from_residual-in_err-next.result = search rules in
-    failed_after s0 s2 s3 c.from_residual-in_err-next.result first.crash first.ok c.next_in_blocks.ensures.call.crash reasoned
+    let first = open_then _ _ _ true _ true c.ids.invariant.so_far c.in_ok-is_empty_beside.ensures.call in
+    error_behind _ _ _ true _ c.from_residual-in_err-next.result first c.in_err-next.ensures.call.crash c.in_err-next.ensures.refused c.from_residual-in_err-next.ensures.1
 
 pub returns-in_err-ends-clause-call : goal.returns-in_err-ends-clause-call
 returns-in_err-ends-clause-call g c = failed_reading _ _ _ _ c.from_residual.result _ _ c.in_err-ends.ensures.call c.from_residual.ensures.1
@@ -157,20 +131,14 @@ returns-in_default-clause-refused g c clean store = tt
 
 pub returns-in_err-is_empty_beside-clause-call : goal.returns-in_err-is_empty_beside-clause-call
 returns-in_err-is_empty_beside-clause-call g c =
-    let inv = c.ids.invariant in
-    let s0 = state g.S.Store c.args.conn.now in
-    let so_far : Reading {A = Bool} {E = Error} s0 (state g.S.Store c.ids.conn) (Ok true) (λ _. IsUnchanged) = record { idle = inv.idle; ok = inv.ok; same = inv.same; crash = inv.crash } in
-    failed_behind _ s0 _ _ true _ c.from_residual-in_err-is_empty_beside.result _ _ so_far c.in_err-is_empty_beside.ensures.call c.from_residual-in_err-is_empty_beside.ensures.1
+    failed_behind _ _ _ _ true _ c.from_residual-in_err-is_empty_beside.result _ _ c.ids.invariant.so_far c.in_err-is_empty_beside.ensures.call c.from_residual-in_err-is_empty_beside.ensures.1
 
 pub returns-in_err-is_empty_beside-clause-value : goal.returns-in_err-is_empty_beside-clause-value
 returns-in_err-is_empty_beside-clause-value g c clean store = shows_none _ c.from_residual-in_err-is_empty_beside.result _ c.from_residual-in_err-is_empty_beside.ensures.1
 
 pub returns-in_err-is_empty_beside-clause-refused : goal.returns-in_err-is_empty_beside-clause-refused
 returns-in_err-is_empty_beside-clause-refused g c =
-    let inv = c.ids.invariant in
-    let s0 = state g.S.Store c.args.conn.now in
-    let so_far : Reading {A = Bool} {E = Error} s0 (state g.S.Store c.ids.conn) (Ok true) (λ _. IsUnchanged) = record { idle = inv.idle; ok = inv.ok; same = inv.same; crash = inv.crash } in
-    error_behind _ _ _ true _ c.from_residual-in_err-is_empty_beside.result so_far c.in_err-is_empty_beside.ensures.call.crash c.in_err-is_empty_beside.ensures.refused c.from_residual-in_err-is_empty_beside.ensures.1
+    error_behind _ _ _ true _ c.from_residual-in_err-is_empty_beside.result c.ids.invariant.so_far c.in_err-is_empty_beside.ensures.call.crash c.in_err-is_empty_beside.ensures.refused c.from_residual-in_err-is_empty_beside.ensures.1
 
 pub returns-then-not-branch-clause-refused : goal.returns-then-not-branch-clause-refused
 returns-then-not-branch-clause-refused g c clean store = tt
@@ -186,8 +154,8 @@ returns-in_err-next-clause-value g c clean store = shows_none _ c.from_residual-
 
 pub returns-clause-call : goal.returns-clause-call
 returns-clause-call g c =
-    let inv = c.ids.invariant in
-    record { idle = inv.idle; ok = λ clean. tt; same = inv.same; crash = inv.crash }
+    let so_far = c.ids.invariant.so_far in
+    record { idle = so_far.idle; ok = λ clean. tt; same = so_far.same; crash = so_far.crash }
 
 pub returns-clause-value : goal.returns-clause-value
 returns-clause-value g c clean store = tt

@@ -8,7 +8,7 @@ returns-clause-finds g c clean store =
     let s0 = state g.S.Store c.args.conn.now in
     let only = rw c.in-Some.is at (c.in_ok-leaf.ensures.finds clean store) in
     let items = c.in_ok-push.ensures.items ∙ ap (λ (l : List Row). l ++ c.in-Some.leaf ∷ []) c.new-rows.ensures.items in
-    λ last is. subst (AreSpanLeaves (IsLeafIn s0.now.trees c.args.at) c.args.first.now last) (sym items) (only_spans (IsLeafIn s0.now.trees c.args.at) c.args.first.now c.args.end.now c.in-Some.leaf only last is)
+    λ last is. subst (AreSpanLeaves (IsLeafIn s0.now.trees c.args.at) c.args.first.now last) (sym {A = List Row} items) (only_spans (IsLeafIn s0.now.trees c.args.at) c.args.first.now c.args.end.now c.in-Some.leaf only last is)
 
 pub returns-in_default-clause-finds : goal.returns-in_default-clause-finds
 returns-in_default-clause-finds g c clean store =

@@ -1,4 +1,4 @@
-use Rattle.zeb_leaves.proofs.Cited.{◌∙◌, refl, pos, register_code, IsLeast, TellsKey, IsOfTermFrom}
+use Rattle.zeb_leaves.proofs.Cited.{rules, ◌∙◌, refl, pos, register_code, IsLeast, TellsKey, IsOfTermFrom}
 use Rattle.zeb_register.proofs.BoundColumns.{none_bound, number_bound, register_bound, value_bound}
 use Rattle.zeb_leaves.proofs.BehindStatements.{own_query, own_shown}
 use Rattle.zeb_leaves.proofs.InsideCalls.{finds, shows_last_so}
@@ -15,4 +15,4 @@ returns-clause-finds g c = finds (λ trees key. TellsKey (IsLeast (IsOfTermFrom 
     (value_bound c.params-to_sql-4.ensures refl (number_bound c.ranges.first refl c.params-to_sql-5.ensures none_bound))))
 
 pub returns-clause-call : goal.returns-clause-call
-returns-clause-call g c = c.last_shown.ensures.shows.call
+returns-clause-call g c = record { same = search rules; does = c.last_shown.ensures.shows.call }

@@ -1,4 +1,4 @@
-use Rattle.zeb_leaves.proofs.Cited.{◌∙◌, refl, pos, register_code, IsLeast, TellsKey, IsRowFrom}
+use Rattle.zeb_leaves.proofs.Cited.{rules, ◌∙◌, refl, pos, register_code, IsLeast, TellsKey, IsRowFrom}
 use Rattle.zeb_register.proofs.BoundColumns.{none_bound, register_bound, value_bound}
 use Rattle.zeb_leaves.proofs.BehindStatements.{from_query, from_shown}
 use Rattle.zeb_leaves.proofs.InsideCalls.{finds, shows_last_so}
@@ -15,4 +15,4 @@ returns-clause-finds g c = finds (λ trees key. TellsKey (IsLeast (IsRowFrom c.a
     (value_bound c.params-to_sql-4.ensures refl (value_bound c.params-to_sql-5.ensures refl none_bound))))
 
 pub returns-clause-call : goal.returns-clause-call
-returns-clause-call g c = c.last_shown.ensures.shows.call
+returns-clause-call g c = record { same = search rules; does = c.last_shown.ensures.shows.call }

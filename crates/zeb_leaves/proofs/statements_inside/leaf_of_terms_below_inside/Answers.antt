@@ -1,4 +1,4 @@
-use Rattle.zeb_leaves.proofs.Cited.{◌∙◌, refl, pos, register_code, IsGreatest, shown_greatest, below_query, below_shown, IsOfTermsBelow}
+use Rattle.zeb_leaves.proofs.Cited.{rules, ◌∙◌, refl, pos, register_code, IsGreatest, shown_greatest, below_query, below_shown, IsOfTermsBelow}
 use Rattle.zeb_register.proofs.BoundColumns.{none_bound, register_bound, value_bound}
 use Rattle.zeb_leaves.proofs.InsideCalls.{finds, shows_last_so}
 use Rattle.zeb_leaves.proofs.statements_inside.leaf_of_terms_below_inside.Goals as goal
@@ -13,4 +13,4 @@ returns-clause-finds g c = finds (λ trees found. IsGreatest (IsOfTermsBelow c.a
     (value_bound c.params-to_sql-4.ensures refl (value_bound c.params-to_sql-5.ensures refl none_bound))))
 
 pub returns-clause-call : goal.returns-clause-call
-returns-clause-call g c = c.last_shown.ensures.shows.call
+returns-clause-call g c = record { same = search rules; does = c.last_shown.ensures.shows.call }

@@ -1,4 +1,4 @@
-use Rattle.zeb_leaves.proofs.Cited.{◌∙◌, refl, pos, register_code, IsLeafIn, TellsSome, leaf_some, some_leaf, any_query, any_shown}
+use Rattle.zeb_leaves.proofs.Cited.{rules, ◌∙◌, refl, pos, register_code, IsLeafIn, TellsSome, leaf_some, some_leaf, any_query, any_shown}
 use Rattle.zeb_register.proofs.BoundColumns.{none_bound, register_bound, value_bound}
 use Rattle.zeb_leaves.proofs.InsideCalls.{finds, shown_some, shows_last_so}
 use Rattle.zeb_leaves.proofs.statements_inside.some_row_inside.Goals as goal
@@ -13,4 +13,4 @@ returns-clause-finds g c = finds (λ trees found. TellsSome (IsLeafIn trees c.ar
     (value_bound c.params-to_sql-4.ensures refl none_bound)))
 
 pub returns-clause-call : goal.returns-clause-call
-returns-clause-call g c = c.last_shown.ensures.shows.call
+returns-clause-call g c = record { same = search rules; does = c.last_shown.ensures.shows.call }

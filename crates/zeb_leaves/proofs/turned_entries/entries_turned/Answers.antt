@@ -1,4 +1,4 @@
-use Rattle.zeb_leaves.proofs.Cited.{subst, sym, entry_cmp, List, Entry, TurnAllEntries}
+use Rattle.zeb_leaves.proofs.Cited.{subst, sym, entry_cmp}
 use Rattle.std.specs.List.Sorted.{IsStrictlySortedBy}
 use Rattle.zeb_leaves.proofs.PieceChanges.{changes_are}
 use Rattle.zeb_leaves.proofs.turned_entries.entries_turned.Goals as goal

@@ -1,4 +1,4 @@
-use Rattle.zeb_leaves.proofs.Cited.{◌∙◌, ◌+◌, ap, arith, blocks_tree, length, refl, state, sym, IsStore, Database, on_ok_so, leaves_still, more_leaves, KeyChanges}
+use Rattle.zeb_leaves.proofs.Cited.{rules, ◌∙◌, ◌+◌, ap, arith, blocks_tree, length, refl, state, sym, IsStore, Database, on_ok_so, leaves_still, more_leaves, KeyChanges}
 use Rattle.zeb_leaves.proofs.LastTold.{some_there}
 use Rattle.zeb_leaves.proofs.OneKey.{one_answered, one_run}
 use Rattle.zeb_leaves.proofs.HandedOn.{does_none, failed_inside, untouched_inside}
@@ -20,7 +20,7 @@ pub returns-then-is_empty-clause-work : goal.returns-then-is_empty-clause-work
 returns-then-is_empty-clause-work g c clean inside store =
     let s0 = state g.S.Store c.args.tx.now.conn.now in
     let s1 = state g.S.Store c.nothing_inside.new.tx.conn.now in
-    leaves_still (length c.args.changes.now) s0.now.trees s1.now.trees c.args.work.now (ap (λ (d : Database). d.trees blocks_tree) (c.in_ok-nothing_inside.ensures.call.ok clean inside).now_is)
+    leaves_still (length c.args.changes.now) s0.now.trees s1.now.trees c.args.work.now (ap (λ (d : Database). d.trees blocks_tree) (c.in_ok-nothing_inside.ensures.call.does.ok clean inside).now_is)
 
 pub returns-clause-work : goal.returns-clause-work
 returns-clause-work g c clean inside store =
@@ -30,19 +30,19 @@ returns-clause-work g c clean inside store =
     on_ok_so c.run_changes.result _ _ (more_leaves (many + 0) many s0.now.trees s1.now.trees c.args.work.now c.run_changes.new.work (omega arith)) (c.run_changes.ensures.work clean inside store)
 
 pub returns-in_err-check_changes-clause-call : goal.returns-in_err-check_changes-clause-call
-returns-in_err-check_changes-clause-call g c = untouched_inside _ (state g.S.Store c.args.tx.now.conn.now) c.from_residual.result _ c.from_residual.ensures.1
+returns-in_err-check_changes-clause-call g c = record { same = search rules; does = untouched_inside _ (state g.S.Store c.args.tx.now.conn.now) c.from_residual.result _ c.from_residual.ensures.1 }
 
 pub returns-in_err-check_changes-clause-work : goal.returns-in_err-check_changes-clause-work
 returns-in_err-check_changes-clause-work g c clean inside store = does_none _ c.from_residual.result _ c.from_residual.ensures.1
 
 pub returns-in_err-nothing_inside-clause-call : goal.returns-in_err-nothing_inside-clause-call
-returns-in_err-nothing_inside-clause-call g c = failed_inside _ _ _ _ c.from_residual-in_err-nothing_inside.result _ _ c.in_err-nothing_inside.ensures.call c.from_residual-in_err-nothing_inside.ensures.1
+returns-in_err-nothing_inside-clause-call g c = record { same = search rules; does = failed_inside _ _ _ _ c.from_residual-in_err-nothing_inside.result _ _ c.in_err-nothing_inside.ensures.call.does c.from_residual-in_err-nothing_inside.ensures.1 }
 
 pub returns-in_err-nothing_inside-clause-work : goal.returns-in_err-nothing_inside-clause-work
 returns-in_err-nothing_inside-clause-work g c clean inside store = does_none _ c.from_residual-in_err-nothing_inside.result _ c.from_residual-in_err-nothing_inside.ensures.1
 
 pub returns-then-is_empty-clause-call : goal.returns-then-is_empty-clause-call
-returns-then-is_empty-clause-call g c = read_goes_on _ _ _ tt c.in_ok-nothing_inside.ensures.call
+returns-then-is_empty-clause-call g c = record { same = search rules; does = read_goes_on _ _ _ tt c.in_ok-nothing_inside.ensures.call.does }
 
 pub returns-clause-call : goal.returns-clause-call
-returns-clause-call g c = c.run_changes.ensures.call
+returns-clause-call g c = record { same = search rules; does = c.run_changes.ensures.call.does }

@@ -1,4 +1,4 @@
-use Rattle.zeb_leaves.proofs.Cited.{HasCleanDisk, ◌≤◌, List, arith, length, state, subst, sym, IsStore, Database, ArePieces, on_ok_so, store_same, more_leaves, Answers, packed_leaves, IsRunRefusedAs, PutsKeys, changes_in, WorksOnLeaves, KeyChanges}
+use Rattle.zeb_leaves.proofs.Cited.{rules, HasCleanDisk, ◌≤◌, List, arith, length, state, subst, sym, IsStore, Database, ArePieces, on_ok_so, store_same, more_leaves, Answers, packed_leaves, IsRunRefusedAs, PutsKeys, changes_in, WorksOnLeaves, KeyChanges}
 use Rattle.zeb_leaves.proofs.CountedLeaves.{pieces_few}
 use Rattle.zeb_leaves.proofs.PiecesOfRuns.{run_answered}
 use Rattle.zeb_leaves.proofs.TurningCalls.{reads_then_goes}
@@ -9,7 +9,7 @@ pub pieces_turned-requires : goal.pieces_turned-requires
 pieces_turned-requires g c = subst ArePieces (sym c.deref.ensures.value) c.in_ok-pieces.ensures.pieces
 
 pub returns-clause-call : goal.returns-clause-call
-returns-clause-call g c = reads_then_goes _ _ _ _ c.pieces_turned.result c.in_ok-alloc.ensures.call c.pieces_turned.ensures.call
+returns-clause-call g c = record { same = search rules; does = reads_then_goes _ _ _ _ c.pieces_turned.result c.in_ok-alloc.ensures.call.does c.pieces_turned.ensures.call.does }
 
 pub returns-clause-units : goal.returns-clause-units
 returns-clause-units g c clean inside store =
@@ -18,8 +18,8 @@ returns-clause-units g c clean inside store =
     let s2 = state g.S.Store c.pieces_turned.new.tx.conn.now in
     let db = c.args.db.0 in
     let pieces = c.in_ok-pieces.pieces.items in
-    let clean1 : HasCleanDisk s1 = omega (arith, c.pieces_turned.ensures.call.crash.clean) in
-    let read = c.in_ok-alloc.ensures.call.ok clean1 inside in
+    let clean1 : HasCleanDisk s1 = omega (arith, c.pieces_turned.ensures.call.does.crash.clean) in
+    let read = c.in_ok-alloc.ensures.call.does.ok clean1 inside in
     let told = c.pieces_turned.ensures.units clean read.mode (store_same s0 s1 read.now_is store) in
     let here = subst (λ (l : List KeyChanges). Answers (IsRunRefusedAs packed_leaves db l s1.now.trees) (λ done. IsStore s2 × PutsKeys packed_leaves db l s1.now.trees s2.now.trees) c.pieces_turned.result) c.deref.ensures.value told in
     run_answered db c.args.run.now pieces c.in_ok-pieces.ensures.parts c.in_ok-pieces.ensures.pieces s0.now.trees s2.now.trees (IsStore s2) c.pieces_turned.result
@@ -32,8 +32,8 @@ returns-clause-work g c clean inside store =
     let s2 = state g.S.Store c.pieces_turned.new.tx.conn.now in
     let run = c.args.run.now in
     let cut = c.deref.result.now in
-    let clean1 : HasCleanDisk s1 = omega (arith, c.pieces_turned.ensures.call.crash.clean) in
-    let read = c.in_ok-alloc.ensures.call.ok clean1 inside in
+    let clean1 : HasCleanDisk s1 = omega (arith, c.pieces_turned.ensures.call.does.crash.clean) in
+    let read = c.in_ok-alloc.ensures.call.does.ok clean1 inside in
     let few : length cut ≤ changes_in run = subst (λ (l : List KeyChanges). length l ≤ changes_in run) (sym c.deref.ensures.value) (pieces_few run c.in_ok-pieces.pieces.items c.in_ok-pieces.ensures.parts c.in_ok-pieces.ensures.pieces.each) in
     on_ok_so c.pieces_turned.result _ _
     (λ works. more_leaves (length cut) (changes_in run) s0.now.trees s2.now.trees c.args.work.now c.pieces_turned.new.work few
@@ -41,19 +41,19 @@ returns-clause-work g c clean inside store =
     (c.pieces_turned.ensures.work clean read.mode (store_same s0 s1 read.now_is store))
 
 pub returns-in_err-alloc-clause-call : goal.returns-in_err-alloc-clause-call
-returns-in_err-alloc-clause-call g c = failed_inside _ _ _ _ c.from_residual.result _ _ c.in_err-alloc.ensures.call c.from_residual.ensures.1
+returns-in_err-alloc-clause-call g c = record { same = search rules; does = failed_inside _ _ _ _ c.from_residual.result _ _ c.in_err-alloc.ensures.call.does c.from_residual.ensures.1 }
 
 pub returns-in_err-alloc-clause-work : goal.returns-in_err-alloc-clause-work
 returns-in_err-alloc-clause-work g c clean inside store = does_none _ c.from_residual.result _ c.from_residual.ensures.1
 
 pub returns-in_err-check_run-clause-call : goal.returns-in_err-check_run-clause-call
-returns-in_err-check_run-clause-call g c = later_inside _ _ _ _ c.from_residual-in_err-check_run.result _ c.in_ok-alloc.ensures.call c.from_residual-in_err-check_run.ensures.1
+returns-in_err-check_run-clause-call g c = record { same = search rules; does = later_inside _ _ _ _ c.from_residual-in_err-check_run.result _ c.in_ok-alloc.ensures.call.does c.from_residual-in_err-check_run.ensures.1 }
 
 pub returns-in_err-check_run-clause-work : goal.returns-in_err-check_run-clause-work
 returns-in_err-check_run-clause-work g c clean inside store = does_none _ c.from_residual-in_err-check_run.result _ c.from_residual-in_err-check_run.ensures.1
 
 pub returns-in_err-pieces-clause-call : goal.returns-in_err-pieces-clause-call
-returns-in_err-pieces-clause-call g c = later_inside _ _ _ _ c.from_residual-in_err-pieces.result _ c.in_ok-alloc.ensures.call c.from_residual-in_err-pieces.ensures.1
+returns-in_err-pieces-clause-call g c = record { same = search rules; does = later_inside _ _ _ _ c.from_residual-in_err-pieces.result _ c.in_ok-alloc.ensures.call.does c.from_residual-in_err-pieces.ensures.1 }
 
 pub returns-in_err-pieces-clause-work : goal.returns-in_err-pieces-clause-work
 returns-in_err-pieces-clause-work g c clean inside store = does_none _ c.from_residual-in_err-pieces.result _ c.from_residual-in_err-pieces.ensures.1

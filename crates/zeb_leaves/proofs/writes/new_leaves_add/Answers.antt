@@ -18,22 +18,22 @@ loop-leaf-init g c =
 
 pub loop-leaf-preserved : goal.loop-leaf-preserved
 loop-leaf-preserved g c = record {
-  same = c.in_ok-new_leaf_add.ensures.same ∙ c.loop-leaf.invariant.same;
-  crash = quiet_then _ _ _ c.loop-leaf.invariant.crash c.new_leaf_add.ensures.call.crash;
+  same = c.in_ok-new_leaf_add.ensures.call.same ∙ c.loop-leaf.invariant.same;
+  crash = quiet_then _ _ _ c.loop-leaf.invariant.crash c.new_leaf_add.ensures.call.does.crash;
   stays = λ clean inside.
-      let before = c.loop-leaf.invariant.stays (omega (arith, c.new_leaf_add.ensures.call.crash.clean)) inside in stays_then _ _ _ before (c.in_ok-new_leaf_add.ensures.call.ok clean before.inside).on;
+      let before = c.loop-leaf.invariant.stays (omega (arith, c.new_leaf_add.ensures.call.does.crash.clean)) inside in stays_then _ _ _ before (c.in_ok-new_leaf_add.ensures.call.does.ok clean before.inside).on;
   within = omega (arith, c.loop-leaf-test.true);
   rows = λ clean inside store.
-      let mid : HasCleanDisk (state g.S.Store c.loop-leaf.tx.conn.now) = omega (arith, c.new_leaf_add.ensures.call.crash.clean) in
+      let mid : HasCleanDisk (state g.S.Store c.loop-leaf.tx.conn.now) = omega (arith, c.new_leaf_add.ensures.call.does.crash.clean) in
       let before = c.loop-leaf.invariant.stays mid inside in
       let so_far = c.loop-leaf.invariant.rows mid inside store in
       let one = c.in_ok-new_leaf_add.ensures.rows clean before.inside (c.loop-leaf.invariant.put mid inside store).layout in
       omega (arith, so_far, one);
   put = λ clean inside store.
-      let mid : HasCleanDisk (state g.S.Store c.loop-leaf.tx.conn.now) = omega (arith, c.new_leaf_add.ensures.call.crash.clean) in
+      let mid : HasCleanDisk (state g.S.Store c.loop-leaf.tx.conn.now) = omega (arith, c.new_leaf_add.ensures.call.does.crash.clean) in
       let before = c.loop-leaf.invariant.stays mid inside in
       let put' = c.loop-leaf.invariant.put mid inside store in
-      gains_more c.args.at c.args.leaves.now c.loop-leaf.leaf-index c.leaf-item.result _ _ _ c.loop-leaf-test.true c.leaf-item.is put' ((c.in_ok-new_leaf_add.ensures.call.ok clean before.inside).rows put'.layout);
+      gains_more c.args.at c.args.leaves.now c.loop-leaf.leaf-index c.leaf-item.result _ _ _ c.loop-leaf-test.true c.leaf-item.is put' ((c.in_ok-new_leaf_add.ensures.call.does.ok clean before.inside).rows put'.layout);
 }
 
 pub new_leaf_add-requires : goal.new_leaf_add-requires

@@ -1,5 +1,5 @@
 -- The rows so far are put.
-use Rattle.zeb_packed.proofs.Cited.{◌≡◌, ◌≤◌, ◌-◌, IsTrue, length, map, take, state, HasCleanDisk, Survives, GoesOn, Changes, IsStore, dict_tree, GainsAll, new_count_row}
+use Rattle.zeb_packed.proofs.Cited.{Ok, GoesOnOpenOf, Error, ◌≤◌, ◌-◌, IsTrue, length, map, take, state, HasCleanDisk, Changes, IsStore, dict_tree, GainsAll, new_count_row}
 use Rattle.zeb_packed.proofs.held_rows.counts_put.Given as goal
 
 abbrev pub invariant-loop-done : goal.invariant-loop-done
@@ -7,10 +7,8 @@ invariant-loop-done g l =
     let old = state g.S.Store l.fn.tx.conn.now in
     let now = state g.S.Store l.tx.conn.now in
     record {
-      same : l.tx.conn.ghost_name ≡ l.fn.tx.conn.ghost_name;
+      call : GoesOnOpenOf {A = Unit {0}} {E = Error} g.S.Store l.fn.tx.conn l.tx.conn (Ok tt);
       within : l.done ≤ length l.counts;
-      crash : Survives old now (λ _. ⊥);
-      on : HasCleanDisk now → IsTrue old.in_transaction → IsTrue old.is_open → GoesOn old now;
       put : HasCleanDisk now → IsTrue old.in_transaction → IsTrue old.is_open → IsStore old → Changes dict_tree (GainsAll (map (new_count_row l.db.0) (take l.done l.counts))) old now;
     }
 

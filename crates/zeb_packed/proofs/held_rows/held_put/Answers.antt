@@ -1,40 +1,13 @@
-use Rattle.zeb_packed.proofs.Cited.{List, arith, map, rules, subst, sym, state, HasCleanDisk, Changes, blocks_tree, dict_tree, goes_keeps, goes_then, on_err, quiet_then, refused_so, AreApart, AreLacking, GainsAll, SomeStands, new_block_row, new_count_row, NewBlock, NewCount}
+use Rattle.zeb_packed.proofs.Cited.{List, arith, map, rules, subst, sym, state, HasCleanDisk, Changes, blocks_tree, dict_tree, refused_so, AreApart, AreLacking, GainsAll, SomeStands, new_block_row, new_count_row, NewBlock, NewCount}
 use Rattle.zeb_packed.proofs.HeldPuts.{held_answers}
+use Rattle.zeb_packed.proofs.OpenCalls.{open_err, open_ok, open_then}
 use Rattle.zeb_packed.proofs.held_rows.held_put.Goals as goal
 
 pub returns-clause-call : goal.returns-clause-call
-returns-clause-call g c opened =
-    let first = state g.S.Store c.args.tx.now.conn.now in
-    let mid = state g.S.Store c.blocks_put.new.tx.conn.now in
-    let last = state g.S.Store c.counts_put.new.tx.conn.now in
-    record {
-      ok = λ clean inside.
-          let was : HasCleanDisk mid = omega (arith, c.counts_put.ensures.crash.clean) in
-          let goes = (c.in_ok-blocks_put.ensures.call opened).ok was inside in
-          goes_then first mid last goes ((c.in_ok-counts_put.ensures.call goes.is_open).ok clean goes.mode);
-      err = λ clean inside. tt;
-      crash = quiet_then first mid last c.blocks_put.ensures.crash c.counts_put.ensures.crash;
-    }
+returns-clause-call g c = open_ok (open_then c.in_ok-blocks_put.ensures.call c.in_ok-counts_put.ensures.call)
 
 pub returns-in_err-counts_put-clause-call : goal.returns-in_err-counts_put-clause-call
-returns-in_err-counts_put-clause-call g c opened =
-    let first = state g.S.Store c.args.tx.now.conn.now in
-    let mid = state g.S.Store c.blocks_put.new.tx.conn.now in
-    let last = state g.S.Store c.counts_put.new.tx.conn.now in
-    record {
-      ok = search rules;
-      err = λ clean inside.
-          let was : HasCleanDisk mid = omega (arith, c.counts_put.ensures.crash.clean) in
-          let goes = (c.in_ok-blocks_put.ensures.call opened).ok was inside in
-          on_err c.from_residual-in_err-counts_put.result _ (goes_keeps first mid last goes ((c.in_err-counts_put.ensures.call goes.is_open).err clean goes.mode));
-      crash = quiet_then first mid last c.blocks_put.ensures.crash c.counts_put.ensures.crash;
-    }
-
-pub returns-clause-crash : goal.returns-clause-crash
-returns-clause-crash g c = quiet_then _ _ _ c.blocks_put.ensures.crash c.counts_put.ensures.crash
-
-pub returns-in_err-counts_put-clause-crash : goal.returns-in_err-counts_put-clause-crash
-returns-in_err-counts_put-clause-crash g c = quiet_then _ _ _ c.blocks_put.ensures.crash c.counts_put.ensures.crash
+returns-in_err-counts_put-clause-call g c = open_err (open_then c.in_ok-blocks_put.ensures.call c.in_err-counts_put.ensures.call) c.from_residual-in_err-counts_put.result (search rules)
 
 pub returns-clause-put : goal.returns-clause-put
 returns-clause-put g c opened apart clean inside store =
@@ -42,8 +15,8 @@ returns-clause-put g c opened apart clean inside store =
     let mid = state g.S.Store c.blocks_put.new.tx.conn.now in
     let last = state g.S.Store c.counts_put.new.tx.conn.now in
     let db = c.args.db.0 in
-    let was : HasCleanDisk mid = omega (arith, c.counts_put.ensures.crash.clean) in
-    let goes = (c.in_ok-blocks_put.ensures.call opened).ok was inside in
+    let was : HasCleanDisk mid = omega (arith, c.counts_put.ensures.call.crash.clean) in
+    let goes = (c.in_ok-blocks_put.ensures.call.does opened).ok was inside in
     let blocks = c.deref.ensures.value in
     let put = c.in_ok-blocks_put.ensures.put opened (subst AreApart (sym blocks) apart) was inside store in
     held_answers db c.args.held.now first mid last
@@ -58,8 +31,4 @@ returns-in_err-blocks_put-clause-put g c opened apart clean inside store =
     (λ told. subst (λ (l : List NewBlock). SomeStands c.args.db.0 l trees) blocks (c.in_err-blocks_put.ensures.put opened (subst AreApart (sym blocks) apart) clean inside store told))
 
 pub returns-in_err-blocks_put-clause-call : goal.returns-in_err-blocks_put-clause-call
-returns-in_err-blocks_put-clause-call g c opened = record {
-  ok = search rules;
-  err = λ clean inside. on_err c.from_residual.result _ ((c.in_err-blocks_put.ensures.call opened).err clean inside);
-  crash = c.blocks_put.ensures.crash;
-}
+returns-in_err-blocks_put-clause-call g c = open_err c.in_err-blocks_put.ensures.call c.from_residual.result (search rules)

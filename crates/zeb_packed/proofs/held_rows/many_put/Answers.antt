@@ -20,14 +20,17 @@ returns-in_err-all_absent-in-Err-clause-put g c clean inside store =
 
 pub returns-in_err-all_absent-in-Err-clause-call : goal.returns-in_err-all_absent-in-Err-clause-call
 returns-in_err-all_absent-in-Err-clause-call g c = record {
-  ok = search rules;
-  err = λ clean inside.
-      let first = state g.S.Store c.args.tx.now.conn.now in
-      let mid = state g.S.Store c.blocks_add.new.tx.conn.now in
-      let broken = c.breaks_rule.ensures.broken c.if-not-breaks_rule.false in
-      let looked = c.in_err-all_absent-in-Err.ensures in
-      let was : HasCleanDisk mid = omega (arith, looked.crash.clean) in
-      let reads = c.in-Err.ensures.violated was inside broken.0 broken.1 in
-      on_err _ _ (goes_keeps first mid _ (reads_goes first mid reads) (looked.keeps clean reads.mode));
-  crash = search rules;
+  same = search rules;
+  does = record {
+    ok = search rules;
+    err = λ clean inside.
+        let first = state g.S.Store c.args.tx.now.conn.now in
+        let mid = state g.S.Store c.blocks_add.new.tx.conn.now in
+        let broken = c.breaks_rule.ensures.broken c.if-not-breaks_rule.false in
+        let looked = c.in_err-all_absent-in-Err.ensures in
+        let was : HasCleanDisk mid = omega (arith, looked.crash.clean) in
+        let reads = c.in-Err.ensures.violated was inside broken.0 broken.1 in
+        on_err _ _ (goes_keeps first mid _ (reads_goes first mid reads) (looked.keeps clean reads.mode));
+    crash = search rules;
+  };
 }

@@ -1,14 +1,11 @@
 use Rattle.zeb_packed.proofs.Cited.{◌≡◌, ◌++◌, [], ◌∷◌, Ok, Err, Result, KeyOf, pos, ap, inl, refl, subst, Blob, Int, state, IfOk-weaker, OnOk, IfOk, Alters, key_row, Gains, blocks_tree, changes_so, column_is, on_ok_so, Answers, IfDamaged, Damaged, RegFault, GainsAll, new_block_row}
 use Rattle.zeb_packed.proofs.HeldPuts.{gains_one, lacks_stored, one_lacking}
 use Rattle.zeb_packed.proofs.KeyRows.{absent_told}
+use Rattle.zeb_packed.proofs.OpenCalls.{works_so}
 use Rattle.zeb_packed.proofs.held_rows.one_put.Goals as goal
 
 pub returns-clause-call : goal.returns-clause-call
-returns-clause-call g c = record {
-  ok = λ clean inside. IfOk-weaker c.block_put.result _ _ (λ _ added. added.on) (c.block_put.ensures.call.ok clean inside);
-  err = c.block_put.ensures.call.err;
-  crash = c.block_put.ensures.call.crash;
-}
+returns-clause-call g c = works_so c.block_put.ensures.call (λ x inside added. added.on)
 
 both : {A : Type 0} (r : Result A RegFault) (P : A → Type 0) (Q D : Type 0) → IfOk r P → OnOk r Q → (r ≡ Err Damaged → D) → Answers (IfDamaged D) (λ x. P x × Q) r
 both (Ok x) P Q D put absent honest = (put, absent)
@@ -26,6 +23,6 @@ returns-clause-put g c clean inside store =
     both c.block_put.result _ _ _ (IfOk-weaker c.block_put.result _ _ (λ _ put.
     let added = subst (λ n. Alters blocks_tree (Gains (key_row db key ++ Int n ∷ Blob c.deref.result.now ∷ [])) first second) number put in
     let row = subst (λ b. Alters blocks_tree (Gains (key_row db key ++ Int (pos one.block) ∷ Blob b ∷ [])) first second) c.deref.ensures.value added in
-    changes_so blocks_tree (Gains (new_block_row db one)) (GainsAll (new_block_row db one ∷ [])) first second (gains_one (new_block_row db one) blocks_tree first.now.trees second.now.trees) (row.rows store)) (c.block_put.ensures.call.ok clean inside))
+    changes_so blocks_tree (Gains (new_block_row db one)) (GainsAll (new_block_row db one ∷ [])) first second (gains_one (new_block_row db one) blocks_tree first.now.trees second.now.trees) (row.rows store)) (c.block_put.ensures.call.does.ok clean inside))
     (on_ok_so c.block_put.result _ _ (λ told. one_lacking db one first.now.trees (absent_told db key one.block _ first.now first.now number refl told)) (c.block_put.ensures.absent clean inside store))
     (λ is. (one, inl refl, λ lacks. c.block_put.ensures.honest clean inside store is (lacks_stored db at one.block _ first.now.trees refl number lacks)))

@@ -1,5 +1,6 @@
-use Rattle.zeb_packed.proofs.Cited.{arith, state, HasCleanDisk, goes_keeps, goes_then, on_err_so, quiet_then, reads_goes, store_same, IfOk-weaker}
+use Rattle.zeb_packed.proofs.Cited.{arith, state, HasCleanDisk, store_same}
 use Rattle.zeb_packed.proofs.KnownKeys.{known_turns}
+use Rattle.zeb_packed.proofs.OpenCalls.{open_of, reads_then}
 use Rattle.zeb_packed.proofs.held_runs.key_turned.Goals as goal
 
 pub returns-clause-turned : goal.returns-clause-turned
@@ -7,8 +8,8 @@ returns-clause-turned g c opened clean inside store told =
     let first = state g.S.Store c.args.tx.now.conn.now in
     let mid = state g.S.Store c.key_known.new.tx.conn.now in
     let last = state g.S.Store c.known_turned.new.tx.conn.now in
-    let was : HasCleanDisk mid = omega (arith, c.known_turned.ensures.crash.clean) in
-    let reads = c.in_ok-known.ensures.call.ok was inside in
+    let was : HasCleanDisk mid = omega (arith, c.known_turned.ensures.call.crash.clean) in
+    let reads = c.in_ok-known.ensures.call.does.ok was inside in
     known_turns c.args.db.0 c.args.key.now c.args.changes.now c.in_ok-known.known.records first mid last _ _ c.known_turned.result reads.now_is (c.in_ok-known.ensures.knows was inside store)
     (c.known_turned.ensures.turned reads.is_open clean reads.mode (store_same first mid reads.now_is store))
 
@@ -16,18 +17,4 @@ pub returns-then-are_new-clause-turned : goal.returns-then-are_new-clause-turned
 returns-then-are_new-clause-turned g c opened clean inside store told = c.new_turned.ensures.turned opened clean inside store (told c.if-are_new.true)
 
 pub returns-clause-call : goal.returns-clause-call
-returns-clause-call g c opened =
-    let first = state g.S.Store c.args.tx.now.conn.now in
-    let mid = state g.S.Store c.key_known.new.tx.conn.now in
-    let last = state g.S.Store c.known_turned.new.tx.conn.now in
-    record {
-      ok = λ clean inside.
-          let was : HasCleanDisk mid = omega (arith, c.known_turned.ensures.crash.clean) in
-          let reads = c.in_ok-known.ensures.call.ok was inside in
-          IfOk-weaker c.known_turned.result _ _ (λ _ done. goes_then first mid last (reads_goes first mid reads) done) ((c.known_turned.ensures.call reads.is_open).ok clean reads.mode);
-      err = λ clean inside.
-          let was : HasCleanDisk mid = omega (arith, c.known_turned.ensures.crash.clean) in
-          let reads = c.in_ok-known.ensures.call.ok was inside in
-          on_err_so c.known_turned.result _ _ (λ kept. goes_keeps first mid last (reads_goes first mid reads) kept) ((c.known_turned.ensures.call reads.is_open).err clean reads.mode);
-      crash = quiet_then first mid last c.key_known.ensures.call.crash c.known_turned.ensures.crash;
-    }
+returns-clause-call g c = open_of (reads_then c.in_ok-known.ensures.call c.known_turned.ensures.call) (λ x opened goes. goes)

@@ -1,18 +1,16 @@
-use Rattle.zeb_packed.proofs.Cited.{◌≡◌, ◌∙◌, ◌+◌, ◌*◌, Works, length, suc, ◌∷◌, ap, arith, drop, drop-cons, inl, refl, rules, subst, sym, state, HasCleanDisk, goes_keeps, goes_then, on_err, quiet_then, refused_so, AreToldNew, fault_met, quiet_still, rise_left, packed_blocks, NumbersRise, KeyChanges}
+use Rattle.zeb_packed.proofs.Cited.{◌≡◌, ◌∙◌, ◌+◌, ◌*◌, Works, length, suc, ◌∷◌, ap, arith, drop, drop-cons, inl, refl, rules, subst, sym, state, HasCleanDisk, refused_so, AreToldNew, fault_met, rise_left, packed_blocks, NumbersRise, KeyChanges}
 use Rattle.sqlite_trees.proofs.ListLemmas.{all-get_or}
-use Rattle.zeb_packed.proofs.HeldPuts.{goes_still}
 use Rattle.zeb_packed.proofs.HeldRuns.{HoldsSoFar, holds_all, holds_none, key_more, key_refused}
 use Rattle.zeb_packed.proofs.NewKeys.{told_more}
 use Rattle.zeb_register.proofs.RunCounts.{none_run, work_all, work_begun, work_more}
+use Rattle.zeb_packed.proofs.OpenCalls.{open_err, open_ok, open_still, open_then}
 use Rattle.zeb_packed.proofs.held_runs.keys_turned.Goals as goal
 
 pub loop-one-init : goal.loop-one-init
 loop-one-init g c =
     let first = state g.S.Store c.args.tx.now.conn.now in
     record {
-      same = refl;
-      crash = quiet_still first;
-      on = λ clean inside opened. goes_still first inside opened;
+      call = open_still c.args.tx.now.conn;
       holds = λ clean inside opened store told. (store, told, holds_none c.args.db.0 c.args.run.now first.now.trees _ c.new-held.ensures.blocks c.new-held.ensures.counts);
       work = work_begun packed_blocks 1 c.args.run.now first.now.trees first.now.trees c.args.work.now refl;
     }
@@ -37,15 +35,10 @@ loop-one-preserved g c =
     let is : drop i xs ≡ x ∷ drop (suc i) xs = drop-cons xs i x c.loop-one-test.true ∙ ap (λ y. y ∷ drop (suc i) xs) (sym c.one-item.is) in
     let more : suc i ≡ i + 1 = omega arith in
     record {
-      same = it.same ∙ so_far.same;
-      crash = quiet_then first mid last so_far.crash c.key_turned.ensures.crash;
-      on = λ clean inside opened.
-          let was : HasCleanDisk mid = omega (arith, c.key_turned.ensures.crash.clean) in
-          let on = so_far.on was inside opened in
-          goes_then first mid last on ((it.call on.is_open).ok clean on.mode);
+      call = open_then so_far.call it.call;
       holds = λ clean inside opened store told.
-          let was : HasCleanDisk mid = omega (arith, c.key_turned.ensures.crash.clean) in
-          let on = so_far.on was inside opened in
+          let was : HasCleanDisk mid = omega (arith, c.key_turned.ensures.call.crash.clean) in
+          let on = (so_far.call.does opened).ok was inside in
           let before = so_far.holds was inside opened store told in
           let left = subst (λ l. AreToldNew c.args.of_run.are_new db l mid.now.trees) is before.1 in
           let turned = it.turned on.is_open clean on.mode before.0 (left x (inl refl)) in
@@ -62,7 +55,7 @@ loop-one-preserved g c =
     }
 
 pub returns-clause-call : goal.returns-clause-call
-returns-clause-call g c opened = record { ok = λ clean inside. c.loop-one.invariant.on clean inside opened; err = search rules; crash = c.loop-one.invariant.crash }
+returns-clause-call g c = open_ok c.loop-one.invariant.call
 
 pub returns-clause-holds : goal.returns-clause-holds
 returns-clause-holds g c opened clean inside store told =
@@ -77,19 +70,7 @@ pub returns-clause-work : goal.returns-clause-work
 returns-clause-work g c = work_all packed_blocks 1 c.args.run.now c.loop-one.one-index (state g.S.Store c.args.tx.now.conn.now).now.trees (state g.S.Store c.loop-one.tx.conn.now).now.trees c.args.work.now c.loop-one.work (none_run c.loop-one.one-index c.args.run.now c.loop-one-test.false) c.loop-one.invariant.work
 
 pub returns-in_err-key_turned-clause-call : goal.returns-in_err-key_turned-clause-call
-returns-in_err-key_turned-clause-call g c opened = record {
-  ok = search rules;
-  err = λ clean inside.
-      let first = state g.S.Store c.args.tx.now.conn.now in
-      let mid = state g.S.Store c.loop-one.tx.conn.now in
-      let was : HasCleanDisk mid = omega (arith, c.key_turned.ensures.crash.clean) in
-      let on = c.loop-one.invariant.on was inside opened in
-      on_err c.from_residual.result _ (goes_keeps first mid _ on ((c.in_err-key_turned.ensures.call on.is_open).err clean on.mode));
-  crash = quiet_then _ _ _ c.loop-one.invariant.crash c.key_turned.ensures.crash;
-}
-
-pub returns-in_err-key_turned-clause-crash : goal.returns-in_err-key_turned-clause-crash
-returns-in_err-key_turned-clause-crash g c = quiet_then _ _ _ c.loop-one.invariant.crash c.key_turned.ensures.crash
+returns-in_err-key_turned-clause-call g c = open_err (open_then c.loop-one.invariant.call c.in_err-key_turned.ensures.call) c.from_residual.result (search rules)
 
 pub returns-in_err-key_turned-clause-holds : goal.returns-in_err-key_turned-clause-holds
 returns-in_err-key_turned-clause-holds g c opened clean inside store told =
@@ -101,9 +82,9 @@ returns-in_err-key_turned-clause-holds g c opened clean inside store told =
     let x = c.one-item.result in
     let fault = c.in_err-key_turned.field-0.0 in
     let so_far = c.loop-one.invariant in
-    let was : HasCleanDisk mid = omega (arith, c.key_turned.ensures.crash.clean) in
+    let was : HasCleanDisk mid = omega (arith, c.key_turned.ensures.call.crash.clean) in
     let is : drop i xs ≡ x ∷ drop (suc i) xs = drop-cons xs i x c.loop-one-test.true ∙ ap (λ y. y ∷ drop (suc i) xs) (sym c.one-item.is) in
-    let on = so_far.on was inside opened in
+    let on = (so_far.call.does opened).ok was inside in
     let before = so_far.holds was inside opened store told in
     let left = subst (λ l. AreToldNew c.args.of_run.are_new db l mid.now.trees) is before.1 in
     let here = subst (λ l. HoldsSoFar db xs l first.now.trees mid.now.trees c.loop-one.held) is before.2 in

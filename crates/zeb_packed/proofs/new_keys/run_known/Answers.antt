@@ -8,6 +8,6 @@ returns-clause-told g c clean inside store one here is =
     let first = c.index-run-0.result in
     let some : run ≢ [] = search rules in
     let none : c.in_ok-rows.rows.items ≡ [] = search rules in
-    let read = (c.in_ok-rows.ensures.call.ok clean inside).1 store in
+    let read = (c.in_ok-rows.ensures.call.does.ok clean inside).1 store in
     keys_new c.args.db.0 (get_or run 0 first).key.now run first (state g.S.Store c.args.tx.now.conn.now).now.trees read.0 c.in_ok-rows.rows.items some
     c.index-run-0.is (ap (λ (x : KeyChanges). x.key.now) c.index-run-0.is) c.requires read.1 read.2 none (c.are_of_register-are_new.ensures is) one here

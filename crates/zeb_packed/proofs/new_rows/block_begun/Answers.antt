@@ -1,4 +1,4 @@
-use Rattle.zeb_packed.proofs.Cited.{◌∙◌, sym, subst, LiesIn, units_of}
+use Rattle.zeb_packed.proofs.Cited.{◌∙◌, rules, sym, subst, LiesIn, units_of}
 use Rattle.zeb_packed.proofs.BegunKeys.{list_left}
 use Rattle.zeb_packed.proofs.PackedReads.{empty_lies}
 use Rattle.zeb_packed.proofs.UnitTurns.{turns_few}
@@ -12,5 +12,10 @@ spell-requires-clause-some c none =
     let after = c.in_ok-after.after in
     list_left c.args.run.now (units_of c.new.result.items c.args.known.records) after.list.items after.records c.requires.some c.requires.leaves c.in_ok-after.ensures.turned (sym c.deref.ensures.value ∙ none)
 
-pub returns-clause-few : goal.returns-clause-few
-returns-clause-few c = turns_few c.args.run.now (units_of c.new.result.items c.args.known.records) (units_of c.in_ok-after.after.list.items c.in_ok-after.after.records) c.in_ok-after.ensures.turned c.requires.few
+pub returns : goal.returns
+returns c = record {
+  own = search rules;
+  spells = search rules;
+  few = turns_few c.args.run.now (units_of c.new.result.items c.args.known.records) (units_of c.in_ok-after.after.list.items c.in_ok-after.after.records) c.in_ok-after.ensures.turned c.requires.changes.few;
+  honest = search rules;
+}

@@ -9,7 +9,7 @@ loop-done-init c = record {
   within = omega arith;
   few = omega (arith, c.requires.none);
   begun = subst (AreBegun c.args.key.now c.args.changes.now c.args.known c.args.known 0) (sym c.new-blocks.ensures.items)
-      (begun_none c.args.key.now c.args.changes.now c.args.known (from_none c.args.known.clear_from c.args.changes.now c.requires.clear));
+      (begun_none c.args.key.now c.args.changes.now c.args.known (from_none c.args.known.clear_from c.args.changes.now (c.requires.clear.none c.requires.none)));
 }
 
 pub block_begun-requires-clause-some : goal.block_begun-requires-clause-some
@@ -29,7 +29,7 @@ returns-in_err-made-clause-damaged c told db trees allows =
     let blocks = c.loop-done.blocks.items in
     let both = run_allowed key xs c.args.known c.loop-done.known done (done + length (run xs done n)) block (run xs done n) blocks c.loop-done.invariant.begun front.inside front.some front.left db trees allows in
     let turns = none_allows db key block (run xs done n) c.loop-done.known.records (with_blocks db blocks trees) both.1 both.0 in
-    c.in_err-made.ensures.damaged (search rules) turns.0 turns.1
+    c.in_err-made.ensures.honest (search rules) turns.0 turns.1
 
 pub loop-done-smaller : goal.loop-done-smaller
 loop-done-smaller c =

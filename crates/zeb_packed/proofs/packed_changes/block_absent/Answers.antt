@@ -8,11 +8,11 @@ returns-in-Some-clause-honest g c clean inside store is =
     let trees = (state g.S.Store c.args.tx.now.conn.now).now.trees in
     let items = c.in_ok-rows.rows.items in
     let got : slice_get items 0 ≡ Some c.in-Some.field-0.now = sym (c.first.ensures.value ∙ ap (λ l. slice_get l 0) c.deref.ensures.value) ∙ ap option_copied c.in-Some.is in
-    block_is_there trees c.args.at _ c.args.number (column_is c.ranges.number refl) items c.in-Some.field-0.now ((c.in_ok-rows.ensures.call.ok clean inside).1 store) got
+    block_is_there trees c.args.at _ c.args.number (column_is c.ranges.number refl) items c.in-Some.field-0.now ((c.in_ok-rows.ensures.call.does.ok clean inside).1 store) got
 
 pub returns-clause-absent : goal.returns-clause-absent
 returns-clause-absent g c clean inside store =
     let trees = (state g.S.Store c.args.tx.now.conn.now).now.trees in
     let items = c.in_ok-rows.rows.items in
     let none : slice_get items 0 ≡ None = sym (c.first.ensures.value ∙ ap (λ l. slice_get l 0) c.deref.ensures.value) ∙ ap option_copied c.in-None.is in
-    absent_shown trees c.args.at _ c.args.number (column_is c.ranges.number refl) items ((c.in_ok-rows.ensures.call.ok clean inside).1 store) none
+    absent_shown trees c.args.at _ c.args.number (column_is c.ranges.number refl) items ((c.in_ok-rows.ensures.call.does.ok clean inside).1 store) none

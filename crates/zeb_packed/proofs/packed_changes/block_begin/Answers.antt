@@ -1,30 +1,25 @@
-use Rattle.zeb_packed.proofs.Cited.{◌∙◌, ◌++◌, [], ◌∷◌, refl, sym, subst, IfOk-weaker, Blob, Int, state, BlockSpells, Alters, key_row, Gains, blocks_tree, on_ok_so, column_is}
+use Rattle.zeb_packed.proofs.Cited.{◌∙◌, ◌++◌, [], ◌∷◌, refl, sym, subst, Blob, Int, state, BlockSpells, Alters, key_row, Gains, blocks_tree, on_ok_so, column_is}
 use Rattle.zeb_packed.proofs.KeyRows.{absent_told}
 use Rattle.zeb_packed.proofs.PackedWrites.{none_of, puts_inserted, puts_nothing}
+use Rattle.zeb_packed.proofs.OpenCalls.{works_so}
 use Rattle.zeb_packed.proofs.packed_changes.block_begin.Goals as goal
 
 pub returns-then-is_empty-clause-call : goal.returns-then-is_empty-clause-call
-returns-then-is_empty-clause-call g c = record {
-  ok = λ clean inside. let first = state g.S.Store c.args.tx.now.conn.now in
-      let second = state g.S.Store c.block_absent.new.tx.conn.now in
-      let none = none_of c.args.list.now (sym c.is_empty.ensures ∙ c.if-is_empty.true) in
-      IfOk-weaker c.block_absent.result _ _ (λ _ reads. puts_nothing c.args.db.0 c.args.key.now c.args.block c.args.list.now first second none reads inside) (c.block_absent.ensures.call.ok clean inside);
-  err = c.block_absent.ensures.call.err;
-  crash = c.block_absent.ensures.call.crash;
-}
+returns-then-is_empty-clause-call g c =
+    let first = state g.S.Store c.args.tx.now.conn.now in
+    let second = state g.S.Store c.block_absent.new.tx.conn.now in
+    let none = none_of c.args.list.now (sym c.is_empty.ensures ∙ c.if-is_empty.true) in
+    works_so c.block_absent.ensures.call (λ x inside reads. puts_nothing c.args.db.0 c.args.key.now c.args.block c.args.list.now first second none reads inside)
 
 pub returns-clause-call : goal.returns-clause-call
-returns-clause-call g c = record {
-  ok = λ clean inside. let first = state g.S.Store c.args.tx.now.conn.now in
-      let second = state g.S.Store c.block_put.new.tx.conn.now in
-      let key = c.args.key.now in
-      let bytes = c.deref.result.now in
-      let spells = subst (BlockSpells c.args.block c.args.list.now) (sym c.deref.ensures.value) c.in_ok-bytes.ensures in
-      IfOk-weaker c.block_put.result _ _ (λ _ put. puts_inserted c.args.db.0 key c.args.block c.args.list.now _ first second refl bytes spells
-      (subst (λ n. Alters blocks_tree (Gains (key_row c.args.db.0 key ++ Int n ∷ Blob bytes ∷ [])) first second) (column_is c.in_ok-number.ensures.ok.1 c.in_ok-number.ensures.ok.0) put)) (c.block_put.ensures.call.ok clean inside);
-  err = c.block_put.ensures.call.err;
-  crash = c.block_put.ensures.call.crash;
-}
+returns-clause-call g c =
+    let first = state g.S.Store c.args.tx.now.conn.now in
+    let second = state g.S.Store c.block_put.new.tx.conn.now in
+    let key = c.args.key.now in
+    let bytes = c.deref.result.now in
+    let spells = subst (BlockSpells c.args.block c.args.list.now) (sym c.deref.ensures.value) c.in_ok-bytes.ensures in
+    works_so c.block_put.ensures.call (λ x inside put. puts_inserted c.args.db.0 key c.args.block c.args.list.now _ first second refl bytes spells
+    (subst (λ n. Alters blocks_tree (Gains (key_row c.args.db.0 key ++ Int n ∷ Blob bytes ∷ [])) first second) (column_is c.in_ok-number.ensures.ok.1 c.in_ok-number.ensures.ok.0) put))
 
 pub returns-then-is_empty-clause-absent : goal.returns-then-is_empty-clause-absent
 returns-then-is_empty-clause-absent g c clean inside store =

@@ -11,7 +11,7 @@ rows_read : (g : given.Over) (c : In_ok-rows g) → HasCleanDisk (state g.S.Stor
     → IsListOf (IsRest blocks_tree (block_front c.args.db.0 c.args.key.now c.args.block) (state g.S.Store c.args.tx.now.conn.now).now.trees) c.in_ok-rows.rows.items
 rows_read g c clean inside store =
     numbered_rows (state g.S.Store c.args.tx.now.conn.now).now.trees blocks_tree c.args.db.0 c.args.key.now _ c.args.block (column_is c.in_ok-number.ensures.ok.1 c.in_ok-number.ensures.ok.0) c.in_ok-rows.rows.items
-    ((c.in_ok-rows.ensures.call.ok clean inside).1 store)
+    ((c.in_ok-rows.ensures.call.does.ok clean inside).1 store)
 
 pub returns-in-Some-clause-reads : goal.returns-in-Some-clause-reads
 returns-in-Some-clause-reads g c clean inside store =

@@ -7,7 +7,7 @@ pub returns-then-is_empty-clause-units : goal.returns-then-is_empty-clause-units
 returns-then-is_empty-clause-units g c clean inside store =
     let first = state g.S.Store c.args.tx.now.conn.now in
     let second = state g.S.Store c.nothing_inside.new.tx.conn.now in
-    let same = (c.in_ok-nothing_inside.ensures.call.ok clean inside).now_is in
+    let same = (c.in_ok-nothing_inside.ensures.call.does.ok clean inside).now_is in
     let none : c.args.changes.now ≡ [] = none_of c.args.changes.now (sym c.is_empty.ensures ∙ c.if-is_empty.true) in
     (store_same first second same store, subst (λ l. PutsAny packed_blocks c.args.db.0 c.args.key.now l first.now.trees second.now.trees) (sym none) (λ tree. ap (λ (d : Database). d.trees tree) same))
 

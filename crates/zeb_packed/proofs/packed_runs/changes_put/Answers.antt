@@ -1,31 +1,18 @@
-use Rattle.zeb_packed.proofs.Cited.{arith, rules, IfOk-weaker, state, HasCleanDisk, goes_keeps, goes_then, on_err_so, reads_goes, store_same, quiet_then, refused_so}
+use Rattle.zeb_packed.proofs.Cited.{arith, rules, state, HasCleanDisk, store_same, refused_so}
 use Rattle.zeb_packed.proofs.KnownKeys.{known_answers}
+use Rattle.zeb_packed.proofs.OpenCalls.{reads_then}
 use Rattle.zeb_packed.proofs.packed_runs.changes_put.Goals as goal
 
 pub returns-clause-call : goal.returns-clause-call
-returns-clause-call g c =
-    let first = state g.S.Store c.args.tx.now.conn.now in
-    let mid = state g.S.Store c.key_known.new.tx.conn.now in
-    let last = state g.S.Store c.known_put.new.tx.conn.now in
-    record {
-      ok = λ clean inside.
-          let was : HasCleanDisk mid = omega (arith, c.known_put.ensures.crash.clean) in
-          let reads = c.in_ok-known.ensures.call.ok was inside in
-          IfOk-weaker c.known_put.result _ _ (λ _ done. goes_then first mid last (reads_goes first mid reads) done) ((c.known_put.ensures.call reads.is_open).ok clean reads.mode);
-      err = λ clean inside.
-          let was : HasCleanDisk mid = omega (arith, c.known_put.ensures.crash.clean) in
-          let reads = c.in_ok-known.ensures.call.ok was inside in
-          on_err_so c.known_put.result _ _ (λ kept. goes_keeps first mid last (reads_goes first mid reads) kept) ((c.known_put.ensures.call reads.is_open).err clean reads.mode);
-      crash = quiet_then first mid last c.key_known.ensures.call.crash c.known_put.ensures.crash;
-    }
+returns-clause-call g c = reads_then c.in_ok-known.ensures.call c.known_put.ensures.call
 
 pub returns-clause-units : goal.returns-clause-units
 returns-clause-units g c clean inside store =
     let first = state g.S.Store c.args.tx.now.conn.now in
     let mid = state g.S.Store c.key_known.new.tx.conn.now in
     let last = state g.S.Store c.known_put.new.tx.conn.now in
-    let was : HasCleanDisk mid = omega (arith, c.known_put.ensures.crash.clean) in
-    let reads = c.in_ok-known.ensures.call.ok was inside in
+    let was : HasCleanDisk mid = omega (arith, c.known_put.ensures.call.crash.clean) in
+    let reads = c.in_ok-known.ensures.call.does.ok was inside in
     let counts = c.in_ok-known.ensures.knows was inside store in
     known_answers c.args.db.0 c.args.key.now c.args.changes.now c.in_ok-known.known.records first mid last c.known_put.result reads.now_is counts
     (c.known_put.ensures.units reads.is_open clean reads.mode (store_same first mid reads.now_is store))

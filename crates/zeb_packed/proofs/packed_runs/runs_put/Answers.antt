@@ -60,30 +60,28 @@ loop-done-preserved g c =
     let next = c.behind-known.result in
     let block = (get_or xs done no_change).sysno / 256 in
     let so_far = c.loop-done.invariant in
+    let was : HasCleanDisk last → HasCleanDisk mid = λ clean. omega (arith, c.run_put.ensures.does.crash.clean) in
     let it = c.in_ok-records.ensures in
     let part = is_run g (goal.at.loop-done-preserved g c).After-run_put in
     let Turned : ℕ → Trees → Trees → Type 0 = λ tree a b. TurnsBlock db key block (run xs done n) known.records c.in_ok-records.records a b × (known.clear_from ≤ block → LacksBlock db key block a) in
     record {
       same = search rules;
       within = run_within xs done n so_far.within;
-      crash = quiet_then _ _ _ so_far.crash c.run_put.ensures.call.crash;
+      crash = quiet_then _ _ _ so_far.crash c.run_put.ensures.does.crash;
       stays = λ clean inside.
-          let was : HasCleanDisk mid = omega (arith, c.run_put.ensures.call.crash.clean) in
-          let before = so_far.stays was inside in
-          stays_then first mid last before (it.call.ok clean before.inside).on;
+          let before = so_far.stays (was clean) inside in
+          stays_then first mid last before (it.does.ok clean before.inside).on;
       few = subst (λ r. r ≤ 999999999) (sym c.behind-known.ensures.records) it.few;
       turned = λ clean inside store.
-          let was : HasCleanDisk mid = omega (arith, c.run_put.ensures.call.crash.clean) in
-          let before = so_far.turned was inside store in
-          let turned = (it.call.ok clean (so_far.stays was inside).inside).rows before.layout in
+          let before = so_far.turned (was clean) inside store in
+          let turned = (it.does.ok clean (so_far.stays (was clean) inside).inside).rows before.layout in
           changes_then blocks_tree (LeadsOn db key xs done c.args.known known) Turned (LeadsOn db key xs (done + length (run xs done n)) c.args.known next) first mid last
           (run_leads db key xs done (done + length (run xs done n)) block (run xs done n) part.inside part.some part.left c.args.known known next c.in_ok-records.records c.behind-known.ensures.records c.behind-known.ensures.most first.now.trees mid.now.trees last.now.trees) before turned;
       left = λ clean inside store all.
-          let was : HasCleanDisk mid = omega (arith, c.run_put.ensures.call.crash.clean) in
-          let before = so_far.turned was inside store in
-          let turned = (it.call.ok clean (so_far.stays was inside).inside).rows before.layout in
+          let before = so_far.turned (was clean) inside store in
+          let turned = (it.does.ok clean (so_far.stays (was clean) inside).inside).rows before.layout in
           let rest = drop (done + length (run xs done n)) xs in
-          let here = subst (λ l. AllowsBlocks db key l (λ b. known.clear_from ≤ b) known.records mid.now.trees) part.left (so_far.left was inside store all) in
+          let here = subst (λ l. AllowsBlocks db key l (λ b. known.clear_from ≤ b) known.records mid.now.trees) part.left (so_far.left (was clean) inside store all) in
           let behind = allows_next db key block (run xs done n) rest part.inside part.some known.records c.in_ok-records.records mid.now.trees last.now.trees turned.rows.0 (λ b. known.clear_from ≤ b) here in
           subst (λ r. AllowsBlocks db key rest (λ b. next.clear_from ≤ b) r last.now.trees) (sym c.behind-known.ensures.records)
           (allows_fewer db key rest (λ b. (known.clear_from ≤ b) × (block < b)) (λ b. next.clear_from ≤ b) c.in_ok-records.records last.now.trees
@@ -101,11 +99,11 @@ returns-in_err-records-clause-damaged g c clean inside store is all =
     let known = c.loop-done.known in
     let block = (get_or xs done no_change).sysno / 256 in
     let so_far = c.loop-done.invariant in
-    let was : HasCleanDisk mid = omega (arith, c.run_put.ensures.call.crash.clean) in
+    let was : HasCleanDisk mid = omega (arith, c.run_put.ensures.does.crash.clean) in
     let part = is_run g (goal.at.returns-in_err-records-clause-damaged g c).After-run_put in
     let here = subst (λ l. AllowsBlocks db key l (λ b. known.clear_from ≤ b) known.records mid.now.trees) part.left (so_far.left was inside store all) in
     let both = allows_run db key block (run xs done n) (drop (done + length (run xs done n)) xs) part.inside part.some (λ b. known.clear_from ≤ b) known.records mid.now.trees here in
-    c.in_err-records.ensures.damaged clean (so_far.stays was inside).inside (so_far.turned was inside store).layout (search rules) both.1 both.0
+    c.in_err-records.ensures.honest clean (so_far.stays was inside).inside (so_far.turned was inside store).layout (search rules) both.1 both.0
 
 pub returns-clause-turned : goal.returns-clause-turned
 returns-clause-turned g c clean inside store =

@@ -11,7 +11,7 @@ returns-clause-told g c clean inside store =
     let s = state g.S.Store c.args.tx.now.conn.now in
     let items = c.in_ok-rows.rows.items in
     let key = c.args.key.now in
-    let held : IsListOf (IsRest postings_tree (place_front c.args.db.0 key c.args.sysno) s.now.trees) items = numbered_rows s.now.trees postings_tree c.args.db.0 key _ c.args.sysno (column_is c.in_ok-number.ensures.ok.1 c.in_ok-number.ensures.ok.0) items ((c.in_ok-rows.ensures.call.ok clean inside).1 store) in
+    let held : IsListOf (IsRest postings_tree (place_front c.args.db.0 key c.args.sysno) s.now.trees) items = numbered_rows s.now.trees postings_tree c.args.db.0 key _ c.args.sysno (column_is c.in_ok-number.ensures.ok.1 c.in_ok-number.ensures.ok.0) items ((c.in_ok-rows.ensures.call.does.ok clean inside).1 store) in
     let same = c.deref.ensures.value in
     reads_told s store c.args.db.0 key c.args.sysno items c.args.places.now held c.in_ok-are_places.field-0
     (λ is. sym (ap (map first_two) same) ∙ c.in_ok-are_places.ensures.same (ap Ok is))
@@ -19,9 +19,12 @@ returns-clause-told g c clean inside store =
 
 pub returns-in_err-are_places-clause-call : goal.returns-in_err-are_places-clause-call
 returns-in_err-are_places-clause-call g c = record {
-  ok = search rules;
-  err = λ clean inside. on_err c.from_residual-in_err-are_places.result _ (reads_keeps _ _ (c.in_ok-rows.ensures.call.ok clean inside).0);
-  crash = search rules;
+  same = search rules;
+  does = record {
+    ok = search rules;
+    err = λ clean inside. on_err c.from_residual-in_err-are_places.result _ (reads_keeps _ _ (c.in_ok-rows.ensures.call.does.ok clean inside).0);
+    crash = search rules;
+  };
 }
 
 pub returns-in_err-are_places-clause-told : goal.returns-in_err-are_places-clause-told
@@ -29,6 +32,6 @@ returns-in_err-are_places-clause-told g c clean inside store =
     let s = state g.S.Store c.args.tx.now.conn.now in
     let items = c.in_ok-rows.rows.items in
     let key = c.args.key.now in
-    let held : IsListOf (IsRest postings_tree (place_front c.args.db.0 key c.args.sysno) s.now.trees) items = numbered_rows s.now.trees postings_tree c.args.db.0 key _ c.args.sysno (column_is c.in_ok-number.ensures.ok.1 c.in_ok-number.ensures.ok.0) items ((c.in_ok-rows.ensures.call.ok clean inside).1 store) in
+    let held : IsListOf (IsRest postings_tree (place_front c.args.db.0 key c.args.sysno) s.now.trees) items = numbered_rows s.now.trees postings_tree c.args.db.0 key _ c.args.sysno (column_is c.in_ok-number.ensures.ok.1 c.in_ok-number.ensures.ok.0) items ((c.in_ok-rows.ensures.call.does.ok clean inside).1 store) in
     refused_rows c.in_err-are_places.field-0.0 c.from_residual-in_err-are_places.result c.from_residual-in_err-are_places.ensures.1 _ _
     (λ told reads. c.in_err-are_places.ensures.refused.1 (λ row here. two_numbers s store c.args.db.0 key c.args.sysno items c.args.places.now held reads row (subst (λ l. Has l row) c.deref.ensures.value here)))

@@ -1,6 +1,7 @@
 use Rattle.zeb_register.proofs.Cited.{Database, state, HasCleanDisk, ◌≡◌, ◌+◌, suc, Ok, Err, [], arith, drop, drop-cons, get_or, refl, rules, subst, sym, all-get_or, AllByRecursion, IsStorableChange}
 use Rattle.zeb_register.proofs.Answered.{refused_so}
-use Rattle.zeb_register.proofs.Calls.{goes_then, reads_goes, store_same}
+use Rattle.zeb_register.proofs.Calls.{goes_keeps, goes_then, on_err, reads_goes, store_same}
+use Rattle.zeb_register.proofs.CallsInTurn.{quiet_then}
 use Rattle.zeb_register.proofs.ListChanges.{no_change}
 use Rattle.zeb_register.proofs.PlainTurns.{Answered, all_left, first_refused, one_more}
 use Rattle.zeb_register.proofs.ContentTurns.{none_left}
@@ -13,10 +14,10 @@ loop-change-init g c =
     record {
       same = search rules;
       crash = search rules;
-      on = λ clean inside. reads_goes first second (c.in_ok-nothing_inside.ensures.call.ok clean inside);
-      store = λ clean inside store. store_same first second (c.in_ok-nothing_inside.ensures.call.ok clean inside).now_is store;
+      on = λ clean inside. reads_goes first second (c.in_ok-nothing_inside.ensures.call.does.ok clean inside);
+      store = λ clean inside store. store_same first second (c.in_ok-nothing_inside.ensures.call.does.ok clean inside).now_is store;
       leads = λ clean inside store end result answers.
-          subst (λ (d : Database). Answered c.args.db.0 c.args.key.now c.args.changes.now d.trees end result) (c.in_ok-nothing_inside.ensures.call.ok clean inside).now_is answers;
+          subst (λ (d : Database). Answered c.args.db.0 c.args.key.now c.args.changes.now d.trees end result) (c.in_ok-nothing_inside.ensures.call.does.ok clean inside).now_is answers;
     }
 
 pub unit_change-requires : goal.unit_change-requires
@@ -42,14 +43,14 @@ loop-change-preserved g c =
       same = search rules;
       crash = search rules;
       on = λ clean inside.
-          let was : HasCleanDisk mid = omega (arith, c.unit_change.ensures.call.crash.clean) in
+          let was : HasCleanDisk mid = omega (arith, c.unit_change.ensures.call.does.crash.clean) in
           let on = so_far.on was inside in
-          goes_then first mid last on (it.call.ok clean on.mode);
+          goes_then first mid last on (it.call.does.ok clean on.mode);
       store = λ clean inside store.
-          let was : HasCleanDisk mid = omega (arith, c.unit_change.ensures.call.crash.clean) in
+          let was : HasCleanDisk mid = omega (arith, c.unit_change.ensures.call.does.crash.clean) in
           (it.units clean (so_far.on was inside).mode (so_far.store was inside store)).0;
       leads = λ clean inside store end result answers.
-          let was : HasCleanDisk mid = omega (arith, c.unit_change.ensures.call.crash.clean) in
+          let was : HasCleanDisk mid = omega (arith, c.unit_change.ensures.call.does.crash.clean) in
           let turned = (it.units clean (so_far.on was inside).mode (so_far.store was inside store)).1 in
           let stored = all-get_or IsStorableChange xs i no_change c.in_ok-check_changes.ensures.stored c.loop-change-test.true in
           let rest = subst (λ n. Answered db key (drop n xs) last.now.trees end result) (sym more) answers in
@@ -76,10 +77,22 @@ returns-in_err-unit_change-clause-units g c clean inside store =
     let x = get_or xs i no_change in
     let fault = c.in_err-unit_change.field-0.0 in
     let so_far = c.loop-change.invariant in
-    let was : HasCleanDisk mid = omega (arith, c.unit_change.ensures.call.crash.clean) in
+    let was : HasCleanDisk mid = omega (arith, c.unit_change.ensures.call.does.crash.clean) in
     let is = drop-cons xs i no_change c.loop-change-test.true in
     let left = all_left i xs c.in_ok-check_changes.ensures.stored in
     let refused = c.in_err-unit_change.ensures.units clean (so_far.on was inside).mode (so_far.store was inside store) in
     let here = first_refused db key x (drop (suc i) xs) mid.now.trees fault (subst (AllByRecursion IsStorableChange) is left) refused in
     refused_so _ _ c.from_residual-in_err-unit_change.result fault (search rules)
     (so_far.leads was inside store mid.now.trees (Err fault) (subst (λ l. Answered db key l mid.now.trees mid.now.trees (Err fault)) (sym is) here))
+
+pub returns-in_err-unit_change-clause-call : goal.returns-in_err-unit_change-clause-call
+returns-in_err-unit_change-clause-call g c = record {
+  same = search rules;
+  does = record {
+    ok = search rules;
+    err = λ clean inside.
+        let on = c.loop-change.invariant.on (omega (arith, c.unit_change.ensures.call.does.crash.clean)) inside in
+        on_err c.from_residual-in_err-unit_change.result _ (goes_keeps _ _ _ on (c.in_err-unit_change.ensures.call.does.err clean on.mode));
+    crash = quiet_then _ _ _ c.loop-change.invariant.crash c.unit_change.ensures.call.does.crash;
+  };
+}

@@ -15,7 +15,10 @@ returns-clause-kept g c clean inside = table_kept c.args.table _ _ _ (simp (c.cr
 
 pub returns-in_err-execute-clause-call : goal.returns-in_err-execute-clause-call
 returns-in_err-execute-clause-call g c = record {
-  ok = search rules;
-  err = λ clean inside. on_err _ _ (inside_keeps _ _ _ _ _ (c.execute.ensures.runs clean inside));
-  crash = search rules;
+  same = search rules;
+  does = record {
+    ok = search rules;
+    err = λ clean inside. on_err _ _ (inside_keeps _ _ _ _ _ (c.execute.ensures.runs clean inside));
+    crash = search rules;
+  };
 }

@@ -1,4 +1,4 @@
-use Rattle.zeb_packed.proofs.Cited.{rules, ◌≡◌, ◌∙◌, ◌+◌, ◌*◌, ◌++◌, [], ◌∷◌, ℕ, List, length, take, refl, sym, ap, subst, inl, inr, arith, take_all, sum_by, Database, state, HasCleanDisk, unchanged_then, Has, Posting, TermCount, Work, key_in, HasMalformed, ListsUnits, packed_blocks, blocks_of, Rises, nothing_then, store_same, quiet_then, reasoned_after, has_at, refused_so, rises_last, rises_then, AreListed}
+use Rattle.zeb_packed.proofs.Cited.{rules, ◌≡◌, ◌∙◌, ◌*◌, ◌++◌, [], ◌∷◌, ℕ, List, length, take, refl, sym, ap, subst, inl, inr, arith, take_all, sum_by, Database, state, HasCleanDisk, unchanged_then, Has, Posting, TermCount, Work, key_in, HasMalformed, ListsUnits, packed_blocks, blocks_of, Rises, nothing_then, store_same, quiet_then, reasoned_after, has_at, refused_so, rises_last, rises_then, AreListed}
 use Rattle.zeb_register.proofs.CountLists.{one_all, one_listed, some_uncounted}
 use Rattle.zeb_packed.proofs.PackedTotals.{lists_more, lists_summed, sums_up}
 use Rattle.zeb_packed.proofs.blocks.BlocksLayout.totals.Goals as goal

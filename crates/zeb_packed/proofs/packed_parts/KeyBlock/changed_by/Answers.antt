@@ -26,16 +26,24 @@ loop-change-preserved c =
           subst (λ n. TurnsUnits packed_blocks (drop n xs) next end) more (turns_from (drop (suc i) xs) rest.0 next end (same_after x held rest.0 next rest.1 it.turned) rest.2);
     }
 
-pub returns-clause-turned : goal.returns-clause-turned
-returns-clause-turned c =
+pub returns : goal.returns
+returns c =
     let xs = c.args.changes.now in
     let held = units_of c.loop-change.held.list.items c.loop-change.held.records in
-    c.loop-change.invariant.turned held (subst (λ l. TurnsUnits packed_blocks l held held) (sym (none_left c.loop-change.change-index xs c.loop-change-test.false)) (λ n. refl, refl))
+    record {
+      turned = c.loop-change.invariant.turned held (subst (λ l. TurnsUnits packed_blocks l held held) (sym (none_left c.loop-change.change-index xs c.loop-change-test.false)) (λ n. refl, refl));
+      lies = search rules;
+      block = c.loop-change.invariant.block;
+    }
 
-pub returns-in_err-held-clause-turned : goal.returns-in_err-held-clause-turned
-returns-in_err-held-clause-turned c = refused_so _ _ c.from_residual.result c.in_err-held.field-0.0 (search rules) (λ told are turns.
-    let xs = c.args.changes.now in
-    let i = c.loop-change.change-index in
-    let held = units_of c.loop-change.held.list.items c.loop-change.held.records in
-    let rest = subst (λ l. TurnsUnits packed_blocks l held are) (drop-cons xs i no_change c.loop-change-test.true) (c.loop-change.invariant.left are turns) in
-    c.in_err-held.ensures.turned told rest.0 rest.1)
+pub returns-in_err-held : goal.returns-in_err-held
+returns-in_err-held c = record {
+  turned = refused_so _ _ c.from_residual.result c.in_err-held.field-0.0 (search rules) (λ told are turns.
+      let xs = c.args.changes.now in
+      let i = c.loop-change.change-index in
+      let held = units_of c.loop-change.held.list.items c.loop-change.held.records in
+      let rest = subst (λ l. TurnsUnits packed_blocks l held are) (drop-cons xs i no_change c.loop-change-test.true) (c.loop-change.invariant.left are turns) in
+      c.in_err-held.ensures.turned told rest.0 rest.1);
+  lies = search rules;
+  block = search rules;
+}

@@ -5,9 +5,12 @@ use Rattle.zeb_packed.proofs.statements.many.blocks_add.Goals as goal
 
 pub returns-clause-call : goal.returns-clause-call
 returns-clause-call g c = record {
-  ok = λ clean inside. ran_goes _ _ _ _ c.execute.result (c.execute.ensures.runs clean inside);
-  err = λ clean inside. refused_keeps _ _ _ _ c.execute.result (c.execute.ensures.runs clean inside);
-  crash = search rules;
+  same = search rules;
+  does = record {
+    ok = λ clean inside. ran_goes _ _ _ _ c.execute.result (c.execute.ensures.runs clean inside);
+    err = λ clean inside. refused_keeps _ _ _ _ c.execute.result (c.execute.ensures.runs clean inside);
+    crash = search rules;
+  };
 }
 
 pub returns-clause-put : goal.returns-clause-put

@@ -5,11 +5,14 @@ use Rattle.zeb_packed.proofs.statements.packed_changes.dict_records.Goals as goa
 
 pub returns-clause-call : goal.returns-clause-call
 returns-clause-call g c = record {
-  ok = λ clean. lists_inside (λ rows. rows.items) (IsRest dict_tree (key_of c.args.at.db.0 (pos c.args.at.key.now.index) (pos (register_code c.args.at.key.now.register)) c.args.at.key.now.term)) _ _ _ _ c.query_all.result records_silent (c.query_all.ensures.ok clean)
-      (λ rows store shown. lists_records c.args.at.db.0 (pos c.args.at.key.now.index) (pos (register_code c.args.at.key.now.register)) c.args.at.key.now.term _ _ rows store (shown_so _ _ _ _ shown (register_bound c.column-db.ensures.fits c.column-db.ensures.value (c.from-reg.ensures ∙ c.code.ensures) c.params-to_sql.ensures c.params-to_sql-2.ensures c.params-to_sql-3.ensures
-      (value_bound (c.params-to_sql-4.ensures ∙ ap Text c.as_str-term.ensures) refl none_bound))));
-  err = λ clean inside. query_keeps _ _ _ _ c.query_all.result records_silent (c.query_all.ensures.err clean);
-  crash = search rules;
+  same = search rules;
+  does = record {
+    ok = λ clean. lists_inside (λ rows. rows.items) (IsRest dict_tree (key_of c.args.at.db.0 (pos c.args.at.key.now.index) (pos (register_code c.args.at.key.now.register)) c.args.at.key.now.term)) _ _ _ _ c.query_all.result records_silent (c.query_all.ensures.ok clean)
+        (λ rows store shown. lists_records c.args.at.db.0 (pos c.args.at.key.now.index) (pos (register_code c.args.at.key.now.register)) c.args.at.key.now.term _ _ rows store (shown_so _ _ _ _ shown (register_bound c.column-db.ensures.fits c.column-db.ensures.value (c.from-reg.ensures ∙ c.code.ensures) c.params-to_sql.ensures c.params-to_sql-2.ensures c.params-to_sql-3.ensures
+        (value_bound (c.params-to_sql-4.ensures ∙ ap Text c.as_str-term.ensures) refl none_bound))));
+    err = λ clean inside. query_keeps _ _ _ _ c.query_all.result records_silent (c.query_all.ensures.err clean);
+    crash = search rules;
+  };
 }
 
 pub returns-clause-text : goal.returns-clause-text

@@ -13,12 +13,12 @@ loop-one-init g c =
     record {
       same = search rules;
       crash = search rules;
-      on = λ clean inside. reads_goes first second (c.in_ok-nothing_inside.ensures.call.ok clean inside);
-      store = λ clean inside store. store_same first second (c.in_ok-nothing_inside.ensures.call.ok clean inside).now_is store;
+      on = λ clean inside. reads_goes first second (c.in_ok-nothing_inside.ensures.call.does.ok clean inside);
+      store = λ clean inside store. store_same first second (c.in_ok-nothing_inside.ensures.call.does.ok clean inside).now_is store;
       leads = λ clean inside store end result answers.
-          subst (λ (d : Database). Answered g.Self.Layout.format c.args.db.0 c.args.run.now d.trees end result) (c.in_ok-nothing_inside.ensures.call.ok clean inside).now_is answers;
+          subst (λ (d : Database). Answered g.Self.Layout.format c.args.db.0 c.args.run.now d.trees end result) (c.in_ok-nothing_inside.ensures.call.does.ok clean inside).now_is answers;
       work = λ clean inside store.
-          work_begun g.Self.Layout.format g.Self.Layout.row_work c.args.run.now first.now.trees second.now.trees c.args.work.now (ap (λ (d : Database). d.trees blocks_tree) (c.in_ok-nothing_inside.ensures.call.ok clean inside).now_is);
+          work_begun g.Self.Layout.format g.Self.Layout.row_work c.args.run.now first.now.trees second.now.trees c.args.work.now (ap (λ (d : Database). d.trees blocks_tree) (c.in_ok-nothing_inside.ensures.call.does.ok clean inside).now_is);
       no_work = λ none. refl;
     }
 
@@ -44,22 +44,22 @@ loop-one-preserved g c =
     let more : suc i ≡ i + 1 = omega arith in
     record {
       same = search rules;
-      crash = quiet_then first mid last so_far.crash c.key_changes.ensures.call.crash;
+      crash = quiet_then first mid last so_far.crash c.key_changes.ensures.call.does.crash;
       on = λ clean inside.
-          let was : HasCleanDisk mid = omega (arith, c.key_changes.ensures.call.crash.clean) in
+          let was : HasCleanDisk mid = omega (arith, c.key_changes.ensures.call.does.crash.clean) in
           let on = so_far.on was inside in
-          goes_then first mid last on (it.call.ok clean on.mode);
+          goes_then first mid last on (it.call.does.ok clean on.mode);
       store = λ clean inside store.
-          let was : HasCleanDisk mid = omega (arith, c.key_changes.ensures.call.crash.clean) in
+          let was : HasCleanDisk mid = omega (arith, c.key_changes.ensures.call.does.crash.clean) in
           (it.units clean (so_far.on was inside).mode (so_far.store was inside store)).0;
       leads = λ clean inside store end result answers.
-          let was : HasCleanDisk mid = omega (arith, c.key_changes.ensures.call.crash.clean) in
+          let was : HasCleanDisk mid = omega (arith, c.key_changes.ensures.call.does.crash.clean) in
           let put = (it.units clean (so_far.on was inside).mode (so_far.store was inside store)).1 in
           let rest = subst (λ n. Answered format db (drop n xs) last.now.trees end result) (sym more) answers in
           so_far.leads was inside store end result (subst (λ l. Answered format db l mid.now.trees end result) (sym is)
           (one_more format db x (drop (suc i) xs) (rise_left i xs x (drop (suc i) xs) is c.requires.rising.keys) mid.now.trees last.now.trees end result put rest));
       work = λ clean inside store.
-          let was : HasCleanDisk mid = omega (arith, c.key_changes.ensures.call.crash.clean) in
+          let was : HasCleanDisk mid = omega (arith, c.key_changes.ensures.call.does.crash.clean) in
           work_more format g.Self.Layout.row_work xs i x first.now.trees mid.now.trees last.now.trees c.args.work.now c.loop-one.work c.key_changes.new.work is c.counts_are_numbers.ensures (so_far.work was inside store)
           (it.work clean (so_far.on was inside).mode (so_far.store was inside store));
       no_work = λ none. c.key_changes.ensures.no_work none ∙ so_far.no_work none;
@@ -94,7 +94,7 @@ returns-in_err-key_changes-clause-units g c clean inside store =
     let x = c.one-item.result in
     let fault = c.in_err-key_changes.field-0.0 in
     let so_far = c.loop-one.invariant in
-    let was : HasCleanDisk mid = omega (arith, c.key_changes.ensures.call.crash.clean) in
+    let was : HasCleanDisk mid = omega (arith, c.key_changes.ensures.call.does.crash.clean) in
     let is : drop i xs ≡ x ∷ drop (suc i) xs = drop-cons xs i x c.loop-one-test.true ∙ ap (λ y. y ∷ drop (suc i) xs) (sym c.one-item.is) in
     let refused = c.in_err-key_changes.ensures.units clean (so_far.on was inside).mode (so_far.store was inside store) in
     let here = refused_first format db x (drop (suc i) xs) mid.now.trees fault refused in
@@ -103,13 +103,16 @@ returns-in_err-key_changes-clause-units g c clean inside store =
 
 pub returns-in_err-key_changes-clause-call : goal.returns-in_err-key_changes-clause-call
 returns-in_err-key_changes-clause-call g c = record {
-  ok = search rules;
-  err = λ clean inside.
-      let first = state g.S.Store c.args.tx.now.conn.now in
-      let mid = state g.S.Store c.loop-one.tx.conn.now in
-      let last = state g.S.Store c.key_changes.new.tx.conn.now in
-      let was : HasCleanDisk mid = omega (arith, c.key_changes.ensures.call.crash.clean) in
-      let on = c.loop-one.invariant.on was inside in
-      on_err c.from_residual-in_err-key_changes.result _ (goes_keeps first mid last on (c.in_err-key_changes.ensures.call.err clean on.mode));
-  crash = quiet_then _ _ _ c.loop-one.invariant.crash c.key_changes.ensures.call.crash;
+  same = search rules;
+  does = record {
+    ok = search rules;
+    err = λ clean inside.
+        let first = state g.S.Store c.args.tx.now.conn.now in
+        let mid = state g.S.Store c.loop-one.tx.conn.now in
+        let last = state g.S.Store c.key_changes.new.tx.conn.now in
+        let was : HasCleanDisk mid = omega (arith, c.key_changes.ensures.call.does.crash.clean) in
+        let on = c.loop-one.invariant.on was inside in
+        on_err c.from_residual-in_err-key_changes.result _ (goes_keeps first mid last on (c.in_err-key_changes.ensures.call.does.err clean on.mode));
+    crash = quiet_then _ _ _ c.loop-one.invariant.crash c.key_changes.ensures.call.does.crash;
+  };
 }

@@ -6,9 +6,12 @@ use Rattle.zeb_register.proofs.statements.databases.listed_rows_inside.Goals as 
 
 pub returns-clause-call : goal.returns-clause-call
 returns-clause-call g c = record {
-  ok = λ clean. lists_inside (λ rows. rows.items) IsListedRow _ _ _ _ c.query_all.result list_query.silent (c.query_all.ensures.ok clean) (λ rows store shown. lists_databases _ _ rows store shown);
-  err = λ clean inside. query_keeps _ _ _ _ c.query_all.result list_query.silent (c.query_all.ensures.err clean);
-  crash = search rules;
+  same = search rules;
+  does = record {
+    ok = λ clean. lists_inside (λ rows. rows.items) IsListedRow _ _ _ _ c.query_all.result list_query.silent (c.query_all.ensures.ok clean) (λ rows store shown. lists_databases _ _ rows store shown);
+    err = λ clean inside. query_keeps _ _ _ _ c.query_all.result list_query.silent (c.query_all.ensures.err clean);
+    crash = search rules;
+  };
 }
 
 pub returns-clause-err : goal.returns-clause-err

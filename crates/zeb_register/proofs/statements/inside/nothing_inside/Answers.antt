@@ -6,16 +6,22 @@ use Rattle.zeb_register.proofs.statements.inside.nothing_inside.Goals as goal
 
 pub returns-clause-call : goal.returns-clause-call
 returns-clause-call g c = record {
-  ok = λ clean inside. alone_inside _ _ _ _ _ nothing_query.silent (c.in_ok-rows.ensures.ok clean) inside;
-  err = search rules;
-  crash = search rules;
+  same = search rules;
+  does = record {
+    ok = λ clean inside. alone_inside _ _ _ _ _ nothing_query.silent (c.in_ok-rows.ensures.ok clean) inside;
+    err = search rules;
+    crash = search rules;
+  };
 }
 
 pub returns-in_err-rows-clause-call : goal.returns-in_err-rows-clause-call
 returns-in_err-rows-clause-call g c = record {
-  ok = search rules;
-  err = λ clean inside. on_err _ _ (query_keeps {A = ℕ} _ _ _ _ (Err _) nothing_query.silent (c.in_err-rows.ensures.err clean));
-  crash = search rules;
+  same = search rules;
+  does = record {
+    ok = search rules;
+    err = λ clean inside. on_err _ _ (query_keeps {A = ℕ} _ _ _ _ (Err _) nothing_query.silent (c.in_err-rows.ensures.err clean));
+    crash = search rules;
+  };
 }
 
 pub returns-in_err-rows-clause-err : goal.returns-in_err-rows-clause-err

@@ -7,10 +7,13 @@ use Rattle.zeb_register.proofs.statements.inside.rows_from_inside.Goals as goal
 
 pub returns-clause-call : goal.returns-clause-call
 returns-clause-call g c = record {
-  ok = λ clean. read_inside (λ rows. rows.items) (λ trees rows. (all : List Row) × IsListOf (IsRestAtLeast records_tree (Int c.args.db ∷ []) c.args.start trees) all × (rows ≡ take 1 all)) _ _ _ _ c.query_all.result (from_query c.args.db c.args.start).silent (c.query_all.ensures.ok clean)
-      (λ rows store shown. lists_from c.args.db c.args.start _ _ rows store (shown_so _ _ _ _ shown (number_bound c.ranges.db refl c.params-to_sql.ensures (number_bound c.ranges.start refl c.params-to_sql-2.ensures none_bound))));
-  err = λ clean inside. query_keeps _ _ _ _ c.query_all.result (from_query c.args.db c.args.start).silent (c.query_all.ensures.err clean);
-  crash = search rules;
+  same = search rules;
+  does = record {
+    ok = λ clean. read_inside (λ rows. rows.items) (λ trees rows. (all : List Row) × IsListOf (IsRestAtLeast records_tree (Int c.args.db ∷ []) c.args.start trees) all × (rows ≡ take 1 all)) _ _ _ _ c.query_all.result (from_query c.args.db c.args.start).silent (c.query_all.ensures.ok clean)
+        (λ rows store shown. lists_from c.args.db c.args.start _ _ rows store (shown_so _ _ _ _ shown (number_bound c.ranges.db refl c.params-to_sql.ensures (number_bound c.ranges.start refl c.params-to_sql-2.ensures none_bound))));
+    err = λ clean inside. query_keeps _ _ _ _ c.query_all.result (from_query c.args.db c.args.start).silent (c.query_all.ensures.err clean);
+    crash = search rules;
+  };
 }
 
 pub returns-clause-err : goal.returns-clause-err

@@ -7,10 +7,13 @@ use Rattle.zeb_register.proofs.statements.records.elder_rows.Goals as goal
 
 pub returns-clause-call : goal.returns-clause-call
 returns-clause-call g c = record {
-  ok = λ clean. lists_inside (λ rows. rows.items) (IsElderRow c.args.db c.args.ident.now) _ _ _ _ c.query_all.result (elder_query c.args.db c.args.ident.now).silent (c.query_all.ensures.ok clean)
-      (λ rows store shown. lists_elder c.args.db c.args.ident.now _ _ rows store (shown_so _ _ _ _ shown (number_bound c.ranges.db refl c.params-to_sql.ensures (value_bound c.params-to_sql-2.ensures refl none_bound))));
-  err = λ clean inside. query_keeps _ _ _ _ c.query_all.result (elder_query c.args.db c.args.ident.now).silent (c.query_all.ensures.err clean);
-  crash = search rules;
+  same = search rules;
+  does = record {
+    ok = λ clean. lists_inside (λ rows. rows.items) (IsElderRow c.args.db c.args.ident.now) _ _ _ _ c.query_all.result (elder_query c.args.db c.args.ident.now).silent (c.query_all.ensures.ok clean)
+        (λ rows store shown. lists_elder c.args.db c.args.ident.now _ _ rows store (shown_so _ _ _ _ shown (number_bound c.ranges.db refl c.params-to_sql.ensures (value_bound c.params-to_sql-2.ensures refl none_bound))));
+    err = λ clean inside. query_keeps _ _ _ _ c.query_all.result (elder_query c.args.db c.args.ident.now).silent (c.query_all.ensures.err clean);
+    crash = search rules;
+  };
 }
 
 pub returns-clause-err : goal.returns-clause-err
