@@ -1,11 +1,19 @@
-"""What proof files take from the proofs of other crates: a lemma that was renamed or taken away there is missed only once the crate above is proved."""
+"""What proof files take from the proofs of other crates, where a lemma that was renamed or taken away is missed only once the crate above is proved; and
+lemmas that nothing cites."""
 import re
+from collections import Counter
 
 TAKES = re.compile(r"^(?:pub )?use Rattle\.(\w+)\.proofs\.([\w.]+?)\.\{([^{}]*)\}", re.M)
 PASSES_ON = re.compile(r"^(?:unfoldable )?pub use [^\n{]*\{([^{}]*)\}", re.M)
 DECLARES = re.compile(r"(?:(?:abbrev|unfoldable|opaque|infix\w* \d+) +)*pub +(?:(?:abbrev|data|record|ruleset) +)*([^\s:(){}]+)")
 OPENS = re.compile(r"(?:abbrev |pub )*(data|record|module)\b")
+DECLARED = re.compile(r"^( *)" + DECLARES.pattern, re.M)
 BELOW_A_TYPE = re.compile(r"(?:pub )?([^\s:(){}]+) *:")
+# An import, or a comment, of either language.
+NOT_CITING = re.compile(r"^ *(?:(?:(?:unfoldable|pub|ghost) )*use [^;\n]*(?:;|$)|--.*|//.*)", re.M)
+RENAMED = re.compile(r"([^\s{},]+) as ")
+WORD = re.compile(r"[^\s(){}\[\],;.:]+")
+BEGINS = re.compile(r"^( *)(?:(?:abbrev|unfoldable|opaque|pub|data|record) +)*([^\s(){}\[\],;.]+)", re.M)
 
 
 def names_of(listed):
@@ -44,3 +52,16 @@ def missed(crates):
             if (other, module) not in known:
                 known[other, module] = declared(files[other, module].read_text(encoding="utf-8"))
             yield from [(path, f"{it[0]} of {other}/{module}") for it in names_of(listed) if it[0] not in known[other, module]]
+
+
+def uncited(texts):
+    """Of these texts by their paths, each name that a proof file has for others and that only imports and the lines which define it have. A
+    lemma is missed where it cites itself, and where anything else has its name."""
+    cited = Counter(name for text in texts.values() for name in WORD.findall(NOT_CITING.sub("", text)))
+    # a name under which an import takes it is another one, which may be cited
+    cited.update(name for text in texts.values() for line in NOT_CITING.findall(text) for name in RENAMED.findall(line))
+    for path, text in texts.items():
+        if path.suffix == ".antt" and path.parent.name == "proofs" and path.name != "Cited.antt":
+            # what defines a name begins as far to the right as what declares it
+            begun = Counter(BEGINS.findall(text))
+            yield from [(path, name) for indent, name in sorted({*DECLARED.findall(text)}) if cited[name] == begun[indent, name]]
