@@ -1,4 +1,6 @@
-//! The definitions that the contracts cite, tried on a worked example: a function with no code, whose contract is the example.
+//! The definitions that the contracts cite, tried on a worked example, under a profile of titles, dates and any words: functions with no
+//! code, whose contracts are the example.
+
 ghost use Rattle.std.specs.Prelude.{◌≡◌, ◌↔◌, ℕ, List, [], ◌∷◌, codes};
 ghost use Rattle.zeb_lower_laws.specs.WorkedRecord.{worked_record};
 ghost use Rattle.zeb_lower_laws.specs.Sample.{title_profile};
@@ -16,13 +18,9 @@ use zeb_change::{Limits, RecordFault};
 use zeb_engine::Command;
 use zeb_query::Operator;
 
-/// A whole example, by the definitions alone, under a profile of titles, dates and any words. `Init` leaves no database. An
-/// update by a file with "Moby Dick" keeps it under number 1, and a second one keeps that number. A file in which five
-/// letters follow the record is refused by its second record, and nothing changes. A word of the title finds the record, by
-/// its key and by a query's text, and another word finds none; nothing else is answered. Both together hold of none, either holds of
-/// the record, and so does the first without the other, but not the other without the first. `Init`, the first update and the find,
-/// one after the other, are a run from nothing.
-pub fn worked_examples()
+/// `Init` leaves no database. An update by a file with "Moby Dick" keeps it under number 1, and a second one keeps that number. `Init`, the
+/// first update and a find, one after the other, are a run from nothing.
+pub fn a_book_is_kept()
     ensures begun { (version : List ℕ) (limits : Limits) (before : Holdings)
         → IsJust (Step (book_conditions version limits) Command.Init before) done
         (no_books version) }
@@ -34,6 +32,15 @@ pub fn worked_examples()
         → IsUpdateBy (worked_record ∷ []) command
         → IsJust (Step (book_conditions version limits) command (one_book version)) (changed 0 1 0)
         (one_book version) }
+    ensures run { (version : List ℕ) (limits : Limits) (update ask : Command)
+        → IsUpdateBy (worked_record ∷ []) update
+        → IsFindBy (codes "@attr 1=4 whale") ask
+        → Run (book_conditions version limits) nothing_yet (Command.Init ∷ update ∷ ask ∷ [])
+        (done ∷ changed 1 0 0 ∷ found 1 ((1, codes "a1") ∷ []) ∷ []) (one_book version) }
+{}
+
+/// A file in which five letters follow the record is refused by its second record, and nothing changes.
+pub fn a_faulty_file_is_refused()
     ensures refused { (version : List ℕ) (limits : Limits) (command : Command)
         → IsUpdateBy (faulty_file ∷ []) command
         → IsJust (Step (book_conditions version limits) command (no_books version))
@@ -44,6 +51,10 @@ pub fn worked_examples()
         → IsJust (Step (book_conditions version limits) command (one_book version))
         (refused (faulty 1 2 RecordFault.LengthDigits))
         (one_book version) }
+{}
+
+/// A word of the title finds the record, by its key, and another word finds none; nothing else is answered.
+pub fn a_word_of_the_title_is_found()
     ensures found { (answer : Answer)
         → IsFound (occurs title_profile book_base.records) (has_name book_base.records)
         (title_plan (codes "whale")) 1 20 answer
@@ -54,6 +65,11 @@ pub fn worked_examples()
         → IsFound (occurs title_profile book_base.records) (has_name book_base.records)
         (title_plan (codes "ahab")) 1 20 answer
         ↔ (answer ≡ found 0 []) }
+{}
+
+/// A word of the title finds the record by a query's text. It and another word, both together, hold of none, either holds of the record,
+/// and so does the first without the other, but not the other without the first.
+pub fn a_query_is_answered()
     ensures joined { (n : ℕ) → (¬ BookHolds (PairOf Operator.And whale ahab) n)
         × (BookHolds (PairOf Operator.Or whale ahab) n ↔ (n ≡ 1))
         × (BookHolds (PairOf Operator.Not whale ahab) n ↔ (n ≡ 1))
@@ -62,9 +78,4 @@ pub fn worked_examples()
         → IsFindBy (codes "@attr 1=4 whale") command
         → IsJust (Step (book_conditions version limits) command (one_book version))
         (found 1 ((1, codes "a1") ∷ [])) (one_book version) }
-    ensures run { (version : List ℕ) (limits : Limits) (update ask : Command)
-        → IsUpdateBy (worked_record ∷ []) update
-        → IsFindBy (codes "@attr 1=4 whale") ask
-        → Run (book_conditions version limits) nothing_yet (Command.Init ∷ update ∷ ask ∷ [])
-        (done ∷ changed 1 0 0 ∷ found 1 ((1, codes "a1") ∷ []) ∷ []) (one_book version) }
 {}

@@ -14,7 +14,9 @@ pub use definition_laws::{
     no_definition_answers_damage, numbers_stay, one_text_one_image,
 };
 pub use holding_laws::{a_database_is_in_its_place, the_last_record_stays};
-pub use laws::worked_examples;
+pub use laws::{
+    a_book_is_kept, a_faulty_file_is_refused, a_query_is_answered, a_word_of_the_title_is_found,
+};
 pub use layouts::{lists_of_commands_over_leaves, lists_of_commands_over_packed_blocks};
 pub use renewal_laws::{
     a_check_accepts_what_commands_leave, a_text_tells_the_rule, the_databases_stay,
