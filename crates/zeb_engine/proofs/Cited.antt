@@ -167,7 +167,7 @@ pub use Rattle.zeb_query.specs.Places.{IsReadable, IsFaultOf}
 pub use Rattle.zeb_query.specs.Plans.{PlanValue, plan_of, HasSmallNumber, HasSmallNumbers, NearOf, NoWordsOf, PairOf, RecordNumberOf, TermOf, TermPlanValue, ScanValue, scan_of, plan_value, scan_value}
 pub use Rattle.zeb_query.specs.declared.faults.QueryFault.{QueryFault}
 pub use Rattle.zeb_query.specs.declared.faults.QueryFault.TheVariants.{Diagnostic, Memory}
-pub use Rattle.zeb_register.proofs.Answered.{or_reasoned}
+pub use Rattle.zeb_register.proofs.Answered.{looks_tell, or_reasoned}
 pub use Rattle.zeb_register.proofs.Calls.{store_same, nothing_then, goes_keeps, goes_then, on_err, reads_goes, nothing_still}
 pub use Rattle.zeb_register.proofs.CallsInTurn.{quiet_then, quiet_still}
 pub use Rattle.zeb_register.proofs.Causes.{may_after}

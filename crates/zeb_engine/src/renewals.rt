@@ -1,11 +1,8 @@
 //! The commands that make the registers anew from the kept records, each in one transaction.
 
-ghost use Rattle.std.specs.Prelude.{◌≡◌, ◌≢◌, ◌↔◌, false, IfOk, IsTrue, List};
-ghost use Rattle.sqlite.specs.Held.{state};
-ghost use Rattle.sqlite.specs.State.{HasCleanDisk};
+ghost use Rattle.std.specs.Prelude.{◌≡◌, ◌≢◌, ◌↔◌, false, IsTrue, List};
 ghost use Rattle.zeb_profile.specs.Canonical.{canonical_text};
 ghost use Rattle.zeb_register.specs.Formats.{version_of};
-ghost use Rattle.zeb_register.specs.Store.{IsStore};
 ghost use Rattle.zeb_change.specs.Base.{Base};
 ghost use Rattle.zeb_image.specs.Holdings.{under};
 ghost use Rattle.zeb_image.specs.Image.{IsImage};
@@ -15,7 +12,7 @@ ghost use Rattle.zeb_change.specs.Conditions.{conditions};
 ghost use Rattle.zeb_engine.specs.Costs.{no_work};
 ghost use Rattle.zeb_engine.specs.PrivateDone.{CommandDone};
 ghost use Rattle.zeb_engine.specs.PrivateLooking.{earlier_version};
-ghost use Rattle.zeb_register.specs.Connections.{ReadingOf};
+ghost use Rattle.zeb_register.specs.Connections.{ReadingOf, TellsOf};
 
 use crate::commands::Command;
 use crate::looks::{Earlier, Standing, check_layout, check_rule};
@@ -61,11 +58,9 @@ fn is_earlier_image<S: Alter>(
 ) -> Result<bool, RegFault>
     ensures call { ReadingOf S.Store connection.old connection.new result
         (λ it. Looks (IsTrue it)) }
-    ensures value { HasCleanDisk (state S.Store connection.new)
-        → IsStore (state S.Store connection.old)
-        → IfOk result (λ it. IsTrue it ↔ ((bases : List Base)
-        × IsImage (state S.Store connection.old).now.trees
-        (under (earlier_version earlier) (canonical_text profile.now) bases))) }
+    ensures value { TellsOf S.Store connection.old connection.new result
+        (λ trees it. IsTrue it ↔ ((bases : List Base)
+        × IsImage trees (under (earlier_version earlier) (canonical_text profile.now) bases))) }
     ensures honest { result ≢ Err RegFault.Damaged }
 {
     match earlier {

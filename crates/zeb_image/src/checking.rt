@@ -1,17 +1,14 @@
 //! Whether whole tables are the image of something that can be held.
 
-ghost use Rattle.std.specs.Prelude.{◌≢◌, ◌↔◌, IsSome, IsTrue, IfOk, List};
-ghost use Rattle.sqlite.specs.Held.{state};
-ghost use Rattle.sqlite.specs.State.{HasCleanDisk};
+ghost use Rattle.std.specs.Prelude.{◌≢◌, ◌↔◌, IsSome, IsTrue, List};
 ghost use Rattle.zeb_profile.specs.Canonical.{canonical_text};
 ghost use Rattle.zeb_register.specs.Formats.{version_of};
-ghost use Rattle.zeb_register.specs.Store.{IsStore};
 ghost use Rattle.zeb_change.specs.Base.{Base};
 ghost use Rattle.zeb_image.specs.Holdings.{under};
 ghost use Rattle.zeb_image.specs.Image.{IsImage};
 ghost use Rattle.zeb_image.specs.Looking.{Looks};
 ghost use Rattle.zeb_image.specs.PrivateChecking.{IsExpectationOrNone};
-ghost use Rattle.zeb_register.specs.Connections.{IsReasonedOf, ReadingOf};
+ghost use Rattle.zeb_register.specs.Connections.{IsReasonedOf, ReadingOf, TellsOf};
 
 use crate::checking_databases::expected_databases;
 use sqlite::{Alter, Connection};
@@ -33,11 +30,9 @@ pub fn is_image<S: Alter, L: Layout>(
 ) -> Result<bool, RegFault>
     ensures call { ReadingOf S.Store connection.old connection.new result
         (λ it. Looks (IsTrue it)) }
-    ensures value { HasCleanDisk (state S.Store connection.new)
-        → IsStore (state S.Store connection.old)
-        → IfOk result (λ it. IsTrue it ↔ ((bases : List Base)
-        × IsImage (state S.Store connection.old).now.trees
-        (under (version_of L.format) (canonical_text profile.now) bases))) }
+    ensures value { TellsOf S.Store connection.old connection.new result
+        (λ trees it. IsTrue it ↔ ((bases : List Base)
+        × IsImage trees (under (version_of L.format) (canonical_text profile.now) bases))) }
     ensures honest { result ≢ Err RegFault.Damaged }
     ensures refused { IsReasonedOf S.Store connection.old connection.new result }
 {
@@ -57,10 +52,8 @@ fn expectation<S: Alter, L: Layout>(
 ) -> Result<Option<Expected>, RegFault>
     ensures call { ReadingOf S.Store connection.old connection.new result
         (λ found. Looks (IsSome found)) }
-    ensures value { HasCleanDisk (state S.Store connection.new)
-        → IsStore (state S.Store connection.old)
-        → IfOk result (IsExpectationOrNone L.format profile.now
-        (state S.Store connection.old).now.trees) }
+    ensures value { TellsOf S.Store connection.old connection.new result
+        (IsExpectationOrNone L.format profile.now) }
     ensures honest { result ≢ Err RegFault.Damaged }
     ensures refused { IsReasonedOf S.Store connection.old connection.new result }
 {

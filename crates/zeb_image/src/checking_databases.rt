@@ -1,12 +1,10 @@
 //! What is expected of the databases that tables list.
 
-ghost use Rattle.std.specs.Prelude.{◌≢◌, IsSome, IfOk};
-ghost use Rattle.sqlite.specs.Held.{state};
-ghost use Rattle.sqlite.specs.State.{HasCleanDisk, IsUnchanged};
-ghost use Rattle.zeb_register.specs.Store.{IsStore};
+ghost use Rattle.std.specs.Prelude.{◌≢◌, IsSome};
+ghost use Rattle.sqlite.specs.State.{IsUnchanged};
 ghost use Rattle.zeb_image.specs.Looking.{Looks};
 ghost use Rattle.zeb_image.specs.PrivateChecking.{AreMadeOrNone, IsMadeOrNone};
-ghost use Rattle.zeb_register.specs.Connections.{IsReasonedOf, ReadingOf};
+ghost use Rattle.zeb_register.specs.Connections.{IsReasonedOf, ReadingOf, TellsOf};
 
 use crate::checking_records::postings_of;
 use crate::names::DbName;
@@ -24,9 +22,8 @@ pub(crate) fn expected_databases<S: Alter>(
 ) -> Result<Option<Vec<ExpectedDatabase>>, RegFault>
     ensures call { ReadingOf S.Store connection.old connection.new result
         (λ found. Looks (IsSome found)) }
-    ensures value { HasCleanDisk (state S.Store connection.new)
-        → IsStore (state S.Store connection.old)
-        → IfOk result (AreMadeOrNone profile.now (state S.Store connection.old).now.trees) }
+    ensures value { TellsOf S.Store connection.old connection.new result
+        (AreMadeOrNone profile.now) }
     ensures honest { result ≢ Err RegFault.Damaged }
     ensures refused { IsReasonedOf S.Store connection.old connection.new result }
 {
@@ -54,9 +51,8 @@ fn expected_database<S: Alter>(
 ) -> Result<Option<ExpectedDatabase>, RegFault>
     ensures call { ReadingOf S.Store connection.old connection.new result
         (λ found old new. IsSome found → IsUnchanged old new) }
-    ensures value { HasCleanDisk (state S.Store connection.new)
-        → IsStore (state S.Store connection.old)
-        → IfOk result (IsMadeOrNone profile.now (state S.Store connection.old).now.trees listed) }
+    ensures value { TellsOf S.Store connection.old connection.new result
+        (λ trees. IsMadeOrNone profile.now trees listed) }
     ensures honest { result ≢ Err RegFault.Damaged }
     ensures refused { IsReasonedOf S.Store connection.old connection.new result }
 {

@@ -1,11 +1,8 @@
 -- What calls that look for a leaf answer.
-use Rattle.zeb_leaf_rows.proofs.Cited.{Row, ◌≡◌, ◌≢◌, ◌<◌, ◌+◌, ◌∷◌, ℕ, ℤ, pos, List, [], Ok, Err, Result, Option, None, refl, sym, subst, arith, HasBlockFrom, IsCovering, IsFirst, IsLeafAt, IsLeafIn, IsRest, IsStore, IsUncovered, Register, ShowsSome, State, blocks_tree, leaf_key, register_front}
+use Rattle.zeb_leaf_rows.proofs.Cited.{Row, Trees, ◌≡◌, ◌≢◌, ◌<◌, ◌+◌, ◌∷◌, ℕ, ℤ, pos, List, [], Option, None, refl, sym, subst, arith, HasBlockFrom, IsCovering, IsFirst, IsLeafAt, IsLeafIn, IsRest, IsStore, IsUncovered, Register, ShowsSome, State, blocks_tree, leaf_key, register_front}
 use Rattle.std.proofs.Common.{◌+ℤ◌, ◌^◌, of_z, to_z, w64}
 use Rattle.std.proofs.lemmas.Int.{ints}
-use Rattle.sqlite.specs.Effect.{Database}
 use Rattle.zeb_leaf_rows.proofs.CoveringLeaves.{Leaves, leaf_some, some_leaf, uncovered}
-use Rattle.zeb_register.specs.Answers.{Answers, IfDamaged}
-use Rattle.zeb_register.specs.declared.faults.RegFault.{RegFault}
 use Rattle.zeb_register.specs.declared.registers.RegisterOf.{RegisterOf}
 
 module _ (s : State) (store : IsStore s) (db : ℤ) (index : ℕ) (register : Register) where
@@ -22,15 +19,12 @@ module _ (s : State) (store : IsStore s) (db : ℤ) (index : ℕ) (register : Re
   some_leaf_shown (row ∷ rows) is some = (some.0, some_leaf s store db index register some.0 some.1)
 
 -- where no leaf is up to the key, there is none, or none covers it
-pub answered_uncovered : (at : RegisterOf) (term : List ℕ) (block : ℕ) (d e : Database) → e ≡ d → IsCovering (IsLeafIn d.trees at) (leaf_key term block) None → (result : Result (Option Row) RegFault)
-    → Answers (IfDamaged ((leaf : Row) × IsLeafIn e.trees at leaf)) (λ found. (found ≡ None) × ((leaf : Row) → ¬ IsLeafIn e.trees at leaf)) result
-    → Answers (IfDamaged (IsUncovered (IsLeafIn d.trees at) (leaf_key term block))) (λ found. IsLeafAt (IsLeafIn d.trees at) (leaf_key term block) found) result
-answered_uncovered at term block d e same none (Ok found) it =
-    let gone : (leaf : Row) → ¬ IsLeafIn d.trees at leaf = subst (λ (x : Database). (leaf : Row) → ¬ IsLeafIn x.trees at leaf) same it.1 in
-    subst (λ (f : Option Row). IsLeafAt (IsLeafIn d.trees at) (leaf_key term block) f) (sym it.0) gone
-answered_uncovered at term block d e same none (Err fault) it = λ told.
-    let bad = subst (λ (x : Database). (leaf : Row) × IsLeafIn x.trees at leaf) same (it told) in
-    uncovered (IsLeafIn d.trees at) (leaf_key term block) none bad.0 bad.1
+module _ (trees : Trees) (at : RegisterOf) (term : List ℕ) (block : ℕ) (none : IsCovering (IsLeafIn trees at) (leaf_key term block) None) where
+  pub still_uncovered : (leaf : Row) × IsLeafIn trees at leaf → IsUncovered (IsLeafIn trees at) (leaf_key term block)
+  still_uncovered bad = uncovered (IsLeafIn trees at) (leaf_key term block) none bad.0 bad.1
+
+  pub gone_at : (found : Option Row) → found ≡ None → ((leaf : Row) → ¬ IsLeafIn trees at leaf) → IsLeafAt (IsLeafIn trees at) (leaf_key term block) found
+  gone_at found is gone = subst (λ (f : Option Row). IsLeafAt (IsLeafIn trees at) (leaf_key term block) f) (sym is) gone
 
 -- ---- the end behind a block, as it is added in the code
 

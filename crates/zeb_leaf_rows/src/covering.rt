@@ -1,12 +1,10 @@
 //! The leaf that covers a block of a term.
 
 ghost use Rattle.std.specs.Prelude.{◌≡◌, ◌<◌, ◌^◌, None};
-ghost use Rattle.sqlite.specs.State.{IsUnchanged};
 ghost use Rattle.zeb_register.specs.Covering.{leaf_key};
 ghost use Rattle.zeb_leaf_rows.specs.LeafRows.{IsLastOf, IsLeafAt, IsLeafIn, IsUncovered};
 ghost use Rattle.zeb_leaf_rows.specs.PrivateLeafRows.{IsCovering, IsGreatest, IsOfTermBelow, IsOfTermsBelow};
-ghost use Rattle.zeb_register.specs.Answers.{Answers, IfDamaged};
-ghost use Rattle.zeb_register.specs.Connections.{IsReasonedErrorOf, IsReasonedOf, OnStoreOf, ReadingOf, TellsOf};
+ghost use Rattle.zeb_register.specs.Connections.{AsksOf, LooksIntoOf};
 
 use crate::statements::{row_of_term, row_of_terms_below, some_row};
 use sqlite::{Alter, Connection, Error, Row};
@@ -27,10 +25,8 @@ fn leaf_of_term<S: Alter>(
     term: &str,
     end: i64,
 ) -> Result<Option<Row>, Error>
-    ensures call { ReadingOf S.Store conn.old conn.new result (λ _. IsUnchanged) }
-    ensures finds { TellsOf S.Store conn.old conn.new result
+    ensures { AsksOf S.Store conn.old conn.new result
         (λ trees found. IsGreatest (IsOfTermBelow at term.now end trees) found) }
-    ensures refused { IsReasonedErrorOf S.Store conn.old conn.new result }
 {
     let rows = row_of_term(conn, at, term, end)?;
     Ok(last_row(rows))
@@ -42,10 +38,8 @@ pub(crate) fn leaf_of_terms_below<S: Alter>(
     at: RegisterOf,
     term: &str,
 ) -> Result<Option<Row>, Error>
-    ensures call { ReadingOf S.Store conn.old conn.new result (λ _. IsUnchanged) }
-    ensures finds { TellsOf S.Store conn.old conn.new result
+    ensures { AsksOf S.Store conn.old conn.new result
         (λ trees found. IsGreatest (IsOfTermsBelow at term.now trees) found) }
-    ensures refused { IsReasonedErrorOf S.Store conn.old conn.new result }
 {
     let rows = row_of_terms_below(conn, at, term)?;
     Ok(last_row(rows))
@@ -60,10 +54,8 @@ fn covering_leaf<S: Alter>(
     block: u64,
 ) -> Result<Option<Row>, Error>
     requires { block < 2 ^ 56 }
-    ensures call { ReadingOf S.Store conn.old conn.new result (λ _. IsUnchanged) }
-    ensures covers { TellsOf S.Store conn.old conn.new result
+    ensures { AsksOf S.Store conn.old conn.new result
         (λ trees found. IsCovering (IsLeafIn trees at) (leaf_key term.now block) found) }
-    ensures refused { IsReasonedErrorOf S.Store conn.old conn.new result }
 {
     let end = block as i64 + 1;
     match leaf_of_term(conn, at, term, end)? {
@@ -76,11 +68,9 @@ fn covering_leaf<S: Alter>(
 ///
 /// On a store's tables `Store` is answered only where the store may refuse, and `Memory` for want of memory. It changes nothing.
 pub fn no_leaf<S: Alter>(conn: &mut Connection<S>, at: RegisterOf) -> Result<Option<Row>, RegFault>
-    ensures call { ReadingOf S.Store conn.old conn.new result (λ _. IsUnchanged) }
-    ensures none { OnStoreOf S.Store conn.old conn.new (λ trees. Answers
-        (IfDamaged ((leaf : _) × IsLeafIn trees at leaf)) (λ found. (found ≡ None)
-        × ((leaf : _) → ¬ IsLeafIn trees at leaf)) result) }
-    ensures refused { IsReasonedOf S.Store conn.old conn.new result }
+    ensures { LooksIntoOf S.Store conn.old conn.new result (λ trees. (leaf : _)
+        × IsLeafIn trees at leaf) (λ trees found. (found ≡ None) × ((leaf : _)
+        → ¬ IsLeafIn trees at leaf)) }
 {
     let rows = some_row(conn, at)?;
     if rows.is_empty() {
@@ -99,11 +89,9 @@ pub fn leaf_at<S: Alter>(
     block: u64,
 ) -> Result<Option<Row>, RegFault>
     requires { block < 2 ^ 56 }
-    ensures call { ReadingOf S.Store conn.old conn.new result (λ _. IsUnchanged) }
-    ensures finds { OnStoreOf S.Store conn.old conn.new
-        (λ trees. Answers (IfDamaged (IsUncovered (IsLeafIn trees at) (leaf_key term.now block)))
-        (λ found. IsLeafAt (IsLeafIn trees at) (leaf_key term.now block) found) result) }
-    ensures refused { IsReasonedOf S.Store conn.old conn.new result }
+    ensures { LooksIntoOf S.Store conn.old conn.new result
+        (λ trees. IsUncovered (IsLeafIn trees at) (leaf_key term.now block))
+        (λ trees found. IsLeafAt (IsLeafIn trees at) (leaf_key term.now block) found) }
 {
     match covering_leaf(conn, at, term, block)? {
         Some(leaf) => Ok(Some(leaf)),

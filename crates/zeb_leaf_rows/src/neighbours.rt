@@ -3,12 +3,10 @@
 ghost use Rattle.std.specs.Prelude.{◌≡◌, ◌↔◌, true, IfSome, IsTrue};
 ghost use Rattle.std.specs.Cmp.Lexicographic.{slice_cmp};
 ghost use Rattle.std.specs.Ordering.{is_lt, nat_cmp};
-ghost use Rattle.sqlite.specs.State.{IsUnchanged};
 ghost use Rattle.zeb_leaf_rows.specs.LeafRows.{IsLeafAt, IsLeafIn, IsOnlyLeaf, IsUncovered};
 ghost use Rattle.zeb_leaf_rows.specs.PrivateLeafRows.{HasTermBelow};
-ghost use Rattle.zeb_register.specs.Answers.{Answers, IfDamaged};
-ghost use Rattle.zeb_register.specs.Connections.{IsReasonedErrorOf, IsReasonedOf, OnStoreOf, ReadingOf, TellsOf};
 ghost use Rattle.zeb_register.specs.Covering.{leaf_key};
+ghost use Rattle.zeb_register.specs.Connections.{AsksOf, LooksIntoOf};
 
 use crate::covering::{leaf_at, leaf_of_terms_below};
 use sqlite::types::ValueRef;
@@ -38,10 +36,8 @@ pub fn only_leaf<S: Alter>(
     end: &str,
 ) -> Result<Option<Row>, Error>
     requires { is_lt (slice_cmp nat_cmp first.now end.now) ≡ true }
-    ensures call { ReadingOf S.Store conn.old conn.new result (λ _. IsUnchanged) }
-    ensures finds { TellsOf S.Store conn.old conn.new result (λ trees found. IfSome found
+    ensures { AsksOf S.Store conn.old conn.new result (λ trees found. IfSome found
         (λ leaf. IsOnlyLeaf (IsLeafIn trees at) first.now end.now leaf)) }
-    ensures refused { IsReasonedErrorOf S.Store conn.old conn.new result }
 {
     // Of the leaves of all terms below the end this is the greatest: where it is below the first text, none stands between them.
     let Some(leaf) = leaf_of_terms_below(conn, at, end)? else {
@@ -62,11 +58,9 @@ pub fn leaf_from<S: Alter>(
     at: RegisterOf,
     first: &str,
 ) -> Result<Option<Row>, RegFault>
-    ensures call { ReadingOf S.Store conn.old conn.new result (λ _. IsUnchanged) }
-    ensures finds { OnStoreOf S.Store conn.old conn.new
-        (λ trees. Answers (IfDamaged (IsUncovered (IsLeafIn trees at) (leaf_key first.now 0)))
-        (λ found. IsLeafAt (IsLeafIn trees at) (leaf_key first.now 0) found) result) }
-    ensures refused { IsReasonedOf S.Store conn.old conn.new result }
+    ensures { LooksIntoOf S.Store conn.old conn.new result
+        (λ trees. IsUncovered (IsLeafIn trees at) (leaf_key first.now 0))
+        (λ trees found. IsLeafAt (IsLeafIn trees at) (leaf_key first.now 0) found) }
 {
     let end = text_above(alloc, first)?;
     match only_leaf(conn, at, first, end.as_str())? {

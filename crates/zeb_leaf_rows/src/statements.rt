@@ -1,12 +1,9 @@
 //! The statements that find the leaves of a register: one shows the block of some leaf, each other a leaf by its term, block and bytes.
 
-ghost use Rattle.sqlite.specs.State.{IsUnchanged};
 ghost use Rattle.zeb_leaf_rows.specs.LeafRows.{IsInRegister, IsRowBetween, ShowsSome};
 ghost use Rattle.zeb_leaf_rows.specs.PrivateLeafRows.{IsOfTermBelow, IsOfTermsBelow, ShowsGreatest};
-ghost use Rattle.zeb_register.specs.Connections.{IsReasonedErrorOf, ReadingOf};
-ghost use Rattle.zeb_register.specs.PrivateRowTerms.{ReadsRows};
+ghost use Rattle.zeb_register.specs.Connections.{AsksOf};
 ghost use Rattle.zeb_register.specs.Sql.{IsListOf};
-ghost use Rattle.zeb_register.specs.Store.{IsStore};
 
 use sqlite::{Alter, Connection, Error, Row, params};
 use zeb_register::RegisterOf;
@@ -35,9 +32,8 @@ pub(crate) fn row_of_term<S: Alter>(
     term: &str,
     end: i64,
 ) -> Result<Vec<Row>, Error>
-    ensures call { ReadingOf S.Store conn.old conn.new result (λ rows a b. ReadsRows
-        (λ trees. ShowsGreatest (IsOfTermBelow at term.now end trees)) a b rows.items) }
-    ensures err { IsReasonedErrorOf S.Store conn.old conn.new result }
+    ensures { AsksOf S.Store conn.old conn.new result
+        (λ trees rows. ShowsGreatest (IsOfTermBelow at term.now end trees) rows.items) }
 {
     let db = at.db.column();
     let reg = u32::from(at.register.code());
@@ -51,9 +47,8 @@ pub(crate) fn row_of_terms_below<S: Alter>(
     at: RegisterOf,
     term: &str,
 ) -> Result<Vec<Row>, Error>
-    ensures call { ReadingOf S.Store conn.old conn.new result (λ rows a b. ReadsRows
-        (λ trees. ShowsGreatest (IsOfTermsBelow at term.now trees)) a b rows.items) }
-    ensures err { IsReasonedErrorOf S.Store conn.old conn.new result }
+    ensures { AsksOf S.Store conn.old conn.new result
+        (λ trees rows. ShowsGreatest (IsOfTermsBelow at term.now trees) rows.items) }
 {
     let db = at.db.column();
     let reg = u32::from(at.register.code());
@@ -74,9 +69,8 @@ pub fn rows_between<S: Alter>(
     first: &str,
     end: &str,
 ) -> Result<Vec<Row>, Error>
-    ensures call { ReadingOf S.Store conn.old conn.new result (λ rows a b. IsUnchanged a b
-        × (IsStore a → IsListOf (IsRowBetween at first.now end.now a.now.trees) rows.items)) }
-    ensures err { IsReasonedErrorOf S.Store conn.old conn.new result }
+    ensures { AsksOf S.Store conn.old conn.new result
+        (λ trees rows. IsListOf (IsRowBetween at first.now end.now trees) rows.items) }
 {
     let db = at.db.column();
     let reg = u32::from(at.register.code());
@@ -88,9 +82,8 @@ pub fn rows_between<S: Alter>(
 ///
 /// On a store's tables it fails only where the store may refuse, or for want of memory. It changes nothing.
 pub fn some_row<S: Alter>(conn: &mut Connection<S>, at: RegisterOf) -> Result<Vec<Row>, Error>
-    ensures call { ReadingOf S.Store conn.old conn.new result (λ rows a b. IsUnchanged a b
-        × (IsStore a → ShowsSome (IsInRegister at a.now.trees) rows.items)) }
-    ensures err { IsReasonedErrorOf S.Store conn.old conn.new result }
+    ensures { AsksOf S.Store conn.old conn.new result
+        (λ trees rows. ShowsSome (IsInRegister at trees) rows.items) }
 {
     let db = at.db.column();
     let reg = u32::from(at.register.code());

@@ -44,7 +44,7 @@ pub use Rattle.zeb_leaf.specs.declared.entries.TheConstants.{LEAF_BYTES, FULL_BY
 pub use Rattle.zeb_leaf.specs.declared.merging.BlockChange.{BlockChange}
 pub use Rattle.zeb_leaf.specs.declared.parting.NewLeaf.{NewLeaf}
 pub use Rattle.zeb_leaf.specs.declared.spans.BlockKey.{BlockKey, BlockKey as KeyOfBlock}
-pub use Rattle.zeb_leaf_rows.proofs.CoveringCalls.{answered_uncovered, up_to_next, next_number}
+pub use Rattle.zeb_leaf_rows.proofs.CoveringCalls.{up_to_next, next_number}
 pub use Rattle.zeb_leaf_rows.proofs.CoveringLeaves.{covers_below, covers_own, leaf_shape, shown_greatest, leaf_some, some_leaf, never_last}
 pub use Rattle.zeb_leaf_rows.proofs.LeafShapes.{leaf_row}
 pub use Rattle.zeb_leaf_rows.proofs.LeafStatements.{first_of, first_so, leaf_places, term_order, any_query, any_shown, of_term_query, of_term_shown, falling_keys, known, leaf_names, two_lower, IsUnder, below_more, below_query, below_shown}
@@ -55,7 +55,7 @@ pub use Rattle.zeb_leaves.specs.LeafChanges.{AreDistinct, ArePartedFrom, BeginsL
 pub use Rattle.zeb_leaves.specs.PrivateAgreeing.{TakeEntries, leaf_of, entry_key, leaf_shown, rest_shown, EachHasLeaves, HasLeaves, IsEmptyBeside, OthersAreEmpty, HoldsPostings, AreWalked, IsBeside, Leaf, LeavesIn, ShowsLeaf, key_of, own_of, PostingsRise, TakesLeaf, IsWhole, before_of, ReadsLeaves}
 pub use Rattle.zeb_leaves.specs.PrivateLeafReads.{IsLeast, IsNextBehind, ShowsLast, TellsKey, TellsSome, IsOfTermFrom}
 pub use Rattle.zeb_leaves.specs.PrivateLeafWrites.{HidesEnd, IsEndAt, GainsLeaves, IfToldPuts, IsLeafWith, IsNewRow, leaf_columns, new_row, IfToldPutsEntries, coming, AreFilled, IsFilled, IsRowOfOne, PutsEntries, PutsLeaves, WritesLeaves}
-pub use Rattle.zeb_leaves.specs.PrivateNearCalls.{MayTellBeside, HidesBeside, IsSide, ListsBeside, TellsBeside}
+pub use Rattle.zeb_leaves.specs.PrivateNearCalls.{HidesBeside, IsSide, ListsBeside}
 pub use Rattle.zeb_leaves.specs.PrivateNearRows.{ListsBack, ListsFront}
 pub use Rattle.zeb_leaves.specs.PrivateNearTerms.{AreEnough, CountBelow, CountRows, CountUntil, GoesDown, GoesPast, HideBelow, HideRows, HidesDown, HidesRow, MeetNoText, StopsAt, StopsDown, AreEnoughAt, CountsRow}
 pub use Rattle.zeb_leaves.specs.PrivatePieces.{HasPostings, IsPiece, LacksTurn, TurnAllEntries, TurnsEntries, block_of, LackTurn, ArePieces, ArePiecesOf, BeginsElsewhere, IsFront, PartsRun, PutsPieces, all_changes, piece_cmp, AreStorable}
@@ -69,9 +69,9 @@ pub use Rattle.zeb_register.proofs.AgreeingTables.{under_has, under_rises, key_p
 pub use Rattle.zeb_register.proofs.Answered.{refused_so}
 pub use Rattle.zeb_register.proofs.BetweenLemmas.{up_to}
 pub use Rattle.zeb_register.proofs.BlockUnits.{none_rises}
-pub use Rattle.zeb_register.proofs.Calls.{store_same, nothing_then, reading_then, lists_read, goes_keeps, query_keeps, reads_goes, Stays, all_read, alone_inside, on_ok_so, goes_then, alters, carried_out, refused_keeps, changes_none, stays_still, stays_then, alters_so, changes_then, changes_so, reading_behind, nothing, quiet, on_err}
+pub use Rattle.zeb_register.proofs.Calls.{store_same, nothing_then, goes_keeps, query_keeps, reads_goes, Stays, alone_inside, on_ok_so, goes_then, alters, carried_out, refused_keeps, changes_none, stays_still, stays_then, alters_so, changes_then, changes_so, nothing, quiet, on_err}
 pub use Rattle.zeb_register.proofs.CallsInTurn.{quiet_then, quiet_still}
-pub use Rattle.zeb_register.proofs.Causes.{failed_after, reasoned_after, may_after}
+pub use Rattle.zeb_register.proofs.Causes.{may_after}
 pub use Rattle.zeb_register.proofs.Cited.{unchanged_then, HasGiven}
 pub use Rattle.zeb_register.proofs.Columns.{column_is}
 pub use Rattle.zeb_register.proofs.ContentChanges.{integers_apart, posting_total, told_spot}
@@ -89,9 +89,9 @@ pub use Rattle.zeb_register.proofs.PackedBeside.{drop_got, same_rest, drop_none,
 pub use Rattle.zeb_register.proofs.PackedLemmas.{in_part, not_empty, part_in_block, part_in_list}
 pub use Rattle.zeb_register.proofs.PostingStatements.{blocks, register_of, blocks_keys, blocks_static}
 pub use Rattle.zeb_register.proofs.PrefixSelects.{IsAfter, after_key, lists_after}
-pub use Rattle.zeb_register.proofs.Refusals.{IsQuery, refused, why_failed}
+pub use Rattle.zeb_register.proofs.Refusals.{IsQuery, refused}
 pub use Rattle.zeb_register.proofs.RisingLists.{all_rise, all_there, joined_rises, kept_rises, never_itself, same_list, told_by, with_all, flipped_total, has_reversed, reversed_rises, cut_rises, before_last, front_rises, never_back, no_longer, snoc_of, same_last}
-pub use Rattle.zeb_register.proofs.RowFaults.{rows_told, refused_rows}
+pub use Rattle.zeb_register.proofs.RowFaults.{refused_rows}
 pub use Rattle.zeb_register.proofs.RowLemmas.{same_bytes, covered_some, ordering_tied, shares_alone}
 pub use Rattle.zeb_register.proofs.RowReads.{still, begun_silent, failed_nothing, same_nothing, stopped}
 pub use Rattle.zeb_register.proofs.RunTurns.{LeadsOn, Answered}
@@ -103,7 +103,7 @@ pub use Rattle.zeb_register.proofs.TermsAmong.{records_count, terms_among}
 pub use Rattle.zeb_register.proofs.WorkCounts.{leaves_still, more_leaves, both_leaves}
 pub use Rattle.zeb_register.proofs.YesNoAnswers.{match_so}
 pub use Rattle.zeb_register.specs.Agreeing.{IsLeastFrom, IsListedId, IsThere, LacksPostingsAndDict, Owns, expected_name, listed_name, AreBeside, ListsAgree}
-pub use Rattle.zeb_register.specs.Answers.{Answers, IfDamaged, IfRefused, IfRowDamaged, TellsOr}
+pub use Rattle.zeb_register.specs.Answers.{Answers, Asks, IfDamaged, IfRowDamaged, LooksInto}
 pub use Rattle.zeb_register.specs.Between.{IsBetween}
 pub use Rattle.zeb_register.specs.Calls.{MayRefuse, Reading, ChangesNothing, Alters, Inside, OnlyReads}
 pub use Rattle.zeb_register.specs.Clauses.{IsReasonedError, TellsInside}
@@ -135,7 +135,7 @@ pub use Rattle.zeb_register.specs.declared.catalog.ListedDatabase.{ListedDatabas
 pub use Rattle.zeb_register.specs.declared.expected.ExpectedDatabase.{ExpectedDatabase}
 pub use Rattle.zeb_register.specs.declared.expected.KeyPosting.{KeyPosting}
 pub use Rattle.zeb_register.specs.declared.faults.RegFault.{RegFault}
-pub use Rattle.zeb_register.specs.declared.faults.RegFault.TheVariants.{Store, Damaged, Memory}
+pub use Rattle.zeb_register.specs.declared.faults.RegFault.TheVariants.{Store, Memory}
 pub use Rattle.zeb_register.specs.declared.registers.KeyChanges.{KeyChanges}
 pub use Rattle.zeb_register.specs.declared.registers.Place.{Place}
 pub use Rattle.zeb_register.specs.declared.registers.RecordChange.{RecordChange}

@@ -1,5 +1,5 @@
 -- What a call that lists the last terms below a text answers, by the leaves that it found.
-use Rattle.zeb_leaves.proofs.Cited.{Row, column, row_cmp, Has, all_from, all_has, Text, ◌≡◌, ◌≢◌, ◌≤◌, ◌∙◌, ◌++◌, ℕ, true, false, nat_eq, List, [], ◌∷◌, length, Ok, Err, Option, Some, None, Result, refl, sym, ap, subst, inl, inr, arith, Less, nat_list_cmp_total, never_itself, value_cmp-Text, State, TermCount, IsLeafIn, IsStore, leaf_key, own_key, Database, value_cmp, reverse, eqb-true, is_lt, IfSome, Vec, IsOfTermsBelow, HidesBeside, IsSide, ListsBeside, CountBelow, HideBelow, Below, flipped_total, has_reversed, reversed_rises, Answers, IfDamaged, IfRefused, MayRefuse, packed_leaves, IsListOf, Comes, ListsBefore, RegFault, Store, RegisterOf}
+use Rattle.zeb_leaves.proofs.Cited.{Row, column, row_cmp, Has, all_from, all_has, Text, ◌≡◌, ◌≢◌, ◌≤◌, ◌∙◌, ◌++◌, ℕ, true, false, nat_eq, List, [], ◌∷◌, length, Option, Some, None, refl, sym, ap, subst, inl, inr, arith, Less, nat_list_cmp_total, never_itself, value_cmp-Text, State, TermCount, IsLeafIn, IsStore, leaf_key, own_key, value_cmp, reverse, eqb-true, is_lt, IfSome, Vec, IsOfTermsBelow, HidesBeside, IsSide, ListsBeside, CountBelow, HideBelow, Below, flipped_total, has_reversed, reversed_rises, packed_leaves, IsListOf, Comes, ListsBefore, RegisterOf}
 use Rattle.std.specs.List.Sorted.{IsStrictlySortedBy}
 use Rattle.std.specs.declared.alloc.Global.{Global}
 use Rattle.zeb_leaf_rows.proofs.CoveringLeaves.{Leaves, below_is_lower, below_up, from_leaf, leaf_shape}
@@ -69,7 +69,7 @@ module _ (s : State) (store : IsStore s) (at : RegisterOf) where
       fall = reversed_rises (flipped_total keys_total) rising (keys_rise rising are.rising (λ r h. (leaf_of r h).0));
     }
 
-    module _ (rows : List Row) (is : reverse rising ≡ rows) (new : State) where
+    module _ (rows : List Row) (is : reverse rising ≡ rows) where
       abbrev on : Type 0
       on = IsSide at start n Below s.now.trees
 
@@ -88,18 +88,14 @@ module _ (s : State) (store : IsStore s) (at : RegisterOf) where
           let first = first_of rows some in
           last_hides s.now.trees at start n one (leaf_shape s store at.db.0 at.index at.register) (one_leaf s store at.db.0 at.index at.register) first.0 ((stands.known first.0 first.1).0) (least_before start below) rows stands bad
 
-      pub answers_leafless : rows ≡ [] → (d : Database) → d ≡ s.now → (result : Result (Option (Vec TermCount Global)) RegFault)
-          → Answers (IfDamaged ((leaf : Row) × IsLeafIn d.trees at leaf)) (λ found. IfSome found (λ list. list.items ≡ []) × ((leaf : Row) → ¬ IsLeafIn d.trees at leaf)) result → (result ≡ Err Store → MayRefuse s new)
-          → Answers (IfRefused s new (on → HidesBeside at start n Below s.now.trees)) (λ found. IfSome found (λ list. on → ListsBeside at start n Below s.now.trees list.items)) result
-      answers_leafless none d same (Ok None) told reason = tt
-      answers_leafless none d same (Ok (Some list)) told reason = λ below.
-          subst (ListsBefore packed_leaves s.now.trees at.db.0 at.index at.register start n) (sym told.0)
-          (leafless s.now.trees at start n one (subst (λ (x : Database). (leaf : Row) → ¬ IsLeafIn x.trees at leaf) same told.1))
-      answers_leafless none d same (Err fault) told reason = (
-        λ damaged below.
-            let it = subst (λ (x : Database). (leaf : Row) × IsLeafIn x.trees at leaf) same (told damaged) in
-            let least = least_before start below in
-            last_hides s.now.trees at start n one (leaf_shape s store at.db.0 at.index at.register) (one_leaf s store at.db.0 at.index at.register) it.0 it.1 least [] (subst Stands none stands)
-            (λ both. never_itself nat_list_cmp_total [] (subst (Comes []) both.0 least)),
-        λ failed. reason (ap Err failed),
-      )
+      -- without a row there no leaf covers what is below, and so none may be anywhere
+      pub leafless_hidden : rows ≡ [] → (leaf : Row) × IsLeafIn s.now.trees at leaf → on → HidesBeside at start n Below s.now.trees
+      leafless_hidden none it below =
+          let least = least_before start below in
+          last_hides s.now.trees at start n one (leaf_shape s store at.db.0 at.index at.register) (one_leaf s store at.db.0 at.index at.register) it.0 it.1 least [] (subst Stands none stands)
+          (λ both. never_itself nat_list_cmp_total [] (subst (Comes []) both.0 least))
+
+  pub leafless_found : (start : List ℕ) (n : ℕ) → 1 ≤ n → (found : Option (Vec TermCount Global)) → IfSome found (λ list. list.items ≡ []) → ((leaf : Row) → ¬ IsLeafIn s.now.trees at leaf)
+      → IfSome found (λ list. IsSide at start n Below s.now.trees → ListsBeside at start n Below s.now.trees list.items)
+  leafless_found start n one None told gone = tt
+  leafless_found start n one (Some list) told gone = λ below. subst (ListsBefore packed_leaves s.now.trees at.db.0 at.index at.register start n) (sym told) (leafless s.now.trees at start n one gone)

@@ -1,5 +1,5 @@
 -- The leaves under each id, by the ids with which rows begin and by the list of the databases that are there.
-use Rattle.zeb_leaves.proofs.Cited.{Row, State, Trees, column, Int, Has, ◌≡◌, ◌⊎◌, ◌↔◌, ◌∙◌, ◌∷◌, ℤ, pos, Option, List, [], map, refl, sym, ap, subst, inl, inr, integers_apart, told_by, int_cmp_total, IsRest, IsStore, blocks_tree, Database, Bool, ◌+ℤ◌, EachHasLeaves, HasLeaves, IsEmptyBeside, OthersAreEmpty, owner_row, blocks, blocks_static, IsLeastFrom, IsListedId, IsThere, LacksPostingsAndDict, Owns, expected_name, listed_name, ListedDatabase, ExpectedDatabase, KeyPosting}
+use Rattle.zeb_leaves.proofs.Cited.{Row, State, Trees, column, Int, Has, ◌≡◌, ◌⊎◌, ◌↔◌, ◌∙◌, ◌∷◌, ℤ, pos, Option, List, [], map, refl, sym, ap, subst, inl, inr, integers_apart, told_by, int_cmp_total, IsRest, IsStore, blocks_tree, Bool, ◌+ℤ◌, EachHasLeaves, HasLeaves, IsEmptyBeside, OthersAreEmpty, owner_row, blocks, blocks_static, IsLeastFrom, IsListedId, IsThere, LacksPostingsAndDict, Owns, expected_name, listed_name, ListedDatabase, ExpectedDatabase, KeyPosting}
 use Rattle.std.specs.Bool.{IsTrue}
 use Rattle.sqlite_rules.proofs.ListLemmas.{has_got}
 use Rattle.std.specs.List.Sorted.{IsStrictlySortedBy}
@@ -71,16 +71,11 @@ module _ (s : State) (store : IsStore s) (databases : List ExpectedDatabase) (li
     λ one d pair. agree.there one.id.0 d (there_pair s store databases listed are named one d pair),
   )
 
--- what is told of the id and the postings that were looked at, in the tables that are there
-pub told_leaves : (s0 s1 : State) (db id : ℤ) (seen postings : List KeyPosting) (agree : Bool) → s1.now ≡ s0.now → db ≡ id → seen ≡ postings → (IsTrue agree ↔ HasLeaves db seen s1.now.trees) → IsTrue agree ↔ HasLeaves id postings s0.now.trees
-told_leaves s0 s1 db id seen postings agree at same all value =
-    subst (λ (i : ℤ). IsTrue agree ↔ HasLeaves i postings s0.now.trees) same
-    (subst (λ (l : List KeyPosting). IsTrue agree ↔ HasLeaves db l s0.now.trees) all (subst (λ (d : Database). IsTrue agree ↔ HasLeaves db seen d.trees) at value))
+-- what is told of the id and the postings that were looked at
+pub told_leaves : (trees : Trees) (db id : ℤ) (seen postings : List KeyPosting) (agree : Bool) → db ≡ id → seen ≡ postings → (IsTrue agree ↔ HasLeaves db seen trees) → IsTrue agree ↔ HasLeaves id postings trees
+told_leaves trees db id seen postings agree same all value =
+    subst (λ (i : ℤ). IsTrue agree ↔ HasLeaves i postings trees) same (subst (λ (l : List KeyPosting). IsTrue agree ↔ HasLeaves db l trees) all value)
 
-pub told_empty : (s0 s1 : State) (listed : List ListedDatabase) (id : ℤ) (agree : Bool) → s1.now ≡ s0.now → (IsTrue agree ↔ IsEmptyBeside listed s1.now.trees id) → IsTrue agree ↔ IsEmptyBeside listed s0.now.trees id
-told_empty s0 s1 listed id agree at value = subst (λ (d : Database). IsTrue agree ↔ IsEmptyBeside listed d.trees id) at value
-
--- the id behind one, by the tables that are there
-pub next_there : (s0 s1 : State) (start id : ℤ) (found : Option ℤ) → s1.now ≡ s0.now → start ≡ id +ℤ pos 1 → IsLeastFrom (Owns blocks_tree s1.now.trees) start found → IsLeastFrom (Owns blocks_tree s0.now.trees) (id +ℤ pos 1) found
-next_there s0 s1 start id found at is least =
-    subst (λ (z : ℤ). IsLeastFrom (Owns blocks_tree s0.now.trees) z found) is (subst (λ (d : Database). IsLeastFrom (Owns blocks_tree d.trees) start found) at least)
+-- the id behind one
+pub next_there : (trees : Trees) (start id : ℤ) (found : Option ℤ) → start ≡ id +ℤ pos 1 → IsLeastFrom (Owns blocks_tree trees) start found → IsLeastFrom (Owns blocks_tree trees) (id +ℤ pos 1) found
+next_there trees start id found is least = subst (λ (z : ℤ). IsLeastFrom (Owns blocks_tree trees) z found) is least

@@ -1,5 +1,5 @@
 -- What calls that read neighbouring terms answer, by the leaves that they found.
-use Rattle.zeb_leaves.proofs.Cited.{Row, column, row_cmp, Has, Int, Text, ◌≡◌, ◌≢◌, ◌↔◌, ◌∙◌, ◌<◌, ◌+◌, ◌++◌, ◌∷◌, ℕ, pos, false, true, List, [], Ok, Err, Result, Some, drop, length, refl, sym, ap, subst, inl, inr, arith, Ordering, Less, Equal, Greater, nat_cmp, nat_list_cmp_total, slice_cmp, ordering_reverse, value_cmp-Text, Posting, Entry, State, Covers, IsLeafAt, IsLeafIn, IsStore, IsUncovered, leaf_key, own_key, Database, value_cmp, get_or, drop_more, is_lt, IfOk, Vec, IsOnlyLeaf, IsRowBetween, AreEntriesBetween, SayParts, SayAll, SomeSaysNone, AreSpanLeaves, IsSpanLeaf, ShowAllSpans, ShowSpans, ShowsKey, ShowsSpan, SomeShowsNoKey, up_to, list_so, Answers, IfDamaged, IfRefused, IsBetween, MayRefuse, packed_leaves, IsListOf, HasMalformedBetween, ListsBetween, RegFault, Damaged, Store, RegisterOf}
+use Rattle.zeb_leaves.proofs.Cited.{Row, column, row_cmp, Has, Int, Text, ◌≡◌, ◌≢◌, ◌↔◌, ◌∙◌, ◌<◌, ◌+◌, ◌++◌, ◌∷◌, ℕ, pos, false, true, List, [], Ok, Err, Result, Some, drop, length, refl, sym, ap, subst, inl, inr, arith, Ordering, Less, Equal, Greater, nat_cmp, nat_list_cmp_total, slice_cmp, ordering_reverse, value_cmp-Text, Posting, Entry, State, Covers, IsLeafAt, IsLeafIn, IsStore, IsUncovered, leaf_key, own_key, value_cmp, get_or, drop_more, is_lt, IfOk, Vec, IsOnlyLeaf, IsRowBetween, AreEntriesBetween, SayParts, SayAll, SomeSaysNone, AreSpanLeaves, IsSpanLeaf, ShowAllSpans, ShowSpans, ShowsKey, ShowsSpan, SomeShowsNoKey, up_to, list_so, Answers, IfDamaged, IsBetween, packed_leaves, IsListOf, HasMalformedBetween, ListsBetween, RegFault, RegisterOf}
 use Rattle.std.specs.List.Sorted.{IsStrictlySortedBy}
 use Rattle.std.specs.declared.alloc.Global.{Global}
 use Rattle.zeb_leaf.specs.declared.entries.Held.{Held}
@@ -86,14 +86,11 @@ module _ (s : State) (store : IsStore s) (at : RegisterOf) where
   )
 
   -- the leaf that covers the first text's first block, and those that a statement lists behind it
-  pub answers_span : (first end : List ℕ) (leaf : Row) → IsLeafAt (IsLeafIn s.now.trees at) (leaf_key first 0) (Some leaf) → (d : Database) → d ≡ s.now → (result : Result (Vec Row Global) RegFault)
-      → IfOk result (λ rows. (behind : List Row) × (rows.items ≡ leaf ∷ behind) × IsListOf (IsRowBetween at first end d.trees) behind) → result ≢ Err Damaged
-      → Answers (IfDamaged (IsUncovered (IsLeafIn s.now.trees at) (leaf_key first 0))) (λ rows. (last : List ℕ) → end ≡ last ++ 0 ∷ [] → AreSpanLeaves (IsLeafIn s.now.trees at) first last rows.items) result
-  answers_span first end leaf covers d same (Ok rows) told honest = λ last is.
-      let listed = subst (λ (x : Database). IsListOf (IsRowBetween at first end x.trees) told.0) same told.2 in
-      let ended = subst (λ (t : List ℕ). IsListOf (IsRowBetween at first t s.now.trees) told.0) is listed in
+  pub found_span : (first end : List ℕ) (leaf : Row) → IsLeafAt (IsLeafIn s.now.trees at) (leaf_key first 0) (Some leaf) → (rows : List Row) → (behind : List Row) × (rows ≡ leaf ∷ behind) × IsListOf (IsRowBetween at first end s.now.trees) behind
+      → (last : List ℕ) → end ≡ last ++ 0 ∷ [] → AreSpanLeaves (IsLeafIn s.now.trees at) first last rows
+  found_span first end leaf covers rows told last is =
+      let ended = subst (λ (t : List ℕ). IsListOf (IsRowBetween at first t s.now.trees) told.0) is told.2 in
       subst (AreSpanLeaves (IsLeafIn s.now.trees at) first last) (sym told.1) (covers, list_so (IsRowBetween at first (last ++ 0 ∷ []) s.now.trees) (IsSpanLeaf Own first last (λ _. Unit {0})) told.0 (row_so first last) ended)
-  answers_span first end leaf covers d same (Err fault) told honest = λ damaged. absurd (honest (ap Err damaged))
 
   -- no leaf covers the first text's first block
   pub uncovered_between : (first last : List ℕ) → IsBetween first last first → IsUncovered (IsLeafIn s.now.trees at) (leaf_key first 0) → HasMalformedBetween packed_leaves s.now.trees at first last
@@ -131,16 +128,14 @@ module _ (s : State) (store : IsStore s) (at : RegisterOf) where
       said_in_turn list say = (has.own, record { rising = has.has.rising; each = has.has.each }, said_of_held has.own held list has.are say)
 
   -- where the last text is below the first one, no term stands between
-  pub answers_none : (first last : List ℕ) → is_lt (slice_cmp nat_cmp last first) ≡ true → (new : State) (result : Result (Vec Posting Global) RegFault) → IfOk result (λ list. list.items ≡ []) → result ≢ Err Damaged → (result ≡ Err Store → MayRefuse s new)
-      → Answers (IfRefused s new (HasMalformedBetween packed_leaves s.now.trees at first last)) (λ list. ListsBetween packed_leaves s.now.trees at first last list.items) result
-  answers_none first last falls new (Ok list) none honest reasoned = record {
+  pub none_listed : (first last : List ℕ) → is_lt (slice_cmp nat_cmp last first) ≡ true → (list : List Posting) → list ≡ [] → ListsBetween packed_leaves s.now.trees at first last list
+  none_listed first last falls list none = record {
     lists = λ t. [];
     units = λ t between. absurd (never_between first last t falls between);
     each = λ p. (λ h. absurd (subst (λ (l : List Posting). Has l p) none h), λ h. absurd h.2);
   }
-  answers_none first last falls new (Err fault) none honest reasoned = (λ damaged. absurd (honest (ap Err damaged)), λ failed. reasoned (ap Err failed))
 
-  pub none_in_turn : (first last : List ℕ) → is_lt (slice_cmp nat_cmp last first) ≡ true → (result : Result (Vec Posting Global) RegFault) → IfOk result (λ list. list.items ≡ [])
+  pub none_in_turn : (first last : List ℕ) → is_lt (slice_cmp nat_cmp last first) ≡ true → (result : Result (Vec Posting Global) RegFault) → Answers (IfDamaged ⊥) (λ (list : Vec Posting Global). list.items ≡ []) result
       → IfOk result (λ (list : Vec Posting Global). (own : List Entry) × AreEntriesBetween s.now.trees at first last own × SayParts own list.items)
   unfolding IsStrictlySortedBy
   none_in_turn first last falls (Ok list) none = ([], record { rising = tt; each = λ e. (λ h. absurd h, λ h. absurd (never_between first last e.term falls h.0)) }, none)

@@ -1,6 +1,5 @@
 -- What calls that list the terms of a register answer, by the leaves that they found.
-use Rattle.zeb_leaves.proofs.Cited.{Row, column, Has, Trees, Text, ◌≡◌, ◌≢◌, ◌↔◌, ◌∙◌, ◌≤◌, ◌∷◌, ℕ, false, List, [], Ok, Err, Result, Some, refl, sym, ap, subst, inl, inr, arith, nat_cmp, slice_cmp, sum_by, value_cmp-Text, Entry, State, TermCount, IsEntryOf, IsLeafAt, IsLeafIn, IsLeafOf, IsStore, IsUncovered, LacksEntriesAt, SumsRecords, key_in, leaf_key, own_key, Database, value_cmp, sum_by-cons, is_lt, IfOk, Vec, AreLeavesFrom, CountAll, HideAllOwns, IsLeafFrom, IsNoText, IsRowFrom, ShowAllOwns, lacks_sum, list_so, Answers, IfDamaged, packed_leaves, IsListOf, HidesCount, HidesSome, ListsAll, ListsCounts, RegFault, Damaged, RegisterOf}
-use Rattle.std.specs.declared.alloc.Global.{Global}
+use Rattle.zeb_leaves.proofs.Cited.{Row, column, Has, Trees, Text, ◌≡◌, ◌↔◌, ◌∙◌, ◌≤◌, ◌∷◌, ℕ, false, List, [], Some, refl, sym, ap, subst, inl, inr, arith, nat_cmp, slice_cmp, sum_by, value_cmp-Text, Entry, State, TermCount, IsEntryOf, IsLeafAt, IsLeafIn, IsLeafOf, IsStore, IsUncovered, LacksEntriesAt, SumsRecords, key_in, leaf_key, own_key, value_cmp, sum_by-cons, is_lt, AreLeavesFrom, CountAll, HideAllOwns, IsLeafFrom, IsNoText, IsRowFrom, ShowAllOwns, lacks_sum, list_so, packed_leaves, IsListOf, HidesCount, HidesSome, ListsAll, ListsCounts, RegisterOf}
 use Rattle.zeb_leaves.proofs.CountedTerms.{Counted, all_counted, none_there}
 use Rattle.zeb_leaf_rows.proofs.CoveringLeaves.{Leaves, from_leaf, leaf_from, leaf_shape, shape_from}
 use Rattle.zeb_leaves.proofs.OneLeaf.{one_leaf}
@@ -89,13 +88,9 @@ module _ (s : State) (store : IsStore s) (at : RegisterOf) where
   )
 
   -- the leaf that covers the first text's first block, and those that a statement lists behind it
-  pub answers_from : (first : List ℕ) (leaf : Row) → IsLeafAt (IsLeafIn s.now.trees at) (leaf_key first 0) (Some leaf) → (d : Database) → d ≡ s.now → (result : Result (Vec Row Global) RegFault)
-      → IfOk result (λ rows. (behind : List Row) × (rows.items ≡ leaf ∷ behind) × IsListOf (IsRowFrom at first d.trees) behind) → result ≢ Err Damaged
-      → Answers (IfDamaged (IsUncovered (IsLeafIn s.now.trees at) (leaf_key first 0))) (λ rows. AreLeavesFrom (IsLeafIn s.now.trees at) first rows.items) result
-  answers_from first leaf covers d same (Ok rows) told honest =
-      let listed = subst (λ (x : Database). IsListOf (IsRowFrom at first x.trees) told.0) same told.2 in
-      subst (AreLeavesFrom (IsLeafIn s.now.trees at) first) (sym told.1) (covers, list_so (IsRowFrom at first s.now.trees) (IsLeafFrom These first) told.0 (row_so first) listed)
-  answers_from first leaf covers d same (Err fault) told honest = λ damaged. absurd (honest (ap Err damaged))
+  pub found_from : (first : List ℕ) (leaf : Row) → IsLeafAt (IsLeafIn s.now.trees at) (leaf_key first 0) (Some leaf) → (rows : List Row) → (behind : List Row) × (rows ≡ leaf ∷ behind) × IsListOf (IsRowFrom at first s.now.trees) behind
+      → AreLeavesFrom (IsLeafIn s.now.trees at) first rows
+  found_from first leaf covers rows told = subst (AreLeavesFrom (IsLeafIn s.now.trees at) first) (sym told.1) (covers, list_so (IsRowFrom at first s.now.trees) (IsLeafFrom These first) told.0 (row_so first) told.2)
 
   -- ---- all terms
 

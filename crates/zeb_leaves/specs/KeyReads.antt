@@ -14,13 +14,13 @@ use Rattle.zeb_register.specs.Clauses.{Tells}
 use Rattle.zeb_register.specs.LeafUnits.{AreLeavesMiscounted, IsLeafOf, LeavesCount}
 use Rattle.zeb_register.specs.Occurring.{key_in}
 use Rattle.zeb_register.specs.Readings.{IsEntryOf, SaysPart}
-use Rattle.zeb_register.specs.Answers.{TellsOr}
+use Rattle.zeb_register.specs.Answers.{LooksInto}
 use Rattle.zeb_register.specs.declared.faults.RegFault.{RegFault}
 use Rattle.zeb_register.specs.declared.registers.RegisterOf.{RegisterOf}
 
--- a call tells how many records have the key, or is refused
+-- a call that changes nothing tells how many records have the key, or is refused as Damaged only where it has no count
 abbrev pub CountsLeafKey : ℤ → Key → State → State → Result ℕ RegFault → Type 0
-CountsLeafKey db key = TellsOr (λ trees. AreLeavesMiscounted trees db key) (λ trees records. LeavesCount trees db key records)
+CountsLeafKey db key = LooksInto (λ trees. AreLeavesMiscounted trees db key) (λ trees records. LeavesCount trees db key records)
 
 -- ---- neighbouring terms, in turn
 

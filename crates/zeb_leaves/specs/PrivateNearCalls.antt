@@ -6,7 +6,7 @@ use Rattle.sqlite.specs.Tree.{Trees}
 use Rattle.zeb_leaf_rows.specs.LeafRows.{IsLeafIn}
 use Rattle.zeb_leaves.specs.declared.near_terms.Side.{Side}
 use Rattle.zeb_leaves.specs.declared.near_terms.Side.TheVariants.{Below, From}
-use Rattle.zeb_register.specs.Answers.{TellsOr}
+use Rattle.zeb_register.specs.Answers.{LooksInto}
 use Rattle.zeb_register.specs.Covering.{Covers, leaf_key}
 use Rattle.zeb_register.specs.Formats.{packed_leaves}
 use Rattle.zeb_register.specs.Terms.{HidesBefore, HidesFrom, ListsBefore, ListsFrom}
@@ -30,11 +30,12 @@ module _ (at : RegisterOf) (start : List ℕ) (n : ℕ) where
   HidesBeside (From leaf) trees = HidesFrom packed_leaves trees at.db.0 at.index at.register start n
   HidesBeside Below trees = HidesBefore packed_leaves trees at.db.0 at.index at.register start n
 
+  -- a call that changes nothing tells them, or is refused as Damaged only where one of them has no count
   abbrev pub TellsBeside : Side → State → State → Result (Vec TermCount Global) RegFault → Type 0
-  TellsBeside side = TellsOr (λ trees. IsSide side trees → HidesBeside side trees)
+  TellsBeside side = LooksInto (λ trees. IsSide side trees → HidesBeside side trees)
       (λ (trees : Trees) (list : Vec TermCount Global). IsSide side trees → ListsBeside side trees list.items)
 
   -- the same of a call that may not have read enough
   abbrev pub MayTellBeside : Side → State → State → Result (Option (Vec TermCount Global)) RegFault → Type 0
-  MayTellBeside side = TellsOr (λ trees. IsSide side trees → HidesBeside side trees)
+  MayTellBeside side = LooksInto (λ trees. IsSide side trees → HidesBeside side trees)
       (λ (trees : Trees) (found : Option (Vec TermCount Global)). IfSome found (λ list. IsSide side trees → ListsBeside side trees list.items))

@@ -2,10 +2,9 @@
 
 ghost use Rattle.std.specs.Prelude.{◌∷◌, []};
 ghost use Rattle.std.specs.List.Sorted.{IsStrictlySortedBy};
-ghost use Rattle.sqlite.specs.State.{IsUnchanged};
 ghost use Rattle.sqlite.specs.declared.types.Value.TheVariants.{Int};
 ghost use Rattle.zeb_leaves.specs.PrivateAgreeing.{HoldsPostings};
-ghost use Rattle.zeb_register.specs.Connections.{IsReasonedErrorOf, ReadingOf, TellsWhetherOf};
+ghost use Rattle.zeb_register.specs.Connections.{AsksWhetherOf};
 ghost use Rattle.zeb_register.specs.Expected.{key_posting_order};
 ghost use Rattle.zeb_register.specs.Store.{IsRest, blocks_tree};
 
@@ -21,11 +20,9 @@ pub(crate) fn leaves_hold<S: Alter>(
     db: i64,
     postings: &[KeyPosting],
 ) -> Result<bool, Error>
-    ensures call { ReadingOf S.Store conn.old conn.new result (λ _. IsUnchanged) }
-    ensures value { TellsWhetherOf S.Store conn.old conn.new
+    ensures { AsksWhetherOf S.Store conn.old conn.new
         (λ trees. HoldsPostings (IsRest blocks_tree (Int db ∷ []) trees) postings.now)
         (IsStrictlySortedBy key_posting_order postings.now) result }
-    ensures refused { IsReasonedErrorOf S.Store conn.old conn.new result }
 {
     leaves_walked(alloc, conn, db, postings)
 }

@@ -4,7 +4,7 @@ ghost use Rattle.std.specs.Prelude.{◌≡◌, ◌↔◌, length, IsTrue};
 ghost use Rattle.sqlite.specs.State.{IsUnchanged};
 ghost use Rattle.zeb_leaves.specs.PrivateAgreeing.{EachHasLeaves, IsEmptyBeside, OthersAreEmpty, PostingsRise};
 ghost use Rattle.zeb_register.specs.Agreeing.{LacksPostingsAndDict};
-ghost use Rattle.zeb_register.specs.Connections.{IsReasonedErrorOf, ReadingOf, TellsOf, TellsWhetherOf};
+ghost use Rattle.zeb_register.specs.Connections.{AsksOf, AsksWhetherOf, IsReasonedErrorOf, ReadingOf, TellsOf};
 ghost use Rattle.zeb_register.specs.Expected.{AreExpected, IsOrdered};
 ghost use Rattle.zeb_register.specs.Formats.{packed_leaves};
 
@@ -24,10 +24,8 @@ pub fn leaves_agree<S: Alter>(
     conn: &mut Connection<S>,
     expected: &Expected,
 ) -> Result<bool, Error>
-    ensures call { ReadingOf S.Store conn.old conn.new result (λ _. IsUnchanged) }
-    ensures value { TellsWhetherOf S.Store conn.old conn.new
+    ensures { AsksWhetherOf S.Store conn.old conn.new
         (λ trees. AreExpected packed_leaves trees expected.now) (IsOrdered expected.now) result }
-    ensures refused { IsReasonedErrorOf S.Store conn.old conn.new result }
 {
     let Some(listed) = lists_beside(alloc, conn, expected)? else {
         return Ok(false);
@@ -43,11 +41,9 @@ fn registers_agree<S: Alter>(
     expected: &[ExpectedDatabase],
 ) -> Result<bool, Error>
     requires { length listed.now ≡ length expected.now }
-    ensures call { ReadingOf S.Store conn.old conn.new result (λ _. IsUnchanged) }
-    ensures value { TellsWhetherOf S.Store conn.old conn.new
-        (λ trees. LacksPostingsAndDict trees × (OthersAreEmpty listed.now trees
-        × EachHasLeaves listed.now expected.now trees)) (PostingsRise expected.now) result }
-    ensures refused { IsReasonedErrorOf S.Store conn.old conn.new result }
+    ensures { AsksWhetherOf S.Store conn.old conn.new (λ trees. LacksPostingsAndDict trees
+        × (OthersAreEmpty listed.now trees × EachHasLeaves listed.now expected.now trees))
+        (PostingsRise expected.now) result }
 {
     if !postings_and_dict_lack_rows(conn)? {
         return Ok(false);
@@ -63,11 +59,8 @@ fn ids_agree<S: Alter>(
     expected: &[ExpectedDatabase],
 ) -> Result<bool, Error>
     requires { length listed.now ≡ length expected.now }
-    ensures call { ReadingOf S.Store conn.old conn.new result (λ _. IsUnchanged) }
-    ensures value { TellsWhetherOf S.Store conn.old conn.new
-        (λ trees. OthersAreEmpty listed.now trees × EachHasLeaves listed.now expected.now trees)
-        (PostingsRise expected.now) result }
-    ensures refused { IsReasonedErrorOf S.Store conn.old conn.new result }
+    ensures { AsksWhetherOf S.Store conn.old conn.new (λ trees. OthersAreEmpty listed.now trees
+        × EachHasLeaves listed.now expected.now trees) (PostingsRise expected.now) result }
 {
     if !others_are_empty(alloc, conn, listed)? {
         return Ok(false);
@@ -86,10 +79,8 @@ fn others_are_empty<S: Alter>(
     conn: &mut Connection<S>,
     listed: &[ListedDatabase],
 ) -> Result<bool, Error>
-    ensures call { ReadingOf S.Store conn.old conn.new result (λ _. IsUnchanged) }
-    ensures value { TellsOf S.Store conn.old conn.new result (λ trees agree. IsTrue agree
+    ensures { AsksOf S.Store conn.old conn.new result (λ trees agree. IsTrue agree
         ↔ OthersAreEmpty listed.now trees) }
-    ensures refused { IsReasonedErrorOf S.Store conn.old conn.new result }
 {
     let Some(ends) = ends_in_blocks(conn)? else {
         return Ok(true);

@@ -1,12 +1,11 @@
 //! The postings of neighbouring terms, by the leaves that cover their blocks.
 
-ghost use Rattle.std.specs.Prelude.{◌≡◌, ◌≢◌, [], Err, false, IfOk};
+ghost use Rattle.std.specs.Prelude.{◌≡◌, [], false};
 ghost use Rattle.std.specs.Cmp.Lexicographic.{slice_cmp};
 ghost use Rattle.std.specs.Ordering.{is_lt, nat_cmp};
 ghost use Rattle.sqlite.specs.Held.{state};
-ghost use Rattle.sqlite.specs.State.{IsUnchanged};
 ghost use Rattle.zeb_leaves.specs.KeyReads.{TellsInTurn};
-ghost use Rattle.zeb_register.specs.Connections.{IsReasonedOf, ReadingOf};
+ghost use Rattle.zeb_register.specs.Connections.{LooksIntoOf};
 ghost use Rattle.zeb_register.specs.Formats.{packed_leaves};
 ghost use Rattle.zeb_register.specs.Units.{ListsTerms};
 
@@ -28,7 +27,6 @@ fn ordered_between<S: Alter>(
     last: &str,
 ) -> Result<Vec<Posting>, RegFault>
     requires { is_lt (slice_cmp nat_cmp last.now first.now) ≡ false }
-    ensures call { ReadingOf S.Store conn.old conn.new result (λ _. IsUnchanged) }
     ensures units { ListsTerms packed_leaves at first.now last.now (state S.Store conn.old)
         (state S.Store conn.new) result }
     ensures turn { TellsInTurn at first.now last.now (state S.Store conn.old)
@@ -53,10 +51,7 @@ fn none_between<S: Alter>(
     conn: &mut Connection<S>,
     at: RegisterOf,
 ) -> Result<Vec<Posting>, RegFault>
-    ensures call { ReadingOf S.Store conn.old conn.new result (λ _. IsUnchanged) }
-    ensures none { IfOk result (λ list. list.items ≡ []) }
-    ensures honest { result ≢ Err RegFault.Damaged }
-    ensures refused { IsReasonedOf S.Store conn.old conn.new result }
+    ensures { LooksIntoOf S.Store conn.old conn.new result (λ _. ⊥) (λ _ list. list.items ≡ []) }
 {
     some_row(conn, at)?;
     Ok(Vec::new(alloc))
@@ -71,7 +66,6 @@ pub fn postings_between<S: Alter>(
     first: &str,
     last: &str,
 ) -> Result<Vec<Posting>, RegFault>
-    ensures call { ReadingOf S.Store conn.old conn.new result (λ _. IsUnchanged) }
     ensures units { ListsTerms packed_leaves at first.now last.now (state S.Store conn.old)
         (state S.Store conn.new) result }
     ensures turn { TellsInTurn at first.now last.now (state S.Store conn.old)

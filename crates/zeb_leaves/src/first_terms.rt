@@ -3,12 +3,10 @@
 ghost use Rattle.std.specs.Prelude.{◌≡◌, ◌⊎◌, ◌≤◌, ◌++◌, [], List, IsTrue, Some, IfSome, false};
 ghost use Rattle.sqlite.specs.Held.{state};
 ghost use Rattle.sqlite.specs.Order.{Row as Columns};
-ghost use Rattle.sqlite.specs.State.{IsUnchanged};
 ghost use Rattle.zeb_leaves.specs.PrivateNearCalls.{MayTellBeside};
 ghost use Rattle.zeb_leaves.specs.PrivateNearTerms.{CountRows, GoesPast, HideRows, HidesRow, StopsAt};
 ghost use Rattle.zeb_leaves.specs.declared.near_terms.Side.TheVariants.{From};
 ghost use Rattle.zeb_register.specs.Answers.{Answers, IfRowDamaged};
-ghost use Rattle.zeb_register.specs.Connections.{ReadingOf};
 
 use crate::near_rows::{are_all, first_rows};
 use crate::spans::own_key;
@@ -86,8 +84,7 @@ pub(crate) fn first_within<S: Alter>(
     limit: u32,
 ) -> Result<Option<Vec<TermCount>>, RegFault>
     requires { 1 ≤ n }
-    ensures call { ReadingOf S.Store conn.old conn.new result (λ _. IsUnchanged) }
-    ensures tells { MayTellBeside at start.now n (From leaf.now) (state S.Store conn.old)
+    ensures { MayTellBeside at start.now n (From leaf.now) (state S.Store conn.old)
         (state S.Store conn.new) result }
 {
     let rows = first_rows(conn, at, start, limit)?;

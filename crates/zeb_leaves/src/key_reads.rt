@@ -1,9 +1,7 @@
 //! What leaves say of a key: its postings, and its count.
 
 ghost use Rattle.sqlite.specs.Held.{state};
-ghost use Rattle.sqlite.specs.State.{IsUnchanged};
 ghost use Rattle.zeb_leaves.specs.KeyReads.{CountsLeafKey};
-ghost use Rattle.zeb_register.specs.Connections.{ReadingOf};
 ghost use Rattle.zeb_register.specs.Formats.{packed_leaves};
 ghost use Rattle.zeb_register.specs.Units.{ListsKey};
 
@@ -24,8 +22,7 @@ pub fn key_list<S: Alter>(
     db: DatabaseId,
     key: &Key,
 ) -> Result<Vec<Posting>, RegFault>
-    ensures call { ReadingOf S.Store conn.old conn.new result (λ _. IsUnchanged) }
-    ensures units { ListsKey packed_leaves db.0 key.now (state S.Store conn.old)
+    ensures { ListsKey packed_leaves db.0 key.now (state S.Store conn.old)
         (state S.Store conn.new) result }
 {
     let at = RegisterOf {
@@ -47,8 +44,7 @@ pub fn key_count<S: Alter>(
     db: DatabaseId,
     key: &Key,
 ) -> Result<u64, RegFault>
-    ensures call { ReadingOf S.Store conn.old conn.new result (λ _. IsUnchanged) }
-    ensures count { CountsLeafKey db.0 key.now (state S.Store conn.old) (state S.Store conn.new)
+    ensures { CountsLeafKey db.0 key.now (state S.Store conn.old) (state S.Store conn.new)
         result }
 {
     let at = RegisterOf {

@@ -3,14 +3,13 @@
 ghost use Rattle.std.specs.Prelude.{◌≡◌, ◌↔◌, ◌⊎◌, ◌≤◌, ◌++◌, [], List, IsTrue, IfSome, false, reverse};
 ghost use Rattle.sqlite.specs.Held.{state};
 ghost use Rattle.sqlite.specs.Order.{Row as Columns};
-ghost use Rattle.sqlite.specs.State.{IsUnchanged};
 ghost use Rattle.zeb_leaf_rows.specs.LeafRows.{IsLeafIn};
 ghost use Rattle.zeb_leaves.specs.PrivateNearCalls.{MayTellBeside};
 ghost use Rattle.zeb_leaves.specs.PrivateNearTerms.{AreEnoughAt, CountBelow, CountsDown, GoesDown, HideBelow};
 ghost use Rattle.zeb_leaves.specs.PrivateNearTerms.{HidesDown, StopsDown};
 ghost use Rattle.zeb_leaves.specs.declared.near_terms.Side.TheVariants.{Below};
-ghost use Rattle.zeb_register.specs.Answers.{Answers, IfDamaged, IfRowDamaged};
-ghost use Rattle.zeb_register.specs.Connections.{IsReasonedOf, OnStoreOf, ReadingOf};
+ghost use Rattle.zeb_register.specs.Answers.{Answers, IfRowDamaged};
+ghost use Rattle.zeb_register.specs.Connections.{LooksIntoOf};
 
 use crate::near_rows::{are_all, last_rows};
 use crate::own_entries::own_entries;
@@ -140,11 +139,9 @@ fn no_leaf_terms<S: Alter>(
     conn: &mut Connection<S>,
     at: RegisterOf,
 ) -> Result<Option<Vec<TermCount>>, RegFault>
-    ensures call { ReadingOf S.Store conn.old conn.new result (λ _. IsUnchanged) }
-    ensures none { OnStoreOf S.Store conn.old conn.new (λ trees. Answers
-        (IfDamaged ((leaf : _) × IsLeafIn trees at leaf)) (λ found. IfSome found
-        (λ list. list.items ≡ []) × ((leaf : _) → ¬ IsLeafIn trees at leaf)) result) }
-    ensures refused { IsReasonedOf S.Store conn.old conn.new result }
+    ensures { LooksIntoOf S.Store conn.old conn.new result (λ trees. (leaf : _)
+        × IsLeafIn trees at leaf) (λ trees found. IfSome found
+        (λ list. list.items ≡ []) × ((leaf : _) → ¬ IsLeafIn trees at leaf)) }
 {
     no_leaf(conn, at)?;
     Ok(Some(Vec::new(alloc)))
@@ -160,8 +157,7 @@ pub(crate) fn last_within<S: Alter>(
     limit: u32,
 ) -> Result<Option<Vec<TermCount>>, RegFault>
     requires { (1 ≤ n) × (1 ≤ limit) }
-    ensures call { ReadingOf S.Store conn.old conn.new result (λ _. IsUnchanged) }
-    ensures tells { MayTellBeside at start.now n Below (state S.Store conn.old)
+    ensures { MayTellBeside at start.now n Below (state S.Store conn.old)
         (state S.Store conn.new) result }
 {
     let rows = last_rows(conn, at, start, limit)?;

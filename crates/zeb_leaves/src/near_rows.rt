@@ -4,8 +4,7 @@ ghost use Rattle.std.specs.Prelude.{◌<◌, ◌↔◌, IsTrue, length};
 ghost use Rattle.zeb_leaf_rows.specs.PrivateLeafRows.{IsOfTermsBelow};
 ghost use Rattle.zeb_leaves.specs.PrivateNearRows.{ListsBack, ListsFront};
 ghost use Rattle.zeb_leaves.specs.PrivateTermReads.{IsRowFrom};
-ghost use Rattle.zeb_register.specs.Connections.{IsReasonedErrorOf, ReadingOf};
-ghost use Rattle.zeb_register.specs.PrivateRowTerms.{ReadsRows};
+ghost use Rattle.zeb_register.specs.Connections.{AsksOf};
 
 use sqlite::{Alter, Connection, Error, Row, params};
 use zeb_register::RegisterOf;
@@ -25,9 +24,8 @@ pub(crate) fn first_rows<S: Alter>(
     start: &str,
     limit: u32,
 ) -> Result<Vec<Row>, Error>
-    ensures call { ReadingOf S.Store conn.old conn.new result (λ rows a b. ReadsRows
-        (λ trees. ListsFront limit (IsRowFrom at start.now trees)) a b rows.items) }
-    ensures err { IsReasonedErrorOf S.Store conn.old conn.new result }
+    ensures { AsksOf S.Store conn.old conn.new result
+        (λ trees rows. ListsFront limit (IsRowFrom at start.now trees) rows.items) }
 {
     let db = at.db.column();
     let reg = u32::from(at.register.code());
@@ -42,9 +40,8 @@ pub(crate) fn last_rows<S: Alter>(
     start: &str,
     limit: u32,
 ) -> Result<Vec<Row>, Error>
-    ensures call { ReadingOf S.Store conn.old conn.new result (λ rows a b. ReadsRows
-        (λ trees. ListsBack limit (IsOfTermsBelow at start.now trees)) a b rows.items) }
-    ensures err { IsReasonedErrorOf S.Store conn.old conn.new result }
+    ensures { AsksOf S.Store conn.old conn.new result
+        (λ trees rows. ListsBack limit (IsOfTermsBelow at start.now trees) rows.items) }
 {
     let db = at.db.column();
     let reg = u32::from(at.register.code());

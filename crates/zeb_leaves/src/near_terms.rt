@@ -1,11 +1,10 @@
 //! The terms of a register that are nearest to a text, each with how many records have it. Leaves are read a few at first, and twice as many
 //! where these don't serve.
 
-ghost use Rattle.std.specs.Prelude.{◌≡◌, ◌≢◌, ◌≤◌, [], Err};
+ghost use Rattle.std.specs.Prelude.{◌≡◌, ◌≤◌, []};
 ghost use Rattle.sqlite.specs.Held.{state};
-ghost use Rattle.sqlite.specs.State.{IsUnchanged};
 ghost use Rattle.zeb_leaves.specs.PrivateNearCalls.{MayTellBeside, TellsBeside};
-ghost use Rattle.zeb_register.specs.Connections.{IsReasonedOf, ReadingOf};
+ghost use Rattle.zeb_register.specs.Connections.{LooksIntoOf};
 ghost use Rattle.zeb_register.specs.Formats.{packed_leaves};
 ghost use Rattle.zeb_register.specs.Terms.{TellsBefore, TellsFrom};
 
@@ -50,8 +49,7 @@ fn terms_within<S: Alter>(
     limit: u32,
 ) -> Result<Option<Vec<TermCount>>, RegFault>
     requires { (1 ≤ n) × (1 ≤ limit) }
-    ensures call { ReadingOf S.Store conn.old conn.new result (λ _. IsUnchanged) }
-    ensures tells { MayTellBeside at start.now n side.now (state S.Store conn.old)
+    ensures { MayTellBeside at start.now n side.now (state S.Store conn.old)
         (state S.Store conn.new) result }
 {
     match side {
@@ -70,8 +68,7 @@ fn terms_beside<S: Alter>(
     n: u64,
 ) -> Result<Vec<TermCount>, RegFault>
     requires { 1 ≤ n }
-    ensures call { ReadingOf S.Store conn.old conn.new result (λ _. IsUnchanged) }
-    ensures tells { TellsBeside at start.now n side.now (state S.Store conn.old)
+    ensures { TellsBeside at start.now n side.now (state S.Store conn.old)
         (state S.Store conn.new) result }
 {
     let mut limit = few_leaves(n);
@@ -91,10 +88,7 @@ fn no_terms<S: Alter>(
     conn: &mut Connection<S>,
     at: RegisterOf,
 ) -> Result<Vec<TermCount>, RegFault>
-    ensures call { ReadingOf S.Store conn.old conn.new result (λ list a b. (list.items ≡ [])
-        × IsUnchanged a b) }
-    ensures honest { result ≢ Err RegFault.Damaged }
-    ensures refused { IsReasonedOf S.Store conn.old conn.new result }
+    ensures { LooksIntoOf S.Store conn.old conn.new result (λ _. ⊥) (λ _ list. list.items ≡ []) }
 {
     some_row(conn, at)?;
     Ok(Vec::new(alloc))
@@ -109,8 +103,7 @@ pub fn terms_from<S: Alter>(
     start: &str,
     n: u64,
 ) -> Result<Vec<TermCount>, RegFault>
-    ensures call { ReadingOf S.Store conn.old conn.new result (λ _. IsUnchanged) }
-    ensures units { TellsFrom packed_leaves at start.now n (state S.Store conn.old)
+    ensures { TellsFrom packed_leaves at start.now n (state S.Store conn.old)
         (state S.Store conn.new) result }
 {
     if n == 0 {
@@ -131,8 +124,7 @@ pub fn terms_before<S: Alter>(
     start: &str,
     n: u64,
 ) -> Result<Vec<TermCount>, RegFault>
-    ensures call { ReadingOf S.Store conn.old conn.new result (λ _. IsUnchanged) }
-    ensures units { TellsBefore packed_leaves at start.now n (state S.Store conn.old)
+    ensures { TellsBefore packed_leaves at start.now n (state S.Store conn.old)
         (state S.Store conn.new) result }
 {
     if n == 0 || start.is_empty() {

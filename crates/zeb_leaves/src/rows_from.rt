@@ -1,13 +1,10 @@
 //! The leaves that cover the blocks of all terms from a text on.
 
-ghost use Rattle.std.specs.Prelude.{◌≡◌, ◌≢◌, ◌∷◌, List, Err};
-ghost use Rattle.sqlite.specs.State.{IsUnchanged};
+ghost use Rattle.std.specs.Prelude.{◌≡◌, ◌∷◌, List};
 ghost use Rattle.zeb_register.specs.Covering.{leaf_key};
 ghost use Rattle.zeb_leaf_rows.specs.LeafRows.{IsLeafIn, IsUncovered};
 ghost use Rattle.zeb_leaves.specs.PrivateTermReads.{AreLeavesFrom, IsRowFrom};
-ghost use Rattle.zeb_register.specs.Answers.{Answers, IfDamaged};
-ghost use Rattle.zeb_register.specs.Connections.{IsReasonedErrorOf, IsReasonedOf, OnStoreOf, ReadingOf, TellsOf};
-ghost use Rattle.zeb_register.specs.PrivateRowStatements.{Lists};
+ghost use Rattle.zeb_register.specs.Connections.{AsksOf, LooksIntoOf};
 ghost use Rattle.zeb_register.specs.Sql.{IsListOf};
 
 use sqlite::{Alter, Connection, Error, Row, params};
@@ -26,9 +23,8 @@ fn rows_from<S: Alter>(
     at: RegisterOf,
     first: &str,
 ) -> Result<Vec<Row>, Error>
-    ensures call { ReadingOf S.Store conn.old conn.new result (λ rows a b. Lists
-        (IsRowFrom at first.now) a b rows.items) }
-    ensures err { IsReasonedErrorOf S.Store conn.old conn.new result }
+    ensures { AsksOf S.Store conn.old conn.new result
+        (λ trees rows. IsListOf (IsRowFrom at first.now trees) rows.items) }
 {
     let db = at.db.column();
     let reg = u32::from(at.register.code());
@@ -43,11 +39,8 @@ fn rows_behind<S: Alter>(
     first: &str,
     leaf: Row,
 ) -> Result<Vec<Row>, RegFault>
-    ensures call { ReadingOf S.Store conn.old conn.new result (λ _. IsUnchanged) }
-    ensures lists { TellsOf S.Store conn.old conn.new result (λ trees rows. (behind : List _)
+    ensures { LooksIntoOf S.Store conn.old conn.new result (λ _. ⊥) (λ trees rows. (behind : List _)
         × (rows.items ≡ leaf ∷ behind) × IsListOf (IsRowFrom at first.now trees) behind) }
-    ensures honest { result ≢ Err RegFault.Damaged }
-    ensures refused { IsReasonedOf S.Store conn.old conn.new result }
 {
     let mut rows = rows_from(conn, at, first)?;
     rows.insert(0, leaf)?;
@@ -62,11 +55,9 @@ pub(crate) fn leaves_from<S: Alter>(
     at: RegisterOf,
     first: &str,
 ) -> Result<Vec<Row>, RegFault>
-    ensures call { ReadingOf S.Store conn.old conn.new result (λ _. IsUnchanged) }
-    ensures finds { OnStoreOf S.Store conn.old conn.new
-        (λ trees. Answers (IfDamaged (IsUncovered (IsLeafIn trees at) (leaf_key first.now 0)))
-        (λ rows. AreLeavesFrom (IsLeafIn trees at) first.now rows.items) result) }
-    ensures refused { IsReasonedOf S.Store conn.old conn.new result }
+    ensures { LooksIntoOf S.Store conn.old conn.new result
+        (λ trees. IsUncovered (IsLeafIn trees at) (leaf_key first.now 0))
+        (λ trees rows. AreLeavesFrom (IsLeafIn trees at) first.now rows.items) }
 {
     match leaf_at(conn, at, first, 0)? {
         Some(leaf) => rows_behind(conn, at, first, leaf),

@@ -1,17 +1,16 @@
 //! The leaves that cover the blocks of neighbouring terms, and what they have of these.
 
-ghost use Rattle.std.specs.Prelude.{◌≡◌, ◌≢◌, ◌↔◌, ◌++◌, ◌∷◌, [], ℕ, List, true, Err, IfErr, IfOk, IsTrue};
+ghost use Rattle.std.specs.Prelude.{◌≡◌, ◌≢◌, ◌↔◌, ◌++◌, ◌∷◌, [], ℕ, List, true, IfErr, IfOk, IsTrue};
 ghost use Rattle.std.specs.Cmp.Lexicographic.{slice_cmp};
 ghost use Rattle.std.specs.Ordering.{is_lt, nat_cmp};
 ghost use Rattle.sqlite.specs.Order.{column};
-ghost use Rattle.sqlite.specs.State.{IsUnchanged};
 ghost use Rattle.sqlite.specs.declared.types.Value.TheVariants.{Blob, Text};
 ghost use Rattle.zeb_register.specs.Covering.{HasTextTerm, leaf_key};
 ghost use Rattle.zeb_leaf_rows.specs.LeafRows.{IsLeafIn, IsRowBetween, IsUncovered};
 ghost use Rattle.zeb_leaves.specs.PrivateSpans.{AreSpanLeaves, ShowAllSpans, ShowSpans};
 ghost use Rattle.zeb_leaves.specs.PrivateSpans.{ShowsKey, ShowsNone, ShowsSpan, SomeShowsNoKey};
-ghost use Rattle.zeb_register.specs.Answers.{Answers, IfDamaged, IfRowDamaged};
-ghost use Rattle.zeb_register.specs.Connections.{IsReasonedOf, OnStoreOf, ReadingOf, TellsOf};
+ghost use Rattle.zeb_register.specs.Answers.{Answers, IfRowDamaged};
+ghost use Rattle.zeb_register.specs.Connections.{LooksIntoOf};
 ghost use Rattle.zeb_register.specs.Sql.{IsListOf};
 
 use sqlite::types::ValueRef;
@@ -30,12 +29,9 @@ fn span_from<S: Alter>(
     end: &str,
     leaf: Row,
 ) -> Result<Vec<Row>, RegFault>
-    ensures call { ReadingOf S.Store conn.old conn.new result (λ _. IsUnchanged) }
-    ensures lists { TellsOf S.Store conn.old conn.new result (λ trees rows. (behind : List _)
+    ensures { LooksIntoOf S.Store conn.old conn.new result (λ _. ⊥) (λ trees rows. (behind : List _)
         × (rows.items ≡ leaf ∷ behind) × IsListOf (IsRowBetween at first.now end.now trees)
         behind) }
-    ensures honest { result ≢ Err RegFault.Damaged }
-    ensures refused { IsReasonedOf S.Store conn.old conn.new result }
 {
     let mut rows = rows_between(conn, at, first, end)?;
     rows.insert(0, leaf)?;
@@ -50,12 +46,10 @@ fn many_leaves<S: Alter>(
     first: &str,
     end: &str,
 ) -> Result<Vec<Row>, RegFault>
-    ensures call { ReadingOf S.Store conn.old conn.new result (λ _. IsUnchanged) }
-    ensures finds { OnStoreOf S.Store conn.old conn.new
-        (λ trees. Answers (IfDamaged (IsUncovered (IsLeafIn trees at) (leaf_key first.now 0)))
-        (λ rows. (last : List ℕ) → end.now ≡ last ++ 0 ∷ []
-        → AreSpanLeaves (IsLeafIn trees at) first.now last rows.items) result) }
-    ensures refused { IsReasonedOf S.Store conn.old conn.new result }
+    ensures { LooksIntoOf S.Store conn.old conn.new result
+        (λ trees. IsUncovered (IsLeafIn trees at) (leaf_key first.now 0))
+        (λ trees rows. (last : List ℕ) → end.now ≡ last ++ 0 ∷ []
+        → AreSpanLeaves (IsLeafIn trees at) first.now last rows.items) }
 {
     match leaf_at(conn, at, first, 0)? {
         Some(leaf) => span_from(conn, at, first, end, leaf),
@@ -73,12 +67,10 @@ pub(crate) fn span_leaves<S: Alter>(
     end: &str,
 ) -> Result<Vec<Row>, RegFault>
     requires { is_lt (slice_cmp nat_cmp first.now end.now) ≡ true }
-    ensures call { ReadingOf S.Store conn.old conn.new result (λ _. IsUnchanged) }
-    ensures finds { OnStoreOf S.Store conn.old conn.new
-        (λ trees. Answers (IfDamaged (IsUncovered (IsLeafIn trees at) (leaf_key first.now 0)))
-        (λ rows. (last : List ℕ) → end.now ≡ last ++ 0 ∷ []
-        → AreSpanLeaves (IsLeafIn trees at) first.now last rows.items) result) }
-    ensures refused { IsReasonedOf S.Store conn.old conn.new result }
+    ensures { LooksIntoOf S.Store conn.old conn.new result
+        (λ trees. IsUncovered (IsLeafIn trees at) (leaf_key first.now 0))
+        (λ trees rows. (last : List ℕ) → end.now ≡ last ++ 0 ∷ []
+        → AreSpanLeaves (IsLeafIn trees at) first.now last rows.items) }
 {
     let Some(leaf) = only_leaf(conn, at, first, end)? else {
         return many_leaves(alloc, conn, at, first, end);

@@ -3,12 +3,10 @@
 ghost use Rattle.std.specs.Prelude.{◌≡◌, ℕ, List, length};
 ghost use Rattle.std.specs.Option.{option_map};
 ghost use Rattle.sqlite.specs.Held.{state};
-ghost use Rattle.sqlite.specs.State.{IsUnchanged};
 ghost use Rattle.zeb_leaf.specs.declared.spans.BlockKey.{BlockKey as KeyOfBlock};
 ghost use Rattle.zeb_leaves.specs.PrivateTermReads.{HideAllOwns, HideOwns, HidesOwn, SayMany};
 ghost use Rattle.zeb_leaves.specs.PrivateTermReads.{SaysNone, ShowAllOwns, ShowOwns, ShowsOwn, SomeBad};
 ghost use Rattle.zeb_register.specs.Answers.{Answers, IfRowDamaged};
-ghost use Rattle.zeb_register.specs.Connections.{ReadingOf};
 ghost use Rattle.zeb_register.specs.Formats.{packed_leaves};
 ghost use Rattle.zeb_register.specs.Occurring.{capped};
 ghost use Rattle.zeb_register.specs.Readings.{SaysPart};
@@ -106,8 +104,7 @@ pub fn totals<S: Alter>(
     conn: &mut Connection<S>,
     at: RegisterOf,
 ) -> Result<Totals, RegFault>
-    ensures call { ReadingOf S.Store conn.old conn.new result (λ _. IsUnchanged) }
-    ensures units { TellsTotals packed_leaves at (state S.Store conn.old) (state S.Store conn.new)
+    ensures { TellsTotals packed_leaves at (state S.Store conn.old) (state S.Store conn.new)
         result }
 {
     let rows = leaves_from(alloc, conn, at, "")?;

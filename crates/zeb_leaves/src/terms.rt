@@ -3,13 +3,11 @@
 ghost use Rattle.std.specs.Prelude.{◌≡◌, ◌↔◌, List, [], IsTrue, IsUtf8};
 ghost use Rattle.std.specs.Option.{option_map};
 ghost use Rattle.sqlite.specs.Held.{state};
-ghost use Rattle.sqlite.specs.State.{IsUnchanged};
 ghost use Rattle.zeb_leaf.specs.declared.spans.BlockKey.{BlockKey as KeyOfBlock};
 ghost use Rattle.zeb_leaves.specs.PrivateTermReads.{CountAll, CountsIn, HideAllOwns, HideOwns, HidesOwn};
 ghost use Rattle.zeb_leaves.specs.PrivateTermReads.{IsNoText, ShowAllOwns, ShowOwns, ShowsOwn, SomeBad};
 ghost use Rattle.zeb_leaves.specs.PrivateTermReads.{entry_with_records};
 ghost use Rattle.zeb_register.specs.Answers.{Answers, IfRowDamaged};
-ghost use Rattle.zeb_register.specs.Connections.{ReadingOf};
 ghost use Rattle.zeb_register.specs.Formats.{packed_leaves};
 ghost use Rattle.zeb_register.specs.Terms.{TellsAll};
 
@@ -154,8 +152,7 @@ pub fn terms_of<S: Alter>(
     conn: &mut Connection<S>,
     at: RegisterOf,
 ) -> Result<Vec<TermCount>, RegFault>
-    ensures call { ReadingOf S.Store conn.old conn.new result (λ _. IsUnchanged) }
-    ensures units { TellsAll packed_leaves at (state S.Store conn.old) (state S.Store conn.new)
+    ensures { TellsAll packed_leaves at (state S.Store conn.old) (state S.Store conn.new)
         result }
 {
     let rows = leaves_from(alloc, conn, at, "")?;

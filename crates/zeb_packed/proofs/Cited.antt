@@ -1,5 +1,5 @@
 -- What this crate's proofs cite of std, of the kit, of the crates below and of its own specs, passed on from one place. Declares nothing.
-pub use Rattle.sqlite.proofs.Callers.{IsPlain, command_of, reads_as, unchanged_then, one_step, runs_as, statement_of}
+pub use Rattle.sqlite.proofs.Callers.{IsPlain, command_of, reads_as, one_step, runs_as, statement_of}
 pub use Rattle.sqlite.specs.Command.TheVariants.{Select, Delete, Insert, Update}
 pub use Rattle.sqlite.specs.Edit.{next_rowid, Applies, Edit, numbered, taken_by}
 pub use Rattle.sqlite.specs.Effect.{IsDatabase, Database, value_rows}
@@ -9,7 +9,7 @@ pub use Rattle.sqlite.specs.Order.{Row, column, row_cmp, value_cmp}
 pub use Rattle.sqlite.specs.Rowids.TheVariants.{Chosen}
 pub use Rattle.sqlite.specs.Schema.{Schema}
 pub use Rattle.sqlite.specs.Source.TheVariants.{Values}
-pub use Rattle.sqlite.specs.State.{Executes, ExecutesInside, State, Shown, HasCleanDisk, IsUnchanged, Survives, KeepsCommit, mode_of}
+pub use Rattle.sqlite.specs.State.{Executes, ExecutesInside, State, Shown, HasCleanDisk, Survives, KeepsCommit, mode_of}
 pub use Rattle.sqlite.specs.Table.{Table}
 pub use Rattle.sqlite.specs.Term.{Term, col, eval, lit, eval_all}
 pub use Rattle.sqlite.specs.Tree.{rowid, Trees, put_row}
@@ -56,14 +56,13 @@ pub use Rattle.zeb_packed.specs.declared.new_rows.NewCount.{NewCount}
 pub use Rattle.zeb_packed.specs.declared.new_rows.NewRows.{NewRows}
 pub use Rattle.zeb_packed.specs.declared.packed_changes.Known.{Known}
 pub use Rattle.zeb_packed.specs.declared.statements.many.TheConstants.{MANY, ADD_BLOCKS, ADD_COUNTS}
-pub use Rattle.zeb_register.proofs.Answered.{refused_so, told_or, fault_met}
+pub use Rattle.zeb_register.proofs.Answered.{refused_so, fault_met}
 pub use Rattle.zeb_register.proofs.BetweenLemmas.{up_to, blocks_many, spelled_by, spelled_row, spelled_too}
 pub use Rattle.zeb_register.proofs.BetweenRows.{has_under, shown_row, under, under_has, under_listed, begins}
 pub use Rattle.zeb_register.proofs.BetweenStatements.{between, more}
 pub use Rattle.zeb_register.proofs.BlockUnits.{held_block, held_units, malformed_block, none_rises, one_block_read, one_reading, read_rises}
-pub use Rattle.zeb_register.proofs.Calls.{IsSilent, alters_so, changes_after, changes_none, reads_goes, store_same, inside_so, on_ok_so, nothing_then, goes_keeps, on_err, goes_then, on_err_so, changes_so, changes_then, stays_then, Stays, lists, nothing, quiet, read_so, alters, refused_keeps, lists_inside, query_keeps, read_inside}
+pub use Rattle.zeb_register.proofs.Calls.{IsSilent, alters_so, changes_after, changes_none, reads_goes, store_same, inside_so, on_ok_so, goes_keeps, on_err, goes_then, on_err_so, changes_so, changes_then, stays_then, Stays, nothing, quiet, alters, refused_keeps, lists_inside, query_keeps, read_inside}
 pub use Rattle.zeb_register.proofs.CallsInTurn.{quiet_then, violated, quiet_still}
-pub use Rattle.zeb_register.proofs.Causes.{reasoned_after}
 pub use Rattle.zeb_register.proofs.Columns.{column_is, numbered_rows}
 pub use Rattle.zeb_register.proofs.ContentChanges.{at_sysno, posting_total, told_spot, with_list, place_total}
 pub use Rattle.zeb_register.proofs.ContentLemmas.{told_apart, same_key, one_list, some_posting, ints_order, has_at}
@@ -80,7 +79,7 @@ pub use Rattle.zeb_register.proofs.PostingStatements.{blocks, blocks_keys, block
 pub use Rattle.zeb_register.proofs.PrefixSelects.{IsAfter, lists_after, after_key, alone_first}
 pub use Rattle.zeb_register.proofs.Refusals.{IsFit, IsReasonedQuery, IsWhole, why_refused}
 pub use Rattle.zeb_register.proofs.RisingLists.{kept_rises, same_list, one_has, one_longer, one_rises, told_by, with_one, joined_rises, pushed_rises, never_itself, cut_rises, flipped_total, has_reversed, reversed_rises}
-pub use Rattle.zeb_register.proofs.RowFaults.{refused_rows, rows_told}
+pub use Rattle.zeb_register.proofs.RowFaults.{refused_rows}
 pub use Rattle.zeb_register.proofs.RowLemmas.{covered_some, ordering_tied, shares_alone, blob_of, code_at, spread, same_bytes, text_first}
 pub use Rattle.zeb_register.proofs.RunTurns.{stands_once, rise_left, none_put, put_more, refused_first, refused_later}
 pub use Rattle.zeb_register.proofs.Scans.{reads, shows_each, shows_sorted, all_shown, strictly_mapped}
@@ -92,9 +91,9 @@ pub use Rattle.zeb_register.proofs.TermRows.{taken_more, take_rises, taken_below
 pub use Rattle.zeb_register.proofs.TermsAmong.{records_count, records_of}
 pub use Rattle.zeb_register.proofs.ValueKinds.{IsPlainTable, HasKeys, are_fit, are_comparable, code, codes_of, covers, keeps_all}
 pub use Rattle.zeb_register.proofs.Writes.{inserts, keyed_there, codes_there, meets_there, RemakesRows, changed_so, deletes, gains, loses, updates}
-pub use Rattle.zeb_register.specs.Answers.{Answers, IfDamaged}
+pub use Rattle.zeb_register.specs.Answers.{Answers, IfDamaged, LooksInto}
 pub use Rattle.zeb_register.specs.Between.{IsBetween}
-pub use Rattle.zeb_register.specs.Calls.{Alters, OnlyReads, ChangesNothing, GoesOn}
+pub use Rattle.zeb_register.specs.Calls.{Alters, OnlyReads, GoesOn}
 pub use Rattle.zeb_register.specs.Content.{AreListChanges, ArePlacesOf, IsListChanged, OldsRise, place_cmp, posting_at, posting_cmp, AreChangedAt, Content, HasRisingLists, IsStorable, posted, AreStorablePlaces, IsStorablePlace, places_in}
 pub use Rattle.zeb_register.specs.Formats.{packed_blocks}
 pub use Rattle.zeb_register.specs.Occurring.{IsCount, HasKey, AreTermsBefore, AreTermsFrom, AreTermsOf, TermIn, is_before, is_from, key_in, last, term_cmp, AreSpotsOf, Spot, spot_cmp, capped}

@@ -1,5 +1,5 @@
 -- What a packed register holds in sum: the list of each term, read block by block.
-use Rattle.zeb_packed.proofs.Cited.{◌≡◌, ◌∙◌, ◌+◌, ◌<◌, ℕ, ℤ, List, [], ◌∷◌, ◌++◌, length, get_or, map, take, refl, sym, ap, ap₂, subst, inl, inr, Less, nat_cmp, arith, length-append, tied_itself, length-map, take_more, sum_by-cons, slice_cmp, nat_list_cmp_total, sum_by, ordering_then, Trees, Has, all_has, has_either, has_left, has_right, has_mapped, mapped_has, Posting, Register, TermCount, packed_blocks, places_in, posting_at, posting_cmp, Spot, spot_cmp, capped, key_in, term_cmp, ListsUnits, one_reading, place_in, spot_total, joined_rises, strictly_mapped, placed_at, AreListed, ListsAll, SumsUp}
+use Rattle.zeb_packed.proofs.Cited.{◌≡◌, ◌∙◌, ◌+◌, ◌<◌, ℕ, ℤ, List, [], ◌∷◌, ◌++◌, length, get_or, map, take, refl, sym, ap, ap₂, subst, inl, inr, Less, nat_cmp, arith, length-append, tied_itself, length-map, take_more, sum_by-cons, slice_cmp, nat_list_cmp_total, sum_by, ordering_then, Trees, Has, all_has, has_either, has_left, has_right, has_mapped, mapped_has, Posting, Register, TermCount, packed_blocks, places_in, posting_at, posting_cmp, Spot, spot_cmp, capped, key_in, term_cmp, ListsUnits, one_reading, place_in, spot_total, joined_rises, strictly_mapped, placed_at, AreListed, ListsAll, SumsUp, Rises, blocks_of}
 use Rattle.std.specs.List.Sorted.{IsStrictlySortedBy}
 use Rattle.zeb_register.specs.declared.registers.Totals.{Totals}
 
@@ -117,3 +117,13 @@ module _ (trees : Trees) (db : ℤ) (index : ℕ) (register : Register) where
     );
     occurrences = some ∙ ap capped (sym (spots_many ts ls are));
   }
+
+  -- ---- on the way through the terms
+
+  -- the terms are all of the register; the lists of those that were gone over have so many postings in sum, and their blocks were counted
+  pub record AreGoneOver (terms over : List TermCount) (occurrences old new : ℕ) : Type 0 where
+    pub all : ListsAll packed_blocks trees db index register terms
+    pub lists : List (List Posting)
+    pub listed : Listed over lists
+    pub postings : occurrences ≡ capped (sum_by length lists)
+    pub blocks : Rises (sum_by blocks_of lists) old new

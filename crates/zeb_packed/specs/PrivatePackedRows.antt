@@ -5,7 +5,6 @@ use Rattle.std.specs.Ordering.{is_lt}
 use Rattle.std.specs.List.Sorted.{IsStrictlySortedBy}
 use Rattle.sqlite.specs.declared.types.Value.TheVariants.{Int, Text}
 use Rattle.sqlite.specs.Order.{Row, column, row_cmp, value_cmp}
-use Rattle.sqlite.specs.State.{State, IsUnchanged}
 use Rattle.sqlite.specs.Tree.{Trees}
 use Rattle.sqlite_sql.specs.Query.{as_count, limited}
 use Rattle.sqlite_rules.specs.Lists.{Has}
@@ -13,23 +12,23 @@ use Rattle.zeb_register.specs.declared.registers.TermCount.{TermCount}
 use Rattle.zeb_register.specs.PackedBlocks.{CountsTerm}
 use Rattle.zeb_register.specs.PrivateRowPlaces.{first_two}
 use Rattle.zeb_register.specs.Sql.{IsListOf}
-use Rattle.zeb_register.specs.Store.{IsRest, IsStore}
+use Rattle.zeb_register.specs.Store.{IsRest}
 use Rattle.zeb_register.specs.PackedUnits.{IsMalformed}
 
 -- ---- what statements list
 
--- the first of the rows that are P of the tables, rising, and at most so many, or all where that is below 0
-abbrev pub ListsFirst : ℤ → (Trees → Row → Type 0) → State → State → List Row → Type 0
-ListsFirst limit P old new rows = IsUnchanged old new × (IsStore old → (all : List Row) × IsListOf (P old.now.trees) all × (rows ≡ limited (as_count (Int limit)) all))
+-- the first of the rows that are P, rising, and at most so many, or all where that is below 0
+abbrev pub ListsFirst : ℤ → (Row → Type 0) → List Row → Type 0
+ListsFirst limit P rows = (all : List Row) × IsListOf P all × (rows ≡ limited (as_count (Int limit)) all)
 
 -- the rows that are P, each once, falling
 pub record IsFallingListOf (P : Row → Type 0) (rows : List Row) : Type 0 where
   pub each : (x : Row) → Has rows x ↔ P x
   pub falling : IsStrictlySortedBy (λ x y. row_cmp y x) rows
 
--- the last of the rows that are P of the tables, falling, and at most so many, or all where that is below 0
-abbrev pub ListsLast : ℤ → (Trees → Row → Type 0) → State → State → List Row → Type 0
-ListsLast limit P old new rows = IsUnchanged old new × (IsStore old → (all : List Row) × IsFallingListOf (P old.now.trees) all × (rows ≡ limited (as_count (Int limit)) all))
+-- the last of the rows that are P, falling, and at most so many, or all where that is below 0
+abbrev pub ListsLast : ℤ → (Row → Type 0) → List Row → Type 0
+ListsLast limit P rows = (all : List Row) × IsFallingListOf P all × (rows ≡ limited (as_count (Int limit)) all)
 
 -- ---- terms that rows of `dict` count
 

@@ -10,12 +10,11 @@ ghost use Rattle.zeb_register.specs.PrivateRowPlaces.{first_two};
 ghost use Rattle.zeb_register.specs.PrivatePackedRows.{AreSpelled};
 ghost use Rattle.zeb_blocks.specs.Blocks.{BlockSpells};
 ghost use Rattle.zeb_packed.specs.PrivatePackedRows.{EndsCounting, SomeMalformed, TellTerms, count_row};
-ghost use Rattle.zeb_register.specs.Answers.{Answers, IfDamaged, IfRowDamaged};
+ghost use Rattle.zeb_register.specs.Answers.{Answers, IfRowDamaged};
 ghost use Rattle.zeb_register.specs.Formats.{packed_blocks};
 ghost use Rattle.zeb_register.specs.PackedUnits.{HasMalformed};
 ghost use Rattle.zeb_register.specs.Units.{ListsUnits};
-ghost use Rattle.sqlite.specs.State.{IsUnchanged};
-ghost use Rattle.zeb_register.specs.Connections.{IsReasonedOf, OnStoreOf, ReadingOf, TellsOf};
+ghost use Rattle.zeb_register.specs.Connections.{LooksIntoOf, TellsOf};
 ghost use Rattle.zeb_register.specs.Tallies.{Works};
 
 use crate::statements::packed::block_rows;
@@ -37,11 +36,9 @@ pub(crate) fn key_postings<S: Alter>(
     db: DatabaseId,
     key: &Key,
 ) -> Result<Vec<Posting>, RegFault>
-    ensures call { ReadingOf S.Store conn.old conn.new result (λ _. IsUnchanged) }
-    ensures lists { OnStoreOf S.Store conn.old conn.new
-        (λ trees. Answers (IfDamaged (HasMalformed trees db.0 key.now))
-        (λ list. ListsUnits packed_blocks trees db.0 key.now list.items) result) }
-    ensures refused { IsReasonedOf S.Store conn.old conn.new result }
+    ensures finds { LooksIntoOf S.Store conn.old conn.new result
+        (λ trees. HasMalformed trees db.0 key.now)
+        (λ trees list. ListsUnits packed_blocks trees db.0 key.now list.items) }
     ensures work { TellsOf S.Store conn.old conn.new result (λ _ list. Works 0 0
         (blocks_of list.items) 0 work.old work.new) }
 {

@@ -2,18 +2,17 @@
 
 ghost use Rattle.std.specs.Prelude.{◌≡◌, ◌++◌, List, map, sum_by, OnOk};
 ghost use Rattle.sqlite.specs.Held.{state};
-ghost use Rattle.sqlite.specs.State.{IsUnchanged};
 ghost use Rattle.zeb_packed.specs.PrivatePackedRows.{SomeMalformed};
-ghost use Rattle.zeb_register.specs.Answers.{Answers, IfDamaged, IfRowDamaged};
+ghost use Rattle.zeb_register.specs.Answers.{Answers, IfRowDamaged};
 ghost use Rattle.zeb_register.specs.Between.{AreKeysBetween};
 ghost use Rattle.zeb_register.specs.PrivateBetweenRows.{two_behind};
 ghost use Rattle.zeb_register.specs.Clauses.{TellsHeld};
-ghost use Rattle.zeb_register.specs.Connections.{IsReasonedOf, OnStoreOf, ReadingOf};
 ghost use Rattle.zeb_register.specs.PackedBlocks.{HoldsBlocks, SpellsPart, blocks_of};
 ghost use Rattle.zeb_register.specs.PrivatePackedRows.{AreSpelled};
 ghost use Rattle.zeb_register.specs.Formats.{packed_blocks};
 ghost use Rattle.zeb_register.specs.Tallies.{Works};
 ghost use Rattle.zeb_register.specs.Units.{HasMalformedBetween, ListsBetween};
+ghost use Rattle.zeb_register.specs.Connections.{LooksIntoOf};
 
 use crate::packed::add_spelled;
 use crate::statements::between::block_rows_between;
@@ -32,12 +31,9 @@ pub(crate) fn blocks_between<S: Alter>(
     first: &str,
     last: &str,
 ) -> Result<Vec<Posting>, RegFault>
-    ensures call { ReadingOf S.Store conn.old conn.new result (λ _. IsUnchanged) }
-    ensures lists { OnStoreOf S.Store conn.old conn.new
-        (λ trees. Answers (IfDamaged (HasMalformedBetween packed_blocks trees at first.now
-        last.now)) (λ list. ListsBetween packed_blocks trees at first.now last.now list.items)
-        result) }
-    ensures refused { IsReasonedOf S.Store conn.old conn.new result }
+    ensures finds { LooksIntoOf S.Store conn.old conn.new result
+        (λ trees. HasMalformedBetween packed_blocks trees at first.now last.now)
+        (λ trees list. ListsBetween packed_blocks trees at first.now last.now list.items) }
     ensures work { TellsHeld HoldsBlocks (state S.Store conn.old) (state S.Store conn.new) result
         (λ content _. (keys : List _) → AreKeysBetween content at first.now last.now keys
         → Works 0 0 (sum_by (λ key. blocks_of (content at.db.0 key)) keys) 0 work.old work.new) }

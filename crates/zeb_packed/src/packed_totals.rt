@@ -1,10 +1,7 @@
 //! How much a packed register holds: its terms by their rows of `dict`, its postings by the blocks of each term.
 
 ghost use Rattle.std.specs.Prelude.{◌≡◌, ◌<◌, ◌^◌, List, length, IfOk, IfErr, OnOk};
-ghost use Rattle.sqlite.specs.State.{IsUnchanged};
 ghost use Rattle.zeb_packed.specs.PrivatePackedRows.{SomeMalformed};
-ghost use Rattle.zeb_register.specs.Answers.{Answers, IfDamaged};
-ghost use Rattle.zeb_register.specs.Connections.{IsReasonedOf, OnStoreOf, ReadingOf};
 ghost use Rattle.zeb_register.specs.Formats.{packed_blocks};
 ghost use Rattle.zeb_register.specs.Occurring.{capped, key_in};
 ghost use Rattle.zeb_register.specs.PackedBlocks.{SpellsPart, blocks_of};
@@ -12,6 +9,7 @@ ghost use Rattle.zeb_register.specs.PackedUnits.{HasMalformed};
 ghost use Rattle.zeb_register.specs.PrivatePackedRows.{AreSpelled};
 ghost use Rattle.zeb_register.specs.Tallies.{Rises};
 ghost use Rattle.zeb_register.specs.Units.{ListsUnits};
+ghost use Rattle.zeb_register.specs.Connections.{LooksIntoOf};
 
 use crate::statements::packed::block_rows;
 use sqlite::{Alter, Connection, Row};
@@ -26,14 +24,11 @@ pub(crate) fn term_postings<S: Alter>(
     at: RegisterOf,
     term: &str,
 ) -> Result<u64, RegFault>
-    ensures call { ReadingOf S.Store conn.old conn.new result (λ _. IsUnchanged) }
-    ensures lists { OnStoreOf S.Store conn.old conn.new
-        (λ trees. Answers (IfDamaged (HasMalformed trees at.db.0
-        (key_in at.index at.register term.now))) (λ count. (list : List _)
-        × ListsUnits packed_blocks trees at.db.0 (key_in at.index at.register term.now) list
-        × (count ≡ capped (length list)) × Rises (blocks_of list) work.old.block_read
-        work.new.block_read) result) }
-    ensures refused { IsReasonedOf S.Store conn.old conn.new result }
+    ensures finds { LooksIntoOf S.Store conn.old conn.new result
+        (λ trees. HasMalformed trees at.db.0 (key_in at.index at.register term.now))
+        (λ trees count. (list : List _) × ListsUnits packed_blocks trees at.db.0 (key_in at.index
+        at.register term.now) list × (count ≡ capped (length list))
+        × Rises (blocks_of list) work.old.block_read work.new.block_read) }
     ensures others { work.new ≡ record work.old { block_read = work.new.block_read } }
     ensures fits { OnOk result (work.new.block_read < 2 ^ 64) }
 {

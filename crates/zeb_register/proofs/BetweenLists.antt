@@ -68,11 +68,11 @@ module _ (s : State) (store : IsStore s) (at : RegisterOf) (first last : List �
 module _ (format : Format) (at : RegisterOf) (first last : List ℕ) where
   pub between_told : (old new : State) (result : Result (Vec Posting Global) RegFault) → ListsTerms format at first last old new result
       → TellsHeld (holds_in format) old new result (λ content list. (p : Posting) → Has list.items p ↔ IsPostingBetween content at first last p)
-  between_told old new (Ok list) tells clean store = λ content holds p.
-      let are = tells clean store in
+  between_told old new (Ok list) looks clean store = λ content holds p.
+      let are = looks.finds clean store in
       let same = λ (term : List ℕ) (between : IsBetween first last term).
       one_listing format old.now.trees at.db.0 (key_in at.index at.register term) (are.lists term) (term_list content at term) (are.units term between) (held_listing format old.now.trees at.db.0 (key_in at.index at.register term) content holds) in (
         λ here. let it = (are.each p).0 here in (it.0, it.1, subst (λ l. Has l p) (same it.0 it.1) it.2),
         λ of. (are.each p).1 (of.0, of.1, subst (λ l. Has l p) (sym (same of.0 of.1)) of.2),
       )
-  between_told old new (Err fault) tells clean store = tt
+  between_told old new (Err fault) looks clean store = tt

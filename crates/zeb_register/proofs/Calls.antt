@@ -1,5 +1,5 @@
 -- What each call on the tables does to a connection, whatever its text is.
-use Rattle.zeb_register.proofs.Cited.{unchanged_then, survives_weaker, timed, Command, first, with_command, small, Database, IsDatabase, reads_listing, listing_schema, is_select, if_select, Row, Schema, State, HasCleanDisk, IsUnchanged, IsRolledBack, KeepsCommit, Survives, Executes, ExecutesInside, ShowsRows, FailsToShow, IsTooLate, Trees, Error, and_then, Compiled, CompileError, ◌≡◌, ◌≢◌, ◌⊎◌, ◌+◌, ℕ, List, [], ◌∷◌, true, false, not, Bool, IsTrue, None, IsSome, Result, Ok, Err, OnOk, OnErr, IfOk, IfErr, inl, inr, refl, sym, ap, subst, ◌∙◌, arith, cases_Bool, AllByRecursion, Table, timed_in, store_schema, IsKeyed, KeepsOthers, IsListOf, IsStore, Changes, GoesOn, OnlyReads, ChangesNothing, Alters, Inside, Reading, LooksUp, Ran, Lists, ListsInside, ReadsRows, ReadsInside}
+use Rattle.zeb_register.proofs.Cited.{unchanged_then, survives_weaker, timed, Command, first, with_command, small, Database, IsDatabase, reads_listing, listing_schema, is_select, if_select, Row, Schema, State, HasCleanDisk, IsUnchanged, IsRolledBack, KeepsCommit, Survives, Executes, ExecutesInside, ShowsRows, FailsToShow, IsTooLate, Trees, Error, and_then, Compiled, CompileError, ◌≡◌, ◌≢◌, ◌⊎◌, ◌+◌, ℕ, List, [], ◌∷◌, true, false, not, Bool, IsTrue, None, IsSome, Result, Ok, Err, OnOk, OnErr, IfOk, IfErr, inl, inr, refl, sym, ap, subst, ◌∙◌, arith, cases_Bool, AllByRecursion, Table, timed_in, store_schema, IsKeyed, KeepsOthers, IsListOf, IsStore, Changes, GoesOn, OnlyReads, ChangesNothing, Alters, Inside, Reading, Ran, ListsInside, ReadsInside}
 use Rattle.sqlite.specs.Compile.{compiled, returning, planned, meaning, command}
 use Rattle.sqlite.specs.Listing.{understood}
 use Rattle.sqlite.specs.State.{Shown, FailsToQuery, IsNotRun, CommitsShowing}
@@ -73,17 +73,6 @@ quiet sql params old new silent = survives_weaker old new _ _ (λ clean db h. le
 
 -- ---- queries outside a transaction
 
-pub lists : {A : Type 0} (rows : A → List Row) (P : Trees → Row → Type 0) (sql : List ℕ) (params : Row) (old new : State) (r : Result A Error) → IsSilent sql → IfOk r (λ x. Shown sql params old new (rows x))
-    → ((all : List Row) → IsStore old → Shown sql params old new all → IsListOf (P old.now.trees) all) → IfOk r (λ x. Lists P old new (rows x))
-lists rows P sql params old new (Ok x) silent shown means = (shown_alone sql params old new (rows x) silent shown, λ store. means (rows x) store shown)
-lists rows P sql params old new (Err e) silent shown means = tt
-
--- the same for what is said of all rows at once
-pub read_so : {A : Type 0} (rows : A → List Row) (P : Trees → List Row → Type 0) (sql : List ℕ) (params : Row) (old new : State) (r : Result A Error) → IsSilent sql → IfOk r (λ x. Shown sql params old new (rows x))
-    → ((all : List Row) → IsStore old → Shown sql params old new all → P old.now.trees all) → IfOk r (λ x. ReadsRows P old new (rows x))
-read_so rows P sql params old new (Ok x) silent shown means = (shown_alone sql params old new (rows x) silent shown, λ store. means (rows x) store shown)
-read_so rows P sql params old new (Err e) silent shown means = tt
-
 same_nothing : (old new : State) → IsUnchanged old new → ChangesNothing old new
 same_nothing old new same open' = (same.0.was_open, same.0.now_is, same.0.committed_is)
 
@@ -102,20 +91,6 @@ nothing rows sql params old new (Err e) auto silent is settled shown failed idle
 pub shown_each : {A : Type 0} (rows : A → List Row) (sql : List ℕ) (params : Row) (old new : State) (r : Result A Error) → IsSilent sql → IfOk r (λ x. Shown sql params old new (rows x)) → IfOk r (λ _. IsUnchanged old new)
 shown_each rows sql params old new (Ok x) silent shown = shown_alone sql params old new (rows x) silent shown
 shown_each rows sql params old new (Err e) silent shown = tt
-
--- ---- what a look-up tells
-
-module _ {A : Type 0} {rows : A → List Row} {sql : List ℕ} {params : Row} where
-  pub lists_read : (P : Trees → Row → Type 0) (old new : State) (r : Result A Error) → ((all : List Row) → IsStore old → Shown sql params old new all → IsListOf (P old.now.trees) all) → LooksUp rows sql params old new r
-      → Reading old new r (λ x a b. Lists P a b (rows x))
-  lists_read P old new (Ok x) means looks = record { idle = looks.call.idle; ok = λ clean. (looks.call.ok clean, λ store. means (rows x) store (looks.ok clean)); same = looks.call.same; crash = looks.call.crash }
-  lists_read P old new (Err e) means looks = record { idle = looks.call.idle; ok = λ clean. tt; same = looks.call.same; crash = looks.call.crash }
-
-  -- the same for what is said of all rows at once
-  pub all_read : (P : Trees → List Row → Type 0) (old new : State) (r : Result A Error) → ((all : List Row) → IsStore old → Shown sql params old new all → P old.now.trees all) → LooksUp rows sql params old new r
-      → Reading old new r (λ x a b. ReadsRows P a b (rows x))
-  all_read P old new (Ok x) means looks = record { idle = looks.call.idle; ok = λ clean. (looks.call.ok clean, λ store. means (rows x) store (looks.ok clean)); same = looks.call.same; crash = looks.call.crash }
-  all_read P old new (Err e) means looks = record { idle = looks.call.idle; ok = λ clean. tt; same = looks.call.same; crash = looks.call.crash }
 
 -- ---- queries inside a transaction
 
@@ -263,20 +238,6 @@ on_ok_so (Ok a) P Q so h = so h
 on_ok_so (Err e) P Q so h = tt
 
 -- ---- one reading call after the other
-
-pub reading_then : {A B E : Type 0} (a b c : State) (x : A) (r : Result B E) → Reading {E = E} a b (Ok x) (λ _. IsUnchanged) → Reading b c r (λ _. IsUnchanged) → Reading a c r (λ _. IsUnchanged)
-reading_then a b c x (Ok y) first second = record {
-  idle = λ i. second.idle (first.idle i);
-  ok = λ clean. unchanged_then a b c (first.ok (omega (arith, second.crash.clean))) (second.ok clean);
-  same = λ clean i. nothing_then a b c (first.same (omega (arith, second.crash.clean)) i) (second.same clean (first.idle i));
-  crash = quiet_then a b c first.crash second.crash;
-}
-reading_then a b c x (Err e) first second = record {
-  idle = λ i. second.idle (first.idle i);
-  ok = λ clean. tt;
-  same = λ clean i. nothing_then a b c (first.same (omega (arith, second.crash.clean)) i) (second.same clean (first.idle i));
-  crash = quiet_then a b c first.crash second.crash;
-}
 
 -- a query that was accepted, behind calls that changed nothing
 pub reading_behind : {A B E F : Type 0} (a b c : State) (x : A) (y : B) (Shown : A → State → State → Type 0) → (a.in_transaction ≡ false → b.in_transaction ≡ false) → (HasCleanDisk b → IsUnchanged a b)

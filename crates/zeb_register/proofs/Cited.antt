@@ -116,7 +116,7 @@ pub use Rattle.zeb_keys.specs.declared.keys.Occurrence.{Occurrence}
 pub use Rattle.zeb_leaf.specs.Order.{entry_cmp, IsEntry}
 pub use Rattle.zeb_leaf.specs.declared.entries.Entry.{Entry}
 pub use Rattle.zeb_register.specs.Agreeing.{Owns, HoldsUnder, HasNames, IsThere, BelongsThere, EachThere, HoldsThere, KeepsExpectedTexts, ListsAgree, listed_name, expected_name, AreBeside, AreEnds, IsLeastFrom, IsListedId, RecordsAgree, HasRecords, LacksPostingsAndDict}
-pub use Rattle.zeb_register.specs.Answers.{TellsOr}
+pub use Rattle.zeb_register.specs.Answers.{Asks, LooksInto, TellsOr}
 pub use Rattle.zeb_register.specs.Between.{AreKeysBetween, IsBetween, term_list, IsPostingBetween}
 pub use Rattle.zeb_register.specs.Calls.{GoesOn, OnlyReads, ChangesNothing, Alters, Inside, Reading, MayRefuse}
 pub use Rattle.zeb_register.specs.Catalog.{AreDatabases, AreReadableDatabases, listed_order, PutsDatabase, AreCountedDatabases, IsDatabaseOf}
@@ -146,8 +146,8 @@ pub use Rattle.zeb_register.specs.PrivateRowExpected.{BelongsTo, IsBlockRest, Is
 pub use Rattle.zeb_register.specs.PrivateRowKeys.{BeginsOther, IsFrontOf, IsRunBefore, IsRunFrom, dict_rest}
 pub use Rattle.zeb_register.specs.PrivateRowPlaces.{first_two, first_three, DropsRegisters, IsTwoNumbers, place_row, KeepsBesidePostings, GainsPlaces, Puts, posting_columns, IsPlaceIn, SomeShowsNone}
 pub use Rattle.zeb_register.specs.PrivateRowReads.{rests_text, ShowsFirst, greatest_text, least_text, next_text, Fits, size_of, ReadsRests, IsFirst}
-pub use Rattle.zeb_register.specs.PrivateRowStatements.{Lists, ListsInside, IsMade, IsRestAtLeast, IsDatabaseShown, IsListedRow, AddsDatabase, SetsLast, IsDatabaseRow, IsValueRow, IsElderRow, IsIdentRow, Gains, place_key, whole_posting_row, IsRecordShown, ShowsCount, Empties}
-pub use Rattle.zeb_register.specs.PrivateRowTerms.{IsInRecord, ReadsRows, ReadsInside, IsCountedIn, term_with, IsShown, HasTerm, ShowsOccurrence, IsOccurrenceRow, ShowsTerm, IsTermRow, ShowsNearest, FindsNearest, HidesText, SomeIsNoOccurrence}
+pub use Rattle.zeb_register.specs.PrivateRowStatements.{ListsInside, IsMade, IsRestAtLeast, IsDatabaseShown, IsListedRow, AddsDatabase, SetsLast, IsDatabaseRow, IsValueRow, IsElderRow, IsIdentRow, Gains, place_key, whole_posting_row, IsRecordShown, ShowsCount, Empties}
+pub use Rattle.zeb_register.specs.PrivateRowTerms.{IsInRecord, ReadsInside, IsCountedIn, term_with, IsShown, HasTerm, ShowsOccurrence, IsOccurrenceRow, ShowsTerm, IsTermRow, ShowsNearest, FindsNearest, HidesText, SomeIsNoOccurrence}
 pub use Rattle.zeb_register.specs.PrivateStoreTables.{HasEmpty, create_text, schema_after, schema_before, clear_text, tree_at, wipe_text}
 pub use Rattle.zeb_register.specs.PrivateUnits.{units_of, TurnsRows}
 pub use Rattle.zeb_register.specs.Queries.{LooksUp, IsSilent}

@@ -1,8 +1,7 @@
 -- The terms of a register are told by their counts. What a call that tells them says of tables that hold a content.
-use Rattle.zeb_register.proofs.Cited.{State, Trees, has_filtered, has_kept, Has, ◌≡◌, ◌≢◌, ◌↔◌, ◌⊎◌, ◌∙◌, ◌<◌, ◌≤◌, ℕ, ℤ, Bool, true, false, not, List, [], ◌∷◌, length, filter, take, reverse, refl, sym, ap, ap₂, subst, inl, inr, arith, cases_Bool, bytes_eq-Decides, reverse-reverse, length-reverse, is_lt, Result, Ok, Err, Vec, Global, Register, Posting, Spot, Totals, TermCount, RegFault, RegisterOf, Content, IsStorable, posted, Format, holds_in, HasKey, IsCount, AreTermsOf, AreTotals, HasSpot, TermIn, key_in, is_before, is_from, last, IsReasoned, TellsOr, IsHonestStorable, TellsHeld, places_in, AreTermsBefore, AreTermsFrom, counts_as}
+use Rattle.zeb_register.proofs.Cited.{State, Trees, has_filtered, has_kept, Has, ◌≡◌, ◌≢◌, ◌↔◌, ◌⊎◌, ◌∙◌, ◌<◌, ◌≤◌, ℕ, ℤ, Bool, true, false, not, List, [], ◌∷◌, length, filter, take, reverse, refl, sym, ap, ap₂, subst, inl, inr, arith, cases_Bool, bytes_eq-Decides, reverse-reverse, length-reverse, is_lt, Result, Ok, Err, Vec, Global, Register, Posting, Spot, Totals, TermCount, RegFault, RegisterOf, Content, IsStorable, posted, Format, holds_in, HasKey, IsCount, AreTermsOf, AreTotals, HasSpot, TermIn, key_in, is_before, is_from, last, IsReasoned, LooksInto, OnStore, Damaged, IsHonestStorable, TellsHeld, places_in, AreTermsBefore, AreTermsFrom, counts_as}
 use Rattle.std.specs.Str.{bytes_eq}
 use Rattle.zeb_register.specs.Terms.{AreListed, Comes, HidesCount, HidesSome, IsNearest, ListsAll, ListsBefore, ListsCounts, ListsFrom, ListsNearest, SumsUp, TellsAll, shows_count}
-use Rattle.zeb_register.proofs.Answered.{or_damaged, or_reasoned}
 use Rattle.zeb_register.proofs.BlockContents.{counted_list, some_counted}
 use Rattle.zeb_register.proofs.CountLemmas.{comes_is, comes_not, counted_none, one_count, term_total}
 use Rattle.zeb_register.proofs.FormatLemmas.{registers_have_terms}
@@ -183,15 +182,20 @@ IsToldOf format Says old new result = TellsHeld (holds_in format) old new result
 
 module _ (format : Format) {A : Type 0} (Damage : Trees → Type 0) (Told : Trees → A → Type 0) (Says : Content → A → Type 0) (so : (trees : Trees) (answer : A) → Told trees answer → (content : Content) → holds_in format trees content → Says content answer)
     (never : (trees : Trees) (content : Content) → holds_in format trees content → IsStorable content → ¬ Damage trees) where
-  says_held : (old new : State) (result : Result A RegFault) → TellsOr Damage Told old new result → TellsHeld (holds_in format) old new result Says
-  says_held old new (Ok answer) tells clean store = λ content holds. so old.now.trees answer (tells clean store) content holds
-  says_held old new (Err fault) tells clean store = tt
+  says_held : (old new : State) (result : Result A RegFault) → LooksInto Damage Told old new result → TellsHeld (holds_in format) old new result Says
+  says_held old new (Ok answer) looks clean store = λ content holds. so old.now.trees answer (looks.finds clean store) content holds
+  says_held old new (Err fault) looks clean store = tt
 
-  told_of : (old new : State) (result : Result A RegFault) → TellsOr Damage Told old new result → IsToldOf format Says old new result
-  told_of old new result tells = (
-    says_held old new result tells,
-    λ clean store is content storable holds. never old.now.trees content holds storable (or_damaged Damage Told old new result tells clean store is),
-    or_reasoned Damage Told old new result tells,
+  -- Damaged is told with its cause
+  with_cause : (old new : State) (result : Result A RegFault) → LooksInto Damage Told old new result → OnStore old new (λ trees. result ≡ Err Damaged → Damage trees)
+  with_cause old new (Ok answer) looks clean store is = absurd (let e : ◌≡◌ {A = Result A RegFault} (Ok answer) (Err Damaged) = is in cc)
+  with_cause old new (Err fault) looks clean store is = looks.finds clean store (let e : ◌≡◌ {A = Result A RegFault} (Err fault) (Err Damaged) = is in cc)
+
+  told_of : (old new : State) (result : Result A RegFault) → LooksInto Damage Told old new result → IsToldOf format Says old new result
+  told_of old new result looks = (
+    says_held old new result looks,
+    λ clean store is content storable holds. never old.now.trees content holds storable (with_cause old new result looks clean store is),
+    looks.refused,
   )
 
 module _ (format : Format) (at : RegisterOf) where

@@ -7,7 +7,7 @@ use Rattle.zeb_register.proofs.CallsInTurn.{quiet_still, quiet_then}
 use Rattle.zeb_register.proofs.Causes.{failed_after}
 
 -- a disk that is clean behind a call was clean before it
-clean_before : (a b : State) → Survives a b (λ _. ⊥) → HasCleanDisk b → HasCleanDisk a
+pub clean_before : (a b : State) → Survives a b (λ _. ⊥) → HasCleanDisk b → HasCleanDisk a
 clean_before a b crash clean = omega (arith, crash.clean)
 
 module _ {B F : Type 0} (Fault : F → Type 0) where

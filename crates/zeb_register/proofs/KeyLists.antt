@@ -109,6 +109,6 @@ whole_list packed_leaves trees db key whole = whole
 
 module _ (format : Format) (db : ℤ) (key : Key) where
   pub list_told : (old new : State) (result : Result (Vec Posting Global) RegFault) → ListsKey format db key old new result → TellsHeld (holds_in format) old new result (λ content list. list.items ≡ content db key)
-  list_told old new (Ok list) tells clean store = λ content holds.
-      one_listing format old.now.trees db key list.items (content db key) (tells clean store) (held_listing format old.now.trees db key content holds)
-  list_told old new (Err fault) tells clean store = tt
+  list_told old new (Ok list) looks clean store = λ content holds.
+      one_listing format old.now.trees db key list.items (content db key) (looks.finds clean store) (held_listing format old.now.trees db key content holds)
+  list_told old new (Err fault) looks clean store = tt

@@ -73,6 +73,8 @@ pub mod OwnersListed
 pub mod Malformed
 pub mod Answered
 pub mod HandedOn
+pub mod AsksInTurn
+pub mod LooksInTurn
 pub mod Wiped
 pub mod KeyPlaces
 pub mod BlockUnits

@@ -1,6 +1,5 @@
 -- The ids with which rows of a table begin, one after the other, beside the databases that are listed.
-use Rattle.zeb_register.proofs.Cited.{Database, Row, State, IsUnchanged, Trees, Int, ◌≡◌, ◌∙◌, ◌≤◌, ◌+◌, ◌≤ℤ◌, ◌<ℤ◌, ◌+ℤ◌, ℕ, ℤ, pos, List, [], ◌∷◌, length, Option, Some, None, refl, sym, ap, subst, subst₂, inl, inr, Ordering, Less, Equal, Greater, arith, int_cmp, int_ranked, ints, ListedDatabase, Ends, IsListedId, Owns, AreEnds, ShowsFirst, IsStore, IsLeastFrom, IsFirst}
-use Rattle.zeb_register.proofs.Calls.{store_same}
+use Rattle.zeb_register.proofs.Cited.{Row, Trees, Int, ◌≡◌, ◌∙◌, ◌≤◌, ◌+◌, ◌≤ℤ◌, ◌<ℤ◌, ◌+ℤ◌, ℕ, ℤ, pos, List, [], ◌∷◌, length, Option, Some, None, refl, sym, ap, subst, inl, inr, Ordering, Less, Equal, Greater, arith, int_cmp, int_ranked, ints, ListedDatabase, Ends, IsListedId, Owns, AreEnds, ShowsFirst, IsLeastFrom, IsFirst}
 use Rattle.zeb_register.proofs.OwnerStatements.{cmp_below}
 
 -- ---- what the first row shows
@@ -138,6 +137,6 @@ module _ (tree : ℕ) (trees : Trees) (listed : List ListedDatabase) where
             let high : id <ℤ other = int_ranked other id Greater is in
             absurd (let e : next ≤ℤ other = first.2 other there (omega (arith, ints, high)) in omega (arith, ints, e, low))
 
--- what is told of tables that are the same, from a start that is the next number
-pub found_next : (tree : ℕ) (id : ℤ) {start : ℤ} (s0 s1 : State) (found : Option ℤ) → IsUnchanged s0 s1 → IsStore s0 → (IsStore s1 → IsLeastFrom (Owns tree s1.now.trees) start found) → start ≡ id +ℤ pos 1 → IsLeastFrom (Owns tree s0.now.trees) (id +ℤ pos 1) found
-found_next tree id s0 s1 found same store tells is = let at = same.0.now_is in subst₂ (λ (d : Database) b. IsLeastFrom (Owns tree d.trees) b found) at is (tells (store_same s0 s1 at store))
+-- the first from one on, where the number was worked out
+pub from_next : (P : ℤ → Type 0) (id : ℤ) {start : ℤ} (found : Option ℤ) → IsLeastFrom P start found → start ≡ id +ℤ pos 1 → IsLeastFrom P (id +ℤ pos 1) found
+from_next P id found least is = subst (λ b. IsLeastFrom P b found) is least

@@ -2,7 +2,6 @@
 use Rattle.zeb_register.proofs.Cited.{Row, column, State, Trees, Null, Int, Text, all_from, has_either, has_left, has_right, has_mapped, mapped_has, Has, row_cmp, ◌≡◌, ◌≢◌, ◌↔◌, ◌⊎◌, ◌∙◌, ◌<◌, ◌≤◌, ℕ, ℤ, pos, List, [], ◌∷◌, ◌++◌, drop, length, length-map, map, reverse, reverse-append, length-reverse, Less, nat_cmp, cases_Bool, slice_cmp, nat_list_cmp_total, is_lt, register_code, refl, sym, ap, subst, inl, inr, arith, Option, Some, None, Result, Ok, Err, IfOk, String, string_bytes, IsUtf8, Global, Spot, Totals, capped, posting_at, posting_row, spot_cmp, Register, Posting, TermCount, store_schema, IsListOf, IsRest, IsStore, postings_tree, register_front, plain_rows, key_in, term_cmp, IsCount, AreCounts, IsInRecord, IsOccurrenceRow, IsShown, AreAllShown, HasRowIn, HasShownNone, IsUnderKey, RowsCount, FindsNearest, HasTerm, HidesText, IsTermRow, ShowsNearest, ShowsTerm, SomeIsNoOccurrence, ListsUnits, RegisterOf}
 use Rattle.std.specs.declared.alloc.AllocError.{AllocError}
 use Rattle.std.specs.List.Sorted.{IsStrictlySortedBy}
-use Rattle.sqlite.specs.Effect.{Database}
 use Rattle.zeb_register.specs.PrivateNearest.{AreNearest, FindsCount, HasOn, HideNearest, HidesNext, IsNearer, IsNext, IsOn, in_order}
 use Rattle.zeb_register.specs.Terms.{Comes, HidesCount, HidesSome, ListsAll, ListsCounts, SumsUp, shows_count}
 use Rattle.zeb_register.specs.declared.terms.Way.{Way}
@@ -199,14 +198,13 @@ module _ (at : RegisterOf) (way : Way) (text : List ℕ) (trees : Trees) where
   pub next_counted : (term : List ℕ) → IsNext at way text trees term → IsUtf8 term → (t : TermCount) → (t.term ≡ term) × RowsCount trees at.db.0 (key_in at.index at.register term) t.records → FindsCount at way text trees (Some t)
   next_counted term next utf8 t counted = subst (λ u. IsNext at way text trees u × RowsCount trees at.db.0 (key_in at.index at.register u) t.records × IsUtf8 u) (sym counted.0) (next, counted.1, utf8)
 
--- what was found on tables as they were before, from a text as it is given
-module _ (at : RegisterOf) (way : Way) (one two : Database) (same : one ≡ two) (given text : List ℕ) (is : given ≡ text) where
-  pub found_now : (count other : Option TermCount) → count ≡ other → FindsCount at way given one.trees count → FindsCount at way text two.trees other
-  found_now count other also found =
-      subst (λ (d : Database). FindsCount at way text d.trees other) same (subst (λ t. FindsCount at way t one.trees other) is (subst (FindsCount at way given one.trees) also found))
+-- what was found from a text as it is given
+module _ (at : RegisterOf) (way : Way) (trees : Trees) (given text : List ℕ) (is : given ≡ text) where
+  pub found_as : (count other : Option TermCount) → count ≡ other → FindsCount at way given trees count → FindsCount at way text trees other
+  found_as count other also found = subst (λ t. FindsCount at way t trees other) is (subst (FindsCount at way given trees) also found)
 
-  pub hidden_now : HidesNext at way given one.trees → HidesNext at way text two.trees
-  hidden_now hides = subst (λ (d : Database). HidesNext at way text d.trees) same (subst (λ t. HidesNext at way t one.trees) is hides)
+  pub hidden_as : HidesNext at way given trees → HidesNext at way text trees
+  hidden_as hides = subst (λ t. HidesNext at way t trees) is hides
 
 -- ---- on a way from a text
 

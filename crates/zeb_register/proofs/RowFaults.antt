@@ -24,6 +24,10 @@ module _ {A : Type 0} (rows : RowFault) (result : Result A RegFault) (refused : 
   pub damaged_rows : result ≡ Err Damaged → rows ≡ DamagedRow
   damaged_rows is = are_damaged rows (let e : ◌≡◌ {A = Result A RegFault} (Err (fault_of_rows rows)) (Err Damaged) = sym handed_on ∙ is in cc)
 
+  -- it is no failure of the store
+  pub never_store : result ≢ Err Store
+  never_store is = no_store rows (let e : ◌≡◌ {A = Result A RegFault} (Err (fault_of_rows rows)) (Err Store) = sym handed_on ∙ is in cc)
+
   -- it has the reason that the rows have
   pub refused_rows : (Damage : Type 0) (Done : A → Type 0) → IfRowDamaged Damage rows → Answers (IfDamaged Damage) Done result
   refused_rows Damage Done damage = refused_so (IfDamaged Damage) Done result (fault_of_rows rows) handed_on (λ is. damage (are_damaged rows is))

@@ -1,5 +1,5 @@
 -- The rows of a STRICT table whose columns are never NULL, and the conditions that they meet.
-use Rattle.zeb_register.proofs.Cited.{rules, Binary, Kind, is_null, is_true, from_truth, Row, column, value_cmp, key_cmp, Schema, Term, lit, col, eval, eval_all, holds, Trees, rowid, is_int, Value, Null, Int, Real, Text, Blob, IsSound, some_has, some_from, test_has, keeps_at, aims, Has, is_key, kind_code, suits, are_typed, are_present, agree, guards, clashes, differ, Column, Datatype, NotNull, Unique, key_cmp_shift, Compare, Eq, Ge, Lt, first_key-plain, then_tied, value_cmp_total, value_cmp-Int, value_cmp-Text, value_cmp-Blob, first_key, ◌≡◌, ◌↔◌, inl, inr, ℕ, zero, suc, ◌+◌, Bool, true, false, cond, not, ◌&&◌, ◌||◌, List, [], ◌∷◌, drop, length, map, Some, None, Option, refl, sym, ap, ap₂, subst, ◌∙◌, arith, eqb, Ordering, Less, Equal, Greater, is_eq, true≢false, get_or, int_cmp, nat_cmp, ℤ, and_parts, and_from, or_cases, or_left, or_right, eqb-true, ltb-true, not-true, both_ways, tied_itself, int_ranked, is_eq-slice_cmp, bytes_eq-Decides, slice_cmp, AllByRecursion, list_all, list_any, range_with_len, is_lt, is_ge, Table, plain, shares_key}
+use Rattle.zeb_register.proofs.Cited.{Binary, Kind, is_null, is_true, from_truth, Row, column, value_cmp, key_cmp, Schema, Term, lit, col, eval, eval_all, holds, Trees, rowid, is_int, Value, Null, Int, Real, Text, Blob, IsSound, some_has, some_from, test_has, keeps_at, aims, Has, is_key, kind_code, suits, are_typed, are_present, agree, guards, clashes, differ, Column, Datatype, NotNull, Unique, key_cmp_shift, Compare, Eq, Ge, Lt, first_key-plain, then_tied, value_cmp_total, value_cmp-Int, value_cmp-Text, value_cmp-Blob, first_key, ◌≡◌, ◌↔◌, inl, inr, ℕ, zero, suc, ◌+◌, Bool, true, false, cond, not, ◌&&◌, ◌||◌, List, [], ◌∷◌, drop, length, map, Some, None, Option, refl, sym, ap, ap₂, subst, ◌∙◌, arith, eqb, Ordering, Less, Equal, Greater, is_eq, true≢false, get_or, int_cmp, nat_cmp, ℤ, and_parts, and_from, or_cases, or_left, or_right, eqb-true, ltb-true, not-true, both_ways, tied_itself, int_ranked, is_eq-slice_cmp, bytes_eq-Decides, slice_cmp, AllByRecursion, list_all, list_any, range_with_len, is_lt, is_ge, Table, plain, shares_key}
 use Rattle.sqlite.specs.Ops.{binary}
 use Rattle.sqlite.specs.Kind.TheVariants as kind
 use Rattle.zeb_register.proofs.StatementForms.{Condition, equals, at_least, less_than, term_of, Meets, MeetsAll, passes, ascending, ordering}

@@ -6,11 +6,11 @@ told P true yes' no' = (λ _. yes' refl, λ _. refl)
 told P false yes' no' = (λ h. absurd (let e : false ≡ true = h in cc), λ p. absurd (no' refl p))
 
 -- a second question is asked where the first is answered yes
-pub both_told : (P Q : Type 0) (answer : Bool) → (IsTrue true ↔ P) → IsTrue answer ↔ Q → IsTrue answer ↔ (P × Q)
-both_told P Q answer first second = (λ h. (first.0 refl, second.0 h), λ both. second.1 both.1)
+pub both_so : (P Q : Type 0) (first answer : Bool) → first ≡ true → IsTrue first ↔ P → IsTrue answer ↔ Q → IsTrue answer ↔ (P × Q)
+both_so P Q first answer yes' one second = (λ h. (one.0 yes', second.0 h), λ both. second.1 both.1)
 
-pub first_told : (P Q : Type 0) → (IsTrue false ↔ P) → IsTrue false ↔ (P × Q)
-first_told P Q first = (λ h. absurd (let e : false ≡ true = h in cc), λ both. first.1 both.0)
+pub no_so : (P Q : Type 0) (first : Bool) → first ≡ false → IsTrue first ↔ P → IsTrue false ↔ (P × Q)
+no_so P Q first no' one = (λ h. absurd (let e : false ≡ true = h in cc), λ both. let yes' : first ≡ true = one.1 both.0 in absurd cc)
 
 pub told_so : (P Q : Type 0) (answer : Bool) → P ↔ Q → IsTrue answer ↔ P → IsTrue answer ↔ Q
 told_so P Q answer so is = (λ h. so.0 (is.0 h), λ q. is.1 (so.1 q))

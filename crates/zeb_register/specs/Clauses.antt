@@ -2,7 +2,7 @@
 --
 -- What a call returns is known where the disk has given back what was written to it. `OnStore` is said of a call outside a transaction
 -- on the tables of a store, `InStore` of one inside a transaction.
-use Rattle.std.specs.Prelude.{◌≡◌, ◌↔◌, ◌<◌, ◌≤◌, ◌^◌, ℕ, Bool, IsTrue, Option, None, Result, Err, IfErr, IfOk, OnOk}
+use Rattle.std.specs.Prelude.{◌≡◌, ◌<◌, ◌≤◌, ◌^◌, ℕ, IsTrue, Option, None, Result, Err, IfErr, IfOk, OnOk}
 use Rattle.sqlite.specs.declared.error.Error.{Error}
 use Rattle.sqlite.specs.Schema.{Schema}
 use Rattle.sqlite.specs.Tree.{Trees}
@@ -42,10 +42,6 @@ pub record TellsByNumber {A : Type 0} (number : ℕ) (old new : State) (result :
 pub record TellsByNumberInside {A : Type 0} (number : ℕ) (old new : State) (result : Result (Option A) RegFault) (Told : Trees → Option A → Type 0) : Type 0 where
   pub small : InStore old new (λ trees. number < 2 ^ 63 → IfOk result (Told trees))
   pub large : 2 ^ 63 ≤ number → IfOk result (λ found. found ≡ None)
-
--- the answer tells whether this holds of the tables, where what the call is given is so
-abbrev pub TellsWhether : {E : Type 0} → (Trees → Type 0) → Type 0 → State → State → Result Bool E → Type 0
-TellsWhether Holds Given old new result = OnStore old new (λ trees. Given → IfOk result (λ answer. IsTrue answer ↔ Holds trees))
 
 -- the one table is changed so by an accepted call inside a transaction
 abbrev pub ChangesTable : {A E : Type 0} → ℕ → State → State → Result A E → (A → ℕ → Trees → Trees → Type 0) → Type 0

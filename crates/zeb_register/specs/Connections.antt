@@ -8,8 +8,9 @@ use Rattle.sqlite.specs.State.{State}
 use Rattle.sqlite.specs.Tree.{Trees}
 use Rattle.sqlite_trees.specs.declared.store.Store.{Ghosts}
 use Rattle.zeb_register.specs.declared.faults.RegFault.{RegFault}
+use Rattle.zeb_register.specs.Answers.{Asks, AsksWhether, LooksInto}
 use Rattle.zeb_register.specs.Calls.{Alters, Inside, Reading}
-use Rattle.zeb_register.specs.Clauses.{ChangesTable, InStore, IsDueRefusal, IsDueRefusalInside, IsHonest, IsHonestInside, IsReasoned, IsReasonedError, IsReasonedErrorInside, OnStore, Tells, TellsInside, TellsWhether}
+use Rattle.zeb_register.specs.Clauses.{ChangesTable, InStore, IsDueRefusal, IsDueRefusalInside, IsHonest, IsHonestInside, IsReasoned, IsReasonedError, IsReasonedErrorInside, OnStore, Tells, TellsInside}
 
 -- ---- of a connection outside a transaction
 
@@ -26,10 +27,6 @@ module _ {S : Type 0} (store : Ghosts S) (old new : Held S) where
   abbrev pub TellsOf : {A E : Type 0} → Result A E → (Trees → A → Type 0) → Type 0
   TellsOf result Told = Tells (state store old) (state store new) result Told
 
-  -- the answer tells whether this holds of the tables, where what the call is given is so
-  abbrev pub TellsWhetherOf : {E : Type 0} → (Trees → Type 0) → Type 0 → Result Bool E → Type 0
-  TellsWhetherOf Holds Given result = TellsWhether Holds Given (state store old) (state store new) result
-
   -- Damaged is answered only where the tables are not so
   abbrev pub IsHonestOf : {A : Type 0} → Result A RegFault → (Trees → Type 0) → Type 0
   IsHonestOf result Sound = IsHonest (state store old) (state store new) result Sound
@@ -45,6 +42,18 @@ module _ {S : Type 0} (store : Ghosts S) (old new : Held S) where
   -- a statement on a store's tables fails with an error that is told as Store only where the store may refuse
   abbrev pub IsReasonedErrorOf : {A : Type 0} → Result A Error → Type 0
   IsReasonedErrorOf result = IsReasonedError (state store old) (state store new) result
+
+  -- a call asks a store's tables, and an accepted answer tells this of them
+  abbrev pub AsksOf : {A : Type 0} → Result A Error → (Trees → A → Type 0) → Type 0
+  AsksOf result Told = Asks (state store old) (state store new) result Told
+
+  -- a call asks whether this holds of the tables, where what it is given is so
+  abbrev pub AsksWhetherOf : (Trees → Type 0) → Type 0 → Result Bool Error → Type 0
+  AsksWhetherOf Holds Given result = AsksWhether (state store old) (state store new) Holds Given result
+
+  -- a call looks into a store's tables: an accepted answer tells this of them, and Damaged that they have this damage
+  abbrev pub LooksIntoOf : {A : Type 0} → Result A RegFault → (Trees → Type 0) → (Trees → A → Type 0) → Type 0
+  LooksIntoOf result Damage Found = LooksInto Damage Found (state store old) (state store new) result
 
 -- ---- of a connection inside a transaction, which borrows it
 

@@ -7,7 +7,7 @@ use Rattle.sqlite.specs.declared.types.Value.TheVariants.{Int, Text, Blob}
 use Rattle.sqlite.specs.Effect.{IsDatabase}
 use Rattle.sqlite.specs.Order.{Row, column, value_cmp}
 use Rattle.sqlite.specs.Schema.{Schema}
-use Rattle.sqlite.specs.State.{HasCleanDisk, State, IsUnchanged}
+use Rattle.sqlite.specs.State.{HasCleanDisk, State}
 use Rattle.sqlite.specs.Tree.{Trees}
 use Rattle.sqlite.specs.declared.error.Error.{Error}
 use Rattle.sqlite.specs.declared.error.Error.TheVariants.{SqliteFailure}
@@ -34,11 +34,7 @@ pub record IsMade (schema : Schema) (s : State) : Type 0 where
   pub empty : AllByRecursion (λ t. s.now.trees t.tree ≡ []) schema.tables
   pub inside : IsTrue s.in_transaction
 
--- rows are read outside a transaction: just those that are P of the tables, rising
-abbrev pub Lists : (Trees → Row → Type 0) → State → State → List Row → Type 0
-Lists P old new rows = IsUnchanged old new × (IsStore old → IsListOf (P old.now.trees) rows)
-
--- the same inside a transaction
+-- rows are read inside a transaction: just those that are P of the tables, rising
 abbrev pub ListsInside : (Trees → Row → Type 0) → State → State → List Row → Type 0
 ListsInside P old new rows = OnlyReads old new × (IsStore old → IsListOf (P old.now.trees) rows)
 

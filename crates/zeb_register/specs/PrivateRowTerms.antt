@@ -5,7 +5,7 @@ use Rattle.std.specs.declared.alloc.Global.{Global}
 use Rattle.sqlite.specs.declared.types.Value.TheVariants.{Int, Text}
 use Rattle.sqlite.specs.Order.{Row, column}
 use Rattle.sqlite.specs.Tree.{Trees}
-use Rattle.sqlite.specs.State.{State, IsUnchanged}
+use Rattle.sqlite.specs.State.{State}
 use Rattle.sqlite_rules.specs.Lists.{Has}
 use Rattle.zeb_blocks.specs.declared.postings.Posting.{Posting}
 use Rattle.zeb_register.specs.declared.registers.TermCount.{TermCount}
@@ -28,11 +28,7 @@ abbrev pub ShowsNearest : (P : List ℕ → Type 0) → (IsNearer : List ℕ →
 ShowsNearest P IsNearer [] = (term : List ℕ) → ¬ P term
 ShowsNearest P IsNearer (row ∷ rows) = (rows ≡ []) × ((term : List ℕ) × (row ≡ Text term ∷ []) × P term × ((other : List ℕ) → P other → ¬ IsNearer other term))
 
--- rows are read, and nothing is changed
-abbrev pub ReadsRows : (Trees → List Row → Type 0) → State → State → List Row → Type 0
-ReadsRows P old new rows = IsUnchanged old new × (IsStore old → P old.now.trees rows)
-
--- the same inside a transaction
+-- rows are read inside a transaction, and nothing is changed
 abbrev pub ReadsInside : (Trees → List Row → Type 0) → State → State → List Row → Type 0
 ReadsInside P old new rows = OnlyReads old new × (IsStore old → P old.now.trees rows)
 

@@ -17,7 +17,7 @@ use Rattle.zeb_register.specs.declared.registers.RegisterOf.{RegisterOf}
 use Rattle.zeb_register.specs.declared.registers.TermCount.{TermCount}
 use Rattle.zeb_register.specs.declared.registers.Totals.{Totals}
 use Rattle.zeb_register.specs.declared.registers.Work.{Work}
-use Rattle.zeb_register.specs.Answers.{TellsOr}
+use Rattle.zeb_register.specs.Answers.{LooksInto}
 use Rattle.zeb_register.specs.Formats.{Format}
 use Rattle.zeb_register.specs.Occurring.{Spot, capped, key_in, spot_cmp, term_cmp}
 use Rattle.zeb_register.specs.Units.{ListsUnits, counts_as, has_malformed, is_whole, reads_as}
@@ -119,29 +119,29 @@ module _ (format : Format) (trees : Trees) (db : ℤ) (index : ℕ) (register : 
   abbrev pub HidesSums : Type 0
   HidesSums = (term : List ℕ) × (HidesCount term ⊎ ((¬ counts_as format trees db (key_in index register term) 0) × has_malformed format trees db (key_in index register term)))
 
--- ---- a call that reads tells the terms, or is refused
+-- ---- a call that changes nothing tells the terms, or is refused
 
--- a call tells all terms of the register, or is refused, as damage only where a term's count can't be shown
+-- a call that changes nothing tells all terms of the register, or is refused as Damaged only where a term's count can't be shown
 abbrev pub TellsAll : Format → RegisterOf → State → State → Result (Vec TermCount Global) RegFault → Type 0
-TellsAll format at = TellsOr (λ trees. HidesSome format trees at.db.0 at.index at.register)
+TellsAll format at = LooksInto (λ trees. HidesSome format trees at.db.0 at.index at.register)
     (λ (trees : Trees) (list : Vec TermCount Global). ListsAll format trees at.db.0 at.index at.register list.items)
 
--- a call tells the first n terms that don't come before the start, or is refused, as damage only where a count can't be shown on the way to the
--- last of them
+-- a call that changes nothing tells the first n terms that don't come before the start, or is refused as Damaged only where a count can't be shown
+-- on the way to the last of them
 abbrev pub TellsFrom : Format → RegisterOf → (start : List ℕ) → ℕ → State → State → Result (Vec TermCount Global) RegFault → Type 0
-TellsFrom format at start n = TellsOr (λ trees. HidesFrom format trees at.db.0 at.index at.register start n)
+TellsFrom format at start n = LooksInto (λ trees. HidesFrom format trees at.db.0 at.index at.register start n)
     (λ (trees : Trees) (list : Vec TermCount Global). ListsFrom format trees at.db.0 at.index at.register start n list.items)
 
--- a call tells the last n terms that come before the start, or is refused, as damage only where a count can't be shown on the way to the first of
--- them
+-- a call that changes nothing tells the last n terms that come before the start, or is refused as Damaged only where a count can't be shown on the
+-- way to the first of them
 abbrev pub TellsBefore : Format → RegisterOf → (start : List ℕ) → ℕ → State → State → Result (Vec TermCount Global) RegFault → Type 0
-TellsBefore format at start n = TellsOr (λ trees. HidesBefore format trees at.db.0 at.index at.register start n)
+TellsBefore format at start n = LooksInto (λ trees. HidesBefore format trees at.db.0 at.index at.register start n)
     (λ (trees : Trees) (list : Vec TermCount Global). ListsBefore format trees at.db.0 at.index at.register start n list.items)
 
--- a call tells the totals of a register, or is refused, as damage only where a term's count can't be shown, or a row of a term that some record has
--- is malformed
+-- a call that changes nothing tells the totals of a register, or is refused as Damaged only where a term's count can't be shown, or a row of a term
+-- that some record has is malformed
 abbrev pub TellsTotals : Format → RegisterOf → State → State → Result Totals RegFault → Type 0
-TellsTotals format at = TellsOr (λ trees. HidesSums format trees at.db.0 at.index at.register) (λ trees totals. SumsUp format trees at.db.0 at.index at.register totals)
+TellsTotals format at = LooksInto (λ trees. HidesSums format trees at.db.0 at.index at.register) (λ trees totals. SumsUp format trees at.db.0 at.index at.register totals)
 
 -- each count that is read counts once, and each row of the lists of these terms
 abbrev pub WorksThrough : Format → (row_work : ℕ) → (rows : List Posting → ℕ) → RegisterOf → Trees → Work → Work → Type 0

@@ -11,7 +11,7 @@ use Rattle.zeb_keys.specs.declared.keys.Key.{Key}
 use Rattle.zeb_register.specs.declared.faults.RegFault.{RegFault}
 use Rattle.zeb_register.specs.declared.registers.Place.{Place}
 use Rattle.zeb_register.specs.declared.registers.RegisterOf.{RegisterOf}
-use Rattle.zeb_register.specs.Answers.{TellsOr}
+use Rattle.zeb_register.specs.Answers.{LooksInto}
 use Rattle.zeb_register.specs.Between.{IsBetween}
 use Rattle.zeb_register.specs.Content.{Content, HasRisingLists, IsStorable, places_in, posted, posting_cmp}
 use Rattle.zeb_register.specs.Formats.{Format, holds_in, packed_blocks, packed_leaves, plain_rows}
@@ -71,10 +71,10 @@ pub record ListsUnits (format : Format) (trees : Trees) (db : ℤ) (key : Key) (
   pub units : (sysno : ℕ) → reads_as format trees db key sysno (places_in sysno list)
   pub whole : is_whole format trees db key
 
--- a call that reads lists the units of the key, or is refused
+-- a call that changes nothing lists the units of the key, or is refused as Damaged only where one of the key's rows is malformed
 abbrev pub ListsKey : Format → ℤ → Key → State → State → Result (Vec Posting Global) RegFault → Type 0
 ListsKey format db key =
-    TellsOr (λ trees. has_malformed format trees db key) (λ (trees : Trees) (list : Vec Posting Global). ListsUnits format trees db key list.items)
+    LooksInto (λ trees. has_malformed format trees db key) (λ (trees : Trees) (list : Vec Posting Global). ListsUnits format trees db key list.items)
 
 -- ---- all units of neighbouring terms
 
@@ -89,10 +89,10 @@ abbrev pub HasMalformedBetween : Format → Trees → RegisterOf → (first last
 HasMalformedBetween format trees at first last =
     (term : List ℕ) × IsBetween first last term × has_malformed format trees at.db.0 (key_in at.index at.register term)
 
--- a call that reads lists the units of these terms, or is refused
+-- a call that changes nothing lists the units of these terms, or is refused as Damaged only where a row of one of them is malformed
 abbrev pub ListsTerms : Format → RegisterOf → (first last : List ℕ) → State → State → Result (Vec Posting Global) RegFault → Type 0
 ListsTerms format at first last =
-    TellsOr (λ trees. HasMalformedBetween format trees at first last) (λ (trees : Trees) (list : Vec Posting Global). ListsBetween format trees at first last list.items)
+    LooksInto (λ trees. HasMalformedBetween format trees at first last) (λ (trees : Trees) (list : Vec Posting Global). ListsBetween format trees at first last list.items)
 
 -- ---- what the tables hold as a whole
 

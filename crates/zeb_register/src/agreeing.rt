@@ -1,12 +1,11 @@
 //! Whole tables beside what is expected of them, one table after the other.
 
 ghost use Rattle.std.specs.Prelude.{◌≡◌, ◌↔◌, length, MatchOption, IfSome, IsTrue, IfOk};
-ghost use Rattle.sqlite.specs.State.{IsUnchanged};
 ghost use Rattle.std.specs.List.Sorted.{IsStrictlySortedBy};
 ghost use Rattle.zeb_register.specs.Agreeing.{AreBeside, HasNames, KeepsExpectedTexts, LacksPostingsAndDict, ListsAgree, RecordsAgree};
-ghost use Rattle.zeb_register.specs.Connections.{IsReasonedErrorOf, OnStoreOf, ReadingOf, TellsOf, TellsWhetherOf};
 ghost use Rattle.zeb_register.specs.Expected.{IsOrdered, name_order};
 ghost use Rattle.zeb_register.specs.PrivateRowExpected.{AreInOrder, AsExpected, EachAsExpected, HoldsExpected, IsInOrder, LacksPacked};
+ghost use Rattle.zeb_register.specs.Connections.{AsksOf, AsksWhetherOf};
 
 use crate::belonging::belongs;
 use crate::catalog::databases_in;
@@ -35,15 +34,12 @@ pub fn lists_beside<S: Alter>(
     conn: &mut Connection<S>,
     expected: &Expected,
 ) -> Result<Option<Vec<ListedDatabase>>, Error>
-    ensures call { ReadingOf S.Store conn.old conn.new result (λ _. IsUnchanged) }
-    ensures value { OnStoreOf S.Store conn.old conn.new
-        (λ trees. IsOrdered expected.now → IfOk result
-        (λ found. MatchOption found (¬ ListsAgree trees expected.now)
+    ensures asks { AsksOf S.Store conn.old conn.new result (λ trees found. IsOrdered expected.now
+        → MatchOption found (¬ ListsAgree trees expected.now)
         (λ listed. AreBeside listed.items expected.now.databases.items trees
-        × ListsAgree trees expected.now))) }
+        × ListsAgree trees expected.now)) }
     ensures long { IfOk result (λ found. IfSome found
         (λ listed. length listed.items ≡ length expected.now.databases.items)) }
-    ensures refused { IsReasonedErrorOf S.Store conn.old conn.new result }
 {
     if !texts_agree(conn, expected)? {
         return Ok(None);
@@ -57,15 +53,12 @@ fn records_beside<S: Alter>(
     conn: &mut Connection<S>,
     expected: &[ExpectedDatabase],
 ) -> Result<Option<Vec<ListedDatabase>>, Error>
-    ensures call { ReadingOf S.Store conn.old conn.new result (λ _. IsUnchanged) }
-    ensures value { OnStoreOf S.Store conn.old conn.new
-        (λ trees. IsStrictlySortedBy name_order expected.now → AreInOrder expected.now
-        → IfOk result (λ found. MatchOption found
-        (¬ (HasNames trees expected.now × RecordsAgree expected.now trees))
-        (λ listed. AreBeside listed.items expected.now trees × RecordsAgree expected.now trees))) }
+    ensures asks { AsksOf S.Store conn.old conn.new result
+        (λ trees found. IsStrictlySortedBy name_order expected.now → AreInOrder expected.now
+        → MatchOption found (¬ (HasNames trees expected.now × RecordsAgree expected.now trees))
+        (λ listed. AreBeside listed.items expected.now trees × RecordsAgree expected.now trees)) }
     ensures long { IfOk result (λ found. IfSome found
         (λ listed. length listed.items ≡ length expected.now)) }
-    ensures refused { IsReasonedErrorOf S.Store conn.old conn.new result }
 {
     let Some(listed) = databases_beside(alloc, conn, expected)? else {
         return Ok(None);
@@ -81,11 +74,9 @@ pub(crate) fn rows_agree<S: Alter>(
     expected: &[ExpectedDatabase],
 ) -> Result<bool, Error>
     requires { length listed.now ≡ length expected.now }
-    ensures call { ReadingOf S.Store conn.old conn.new result (λ _. IsUnchanged) }
-    ensures value { TellsWhetherOf S.Store conn.old conn.new
-        (λ trees. HoldsExpected Table.Postings listed.now expected.now trees × LacksPacked trees)
-        (AreInOrder expected.now) result }
-    ensures refused { IsReasonedErrorOf S.Store conn.old conn.new result }
+    ensures { AsksWhetherOf S.Store conn.old conn.new
+        (λ trees. HoldsExpected Table.Postings listed.now expected.now trees
+        × LacksPacked trees) (AreInOrder expected.now) result }
 {
     if !table_agrees(conn, Table::Postings, listed, expected)? {
         return Ok(false);
@@ -95,10 +86,8 @@ pub(crate) fn rows_agree<S: Alter>(
 
 /// Whether no packed table has a row.
 fn lacks_packed<S: Alter>(conn: &mut Connection<S>) -> Result<bool, Error>
-    ensures call { ReadingOf S.Store conn.old conn.new result (λ _. IsUnchanged) }
-    ensures value { TellsOf S.Store conn.old conn.new result
-        (λ trees agree. IsTrue agree ↔ LacksPacked trees) }
-    ensures refused { IsReasonedErrorOf S.Store conn.old conn.new result }
+    ensures { AsksOf S.Store conn.old conn.new result (λ trees agree. IsTrue agree
+        ↔ LacksPacked trees) }
 {
     if !belongs(conn, Table::Blocks, &[])? {
         return Ok(false);
@@ -108,10 +97,8 @@ fn lacks_packed<S: Alter>(conn: &mut Connection<S>) -> Result<bool, Error>
 
 /// Whether `postings` and `dict` have no row, as where registers are kept in leaves. It changes nothing.
 pub fn postings_and_dict_lack_rows<S: Alter>(conn: &mut Connection<S>) -> Result<bool, Error>
-    ensures call { ReadingOf S.Store conn.old conn.new result (λ _. IsUnchanged) }
-    ensures value { TellsOf S.Store conn.old conn.new result
-        (λ trees agree. IsTrue agree ↔ LacksPostingsAndDict trees) }
-    ensures refused { IsReasonedErrorOf S.Store conn.old conn.new result }
+    ensures { AsksOf S.Store conn.old conn.new result (λ trees agree. IsTrue agree
+        ↔ LacksPostingsAndDict trees) }
 {
     if !belongs(conn, Table::Postings, &[])? {
         return Ok(false);
@@ -121,10 +108,8 @@ pub fn postings_and_dict_lack_rows<S: Alter>(conn: &mut Connection<S>) -> Result
 
 /// Whether `meta` has just the expected texts.
 fn texts_agree<S: Alter>(conn: &mut Connection<S>, expected: &Expected) -> Result<bool, Error>
-    ensures call { ReadingOf S.Store conn.old conn.new result (λ _. IsUnchanged) }
-    ensures value { TellsOf S.Store conn.old conn.new result
-        (λ trees agree. IsTrue agree ↔ KeepsExpectedTexts trees expected.now) }
-    ensures refused { IsReasonedErrorOf S.Store conn.old conn.new result }
+    ensures { AsksOf S.Store conn.old conn.new result (λ trees agree. IsTrue agree
+        ↔ KeepsExpectedTexts trees expected.now) }
 {
     let rows = all_texts(conn)?;
     Ok(are_texts(&rows, expected))
@@ -136,14 +121,12 @@ fn databases_beside<S: Alter>(
     conn: &mut Connection<S>,
     expected: &[ExpectedDatabase],
 ) -> Result<Option<Vec<ListedDatabase>>, Error>
-    ensures call { ReadingOf S.Store conn.old conn.new result (λ _. IsUnchanged) }
-    ensures value { OnStoreOf S.Store conn.old conn.new
-        (λ trees. IsStrictlySortedBy name_order expected.now
-        → IfOk result (λ found. MatchOption found (¬ HasNames trees expected.now)
-        (λ listed. AreBeside listed.items expected.now trees))) }
+    ensures asks { AsksOf S.Store conn.old conn.new result
+        (λ trees found. IsStrictlySortedBy name_order expected.now
+        → MatchOption found (¬ HasNames trees expected.now)
+        (λ listed. AreBeside listed.items expected.now trees)) }
     ensures long { IfOk result (λ found. IfSome found
         (λ listed. length listed.items ≡ length expected.now)) }
-    ensures refused { IsReasonedErrorOf S.Store conn.old conn.new result }
 {
     let rows = listed_rows(conn)?;
     match databases_in(alloc, &rows) {
@@ -168,10 +151,8 @@ pub(crate) fn table_agrees<S: Alter>(
     expected: &[ExpectedDatabase],
 ) -> Result<bool, Error>
     requires { length listed.now ≡ length expected.now }
-    ensures call { ReadingOf S.Store conn.old conn.new result (λ _. IsUnchanged) }
-    ensures value { TellsWhetherOf S.Store conn.old conn.new
-        (HoldsExpected table listed.now expected.now) (AreInOrder expected.now) result }
-    ensures refused { IsReasonedErrorOf S.Store conn.old conn.new result }
+    ensures { AsksWhetherOf S.Store conn.old conn.new (HoldsExpected table listed.now expected.now)
+        (AreInOrder expected.now) result }
 {
     if !each_agrees(conn, table, listed, expected)? {
         return Ok(false);
@@ -187,10 +168,8 @@ fn each_agrees<S: Alter>(
     expected: &[ExpectedDatabase],
 ) -> Result<bool, Error>
     requires { length listed.now ≡ length expected.now }
-    ensures call { ReadingOf S.Store conn.old conn.new result (λ _. IsUnchanged) }
-    ensures value { TellsWhetherOf S.Store conn.old conn.new
-        (EachAsExpected table listed.now expected.now) (AreInOrder expected.now) result }
-    ensures refused { IsReasonedErrorOf S.Store conn.old conn.new result }
+    ensures { AsksWhetherOf S.Store conn.old conn.new (EachAsExpected table listed.now expected.now)
+        (AreInOrder expected.now) result }
 {
     // A closed connection is refused also where no database is expected.
     nothing_of(conn)?;
@@ -209,10 +188,8 @@ fn database_agrees<S: Alter>(
     db: DatabaseId,
     database: &ExpectedDatabase,
 ) -> Result<bool, Error>
-    ensures call { ReadingOf S.Store conn.old conn.new result (λ _. IsUnchanged) }
-    ensures value { TellsWhetherOf S.Store conn.old conn.new (AsExpected table db.0 database.now)
+    ensures { AsksWhetherOf S.Store conn.old conn.new (AsExpected table db.0 database.now)
         (IsInOrder database.now) result }
-    ensures refused { IsReasonedErrorOf S.Store conn.old conn.new result }
 {
     rests_agree(conn, table, db.column(), database)
 }

@@ -3,13 +3,12 @@
 
 ghost use Rattle.std.specs.Prelude.{◌≤ℤ◌, ◌≡◌, ◌↔◌, ◌∷◌, [], List, true, false, IsTrue, None, Some};
 ghost use Rattle.sqlite.specs.Order.{Row as Columns};
-ghost use Rattle.sqlite.specs.State.{IsUnchanged};
 ghost use Rattle.sqlite.specs.declared.types.Value.TheVariants.{Int};
 ghost use Rattle.zeb_register.specs.Agreeing.{AreEnds, IsLeastFrom, IsListedId, Owns};
-ghost use Rattle.zeb_register.specs.Connections.{IsReasonedErrorOf, ReadingOf, TellsOf};
 ghost use Rattle.zeb_register.specs.PrivateRowExpected.{BelongsTo, tree_of};
 ghost use Rattle.zeb_register.specs.PrivateRowReads.{IsFirst};
 ghost use Rattle.zeb_register.specs.Store.{blocks_tree};
+ghost use Rattle.zeb_register.specs.Connections.{AsksOf};
 
 use crate::ListedDatabase;
 use crate::agreeing::Table;
@@ -30,10 +29,8 @@ pub(crate) fn belongs<S: Alter>(
     table: Table,
     listed: &[ListedDatabase],
 ) -> Result<bool, Error>
-    ensures call { ReadingOf S.Store conn.old conn.new result (λ _. IsUnchanged) }
-    ensures value { TellsOf S.Store conn.old conn.new result
-        (λ trees agree. IsTrue agree ↔ BelongsTo (tree_of table) listed.now trees) }
-    ensures refused { IsReasonedErrorOf S.Store conn.old conn.new result }
+    ensures { AsksOf S.Store conn.old conn.new result (λ trees agree. IsTrue agree
+        ↔ BelongsTo (tree_of table) listed.now trees) }
 {
     let Some(ends) = ends_of(conn, table)? else {
         return Ok(true);
@@ -57,9 +54,7 @@ pub(crate) fn belongs<S: Alter>(
 
 /// The least and the greatest id, or none where the table has no row.
 fn ends_of<S: Alter>(conn: &mut Connection<S>, table: Table) -> Result<Option<Ends>, Error>
-    ensures call { ReadingOf S.Store conn.old conn.new result (λ _. IsUnchanged) }
-    ensures value { TellsOf S.Store conn.old conn.new result (AreEnds (tree_of table)) }
-    ensures refused { IsReasonedErrorOf S.Store conn.old conn.new result }
+    ensures { AsksOf S.Store conn.old conn.new result (AreEnds (tree_of table)) }
 {
     let Some(first) = least_id(conn, table)? else {
         return Ok(None);
@@ -72,10 +67,8 @@ fn ends_of<S: Alter>(conn: &mut Connection<S>, table: Table) -> Result<Option<En
 
 /// The least id, or none where the table has no row.
 fn least_id<S: Alter>(conn: &mut Connection<S>, table: Table) -> Result<Option<i64>, Error>
-    ensures call { ReadingOf S.Store conn.old conn.new result (λ _. IsUnchanged) }
-    ensures value { TellsOf S.Store conn.old conn.new result
-        (λ trees. IsFirst (λ id other. id ≤ℤ other) (Owns (tree_of table) trees)) }
-    ensures refused { IsReasonedErrorOf S.Store conn.old conn.new result }
+    ensures { AsksOf S.Store conn.old conn.new result (λ trees. IsFirst
+        (λ id other. id ≤ℤ other) (Owns (tree_of table) trees)) }
 {
     let rows = least_rows(conn, table)?;
     Ok(id_of(&rows))
@@ -83,10 +76,8 @@ fn least_id<S: Alter>(conn: &mut Connection<S>, table: Table) -> Result<Option<i
 
 /// The greatest id, or none where the table has no row.
 fn greatest_id<S: Alter>(conn: &mut Connection<S>, table: Table) -> Result<Option<i64>, Error>
-    ensures call { ReadingOf S.Store conn.old conn.new result (λ _. IsUnchanged) }
-    ensures value { TellsOf S.Store conn.old conn.new result
-        (λ trees. IsFirst (λ id other. other ≤ℤ id) (Owns (tree_of table) trees)) }
-    ensures refused { IsReasonedErrorOf S.Store conn.old conn.new result }
+    ensures { AsksOf S.Store conn.old conn.new result (λ trees. IsFirst
+        (λ id other. other ≤ℤ id) (Owns (tree_of table) trees)) }
 {
     let rows = greatest_rows(conn, table)?;
     Ok(id_of(&rows))
@@ -98,10 +89,8 @@ fn next_id<S: Alter>(
     table: Table,
     start: i64,
 ) -> Result<Option<i64>, Error>
-    ensures call { ReadingOf S.Store conn.old conn.new result (λ _. IsUnchanged) }
-    ensures value { TellsOf S.Store conn.old conn.new result
+    ensures { AsksOf S.Store conn.old conn.new result
         (λ trees. IsLeastFrom (Owns (tree_of table) trees) start) }
-    ensures refused { IsReasonedErrorOf S.Store conn.old conn.new result }
 {
     let rows = next_rows(conn, table, start)?;
     Ok(id_of(&rows))
@@ -109,19 +98,15 @@ fn next_id<S: Alter>(
 
 /// The least and the greatest id of a database with which a row of `blocks` begins, or none where it has no row. It changes nothing.
 pub fn ends_in_blocks<S: Alter>(conn: &mut Connection<S>) -> Result<Option<Ends>, Error>
-    ensures call { ReadingOf S.Store conn.old conn.new result (λ _. IsUnchanged) }
-    ensures value { TellsOf S.Store conn.old conn.new result (AreEnds blocks_tree) }
-    ensures refused { IsReasonedErrorOf S.Store conn.old conn.new result }
+    ensures { AsksOf S.Store conn.old conn.new result (AreEnds blocks_tree) }
 {
     ends_of(conn, Table::Blocks)
 }
 
 /// The least id of a database from a start on with which a row of `blocks` begins, if one does. It changes nothing.
 pub fn next_in_blocks<S: Alter>(conn: &mut Connection<S>, start: i64) -> Result<Option<i64>, Error>
-    ensures call { ReadingOf S.Store conn.old conn.new result (λ _. IsUnchanged) }
-    ensures value { TellsOf S.Store conn.old conn.new result
+    ensures { AsksOf S.Store conn.old conn.new result
         (λ trees. IsLeastFrom (Owns blocks_tree trees) start) }
-    ensures refused { IsReasonedErrorOf S.Store conn.old conn.new result }
 {
     next_id(conn, Table::Blocks, start)
 }

@@ -2,14 +2,13 @@
 //! front of those that are left.
 
 ghost use Rattle.std.specs.Prelude.{◌≡◌, ◌≢◌, ◌<◌, ◌≤◌, ◌++◌, ℕ, pos, List, true, false, length, drop, map, IfSome, MatchOption};
-ghost use Rattle.sqlite.specs.State.{IsUnchanged};
 ghost use Rattle.sqlite.specs.declared.types.Value.TheVariants.{Int};
 ghost use Rattle.sqlite.specs.Order.{column};
 ghost use Rattle.zeb_blocks.specs.Blocks.{BlockSpells};
-ghost use Rattle.zeb_register.specs.Connections.{IsReasonedErrorOf, ReadingOf, TellsWhetherOf};
 ghost use Rattle.zeb_register.specs.Expected.{AreExpected, IsOrdered};
 ghost use Rattle.zeb_register.specs.Formats.{packed_blocks};
 ghost use Rattle.zeb_register.specs.PrivateRowExpected.{AreInOrder, HoldsExpected, HoldsKeysAlone, IsBlockBefore, with_key};
+ghost use Rattle.zeb_register.specs.Connections.{AsksWhetherOf};
 
 use crate::agreeing::{Table, lists_beside, table_agrees};
 use crate::belonging::belongs;
@@ -27,10 +26,8 @@ pub fn blocks_agree<S: Alter>(
     conn: &mut Connection<S>,
     expected: &Expected,
 ) -> Result<bool, Error>
-    ensures call { ReadingOf S.Store conn.old conn.new result (λ _. IsUnchanged) }
-    ensures value { TellsWhetherOf S.Store conn.old conn.new
+    ensures { AsksWhetherOf S.Store conn.old conn.new
         (λ trees. AreExpected packed_blocks trees expected.now) (IsOrdered expected.now) result }
-    ensures refused { IsReasonedErrorOf S.Store conn.old conn.new result }
 {
     let Some(listed) = lists_beside(alloc, conn, expected)? else {
         return Ok(false);
@@ -45,11 +42,9 @@ fn packed_agree<S: Alter>(
     expected: &[ExpectedDatabase],
 ) -> Result<bool, Error>
     requires { length listed.now ≡ length expected.now }
-    ensures call { ReadingOf S.Store conn.old conn.new result (λ _. IsUnchanged) }
-    ensures value { TellsWhetherOf S.Store conn.old conn.new
+    ensures { AsksWhetherOf S.Store conn.old conn.new
         (λ trees. HoldsExpected Table.Blocks listed.now expected.now trees
         × HoldsKeysAlone listed.now expected.now trees) (AreInOrder expected.now) result }
-    ensures refused { IsReasonedErrorOf S.Store conn.old conn.new result }
 {
     if !table_agrees(conn, Table::Blocks, listed, expected)? {
         return Ok(false);
@@ -64,10 +59,8 @@ fn keys_alone<S: Alter>(
     expected: &[ExpectedDatabase],
 ) -> Result<bool, Error>
     requires { length listed.now ≡ length expected.now }
-    ensures call { ReadingOf S.Store conn.old conn.new result (λ _. IsUnchanged) }
-    ensures value { TellsWhetherOf S.Store conn.old conn.new
-        (HoldsKeysAlone listed.now expected.now) (AreInOrder expected.now) result }
-    ensures refused { IsReasonedErrorOf S.Store conn.old conn.new result }
+    ensures { AsksWhetherOf S.Store conn.old conn.new (HoldsKeysAlone listed.now expected.now)
+        (AreInOrder expected.now) result }
 {
     if !table_agrees(conn, Table::Dict, listed, expected)? {
         return Ok(false);

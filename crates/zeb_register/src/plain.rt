@@ -1,15 +1,14 @@
 //! Registers with one row for each posting.
 
 ghost use Rattle.std.specs.Prelude.{◌≡◌, map, IfOk, IfErr};
-ghost use Rattle.sqlite.specs.State.{IsUnchanged};
-ghost use Rattle.zeb_register.specs.Answers.{Answers, IfDamaged, IfRowDamaged};
-ghost use Rattle.zeb_register.specs.Connections.{IsReasonedOf, OnStoreOf, ReadingOf};
+ghost use Rattle.zeb_register.specs.Answers.{Answers, IfRowDamaged};
 ghost use Rattle.zeb_register.specs.Formats.{plain_rows};
 ghost use Rattle.zeb_register.specs.Occurring.{key_in};
 ghost use Rattle.zeb_register.specs.PlainRows.{posting_row};
 ghost use Rattle.zeb_register.specs.PlainUnits.{HasShownNone, ShowsNone};
 ghost use Rattle.zeb_register.specs.PrivateRowPlaces.{first_three, SomeShowsNone};
 ghost use Rattle.zeb_register.specs.Units.{ListsUnits};
+ghost use Rattle.zeb_register.specs.Connections.{LooksIntoOf};
 
 use crate::agreeing::{lists_beside, rows_agree};
 use crate::dropping::database_drop_whole;
@@ -150,13 +149,10 @@ pub(crate) fn postings_under<S: Alter>(
     at: RegisterOf,
     term: &str,
 ) -> Result<Vec<Posting>, RegFault>
-    ensures call { ReadingOf S.Store conn.old conn.new result (λ _. IsUnchanged) }
-    ensures lists { OnStoreOf S.Store conn.old conn.new
-        (λ trees. Answers (IfDamaged
-        (HasShownNone trees at.db.0 (key_in at.index at.register term.now)))
-        (λ list. ListsUnits plain_rows trees at.db.0 (key_in at.index at.register term.now)
-        list.items) result) }
-    ensures refused { IsReasonedOf S.Store conn.old conn.new result }
+    ensures { LooksIntoOf S.Store conn.old conn.new result
+        (λ trees. HasShownNone trees at.db.0 (key_in at.index at.register term.now))
+        (λ trees list. ListsUnits plain_rows trees at.db.0 (key_in at.index at.register term.now)
+        list.items) }
 {
     let rows = posting_rows(conn, at, term)?;
     Ok(postings_of(alloc, &rows)?)

@@ -1,14 +1,13 @@
 //! The postings of neighbouring terms, by a row for each.
 
 ghost use Rattle.std.specs.Prelude.{◌≡◌, map, IfOk, IfErr};
-ghost use Rattle.sqlite.specs.State.{IsUnchanged};
-ghost use Rattle.zeb_register.specs.Answers.{Answers, IfDamaged, IfRowDamaged};
-ghost use Rattle.zeb_register.specs.Connections.{IsReasonedOf, OnStoreOf, ReadingOf};
+ghost use Rattle.zeb_register.specs.Answers.{Answers, IfRowDamaged};
 ghost use Rattle.zeb_register.specs.Formats.{plain_rows};
 ghost use Rattle.zeb_register.specs.PlainRows.{posting_row};
 ghost use Rattle.zeb_register.specs.PlainUnits.{ShowsNone};
 ghost use Rattle.zeb_register.specs.PrivateBetweenRows.{SomeShowsNoneBehind, three_behind};
 ghost use Rattle.zeb_register.specs.Units.{HasMalformedBetween, ListsBetween};
+ghost use Rattle.zeb_register.specs.Connections.{LooksIntoOf};
 
 use crate::registers::RegisterOf;
 use crate::statements::between::posting_rows_between;
@@ -27,11 +26,9 @@ pub(crate) fn postings_between<S: Alter>(
     first: &str,
     last: &str,
 ) -> Result<Vec<Posting>, RegFault>
-    ensures call { ReadingOf S.Store conn.old conn.new result (λ _. IsUnchanged) }
-    ensures lists { OnStoreOf S.Store conn.old conn.new
-        (λ trees. Answers (IfDamaged (HasMalformedBetween plain_rows trees at first.now last.now))
-        (λ list. ListsBetween plain_rows trees at first.now last.now list.items) result) }
-    ensures refused { IsReasonedOf S.Store conn.old conn.new result }
+    ensures { LooksIntoOf S.Store conn.old conn.new result
+        (λ trees. HasMalformedBetween plain_rows trees at first.now last.now)
+        (λ trees list. ListsBetween plain_rows trees at first.now last.now list.items) }
 {
     let end = text_above(alloc, last)?;
     let rows = posting_rows_between(conn, at, first, end.as_str())?;

@@ -3,12 +3,11 @@
 ghost use Rattle.std.specs.Prelude.{◌≡◌, ◌↔◌, ◌*◌, ℕ, ℤ, List, [], length, IfOk, OnOk};
 ghost use Rattle.std.specs.List.{AllByRecursion};
 ghost use Rattle.sqlite.specs.Held.{state};
-ghost use Rattle.sqlite.specs.State.{IsUnchanged};
 ghost use Rattle.sqlite_rules.specs.Lists.{Has};
 ghost use Rattle.zeb_register.specs.Calls.{GoesOn};
 ghost use Rattle.zeb_register.specs.Clauses.{TellsHeld};
 ghost use Rattle.sqlite.specs.Tree.{Trees};
-ghost use Rattle.zeb_register.specs.Connections.{InStoreOf, InsideOf, IsReasonedErrorOf, ReadingOf, TellsOf, TellsWhetherOf};
+ghost use Rattle.zeb_register.specs.Connections.{AsksWhetherOf, InStoreOf, InsideOf, TellsOf};
 ghost use Rattle.zeb_register.specs.Content.{AreChangedAt, Content, HasRisingLists, IsChangedAt, IsStorable, IsWithout, OldsRise};
 ghost use Rattle.zeb_register.specs.Formats.{Format, holds_in, version_of};
 ghost use Rattle.zeb_register.specs.Sound.{keeps_malformed};
@@ -89,7 +88,7 @@ pub struct Work {
 /// A way to keep the registers of all databases in tables.
 ///
 /// What the registers hold is, for each database and each key, a rising list of postings. The system numbers of records are 1 to
-/// 999,999,999.
+/// 999,999,999. Calls that read change nothing.
 pub trait Layout {
     ghost use Rattle.std.specs.Prelude.{List, ◌∷◌, ℕ, sum_by};
     ghost use Rattle.sqlite.specs.Tree.{Trees};
@@ -214,7 +213,6 @@ pub trait Layout {
         db: DatabaseId,
         key: &Key,
     ) -> Result<Vec<Posting>, RegFault>
-        ensures call { ReadingOf S.Store conn.old conn.new result (λ _. IsUnchanged) }
         ensures units { ListsKey format db.0 key.now (state S.Store conn.old)
             (state S.Store conn.new) result }
         ensures work { TellsOf S.Store conn.old conn.new result
@@ -231,7 +229,6 @@ pub trait Layout {
         first: &str,
         last: &str,
     ) -> Result<Vec<Posting>, RegFault>
-        ensures call { ReadingOf S.Store conn.old conn.new result (λ _. IsUnchanged) }
         ensures units { ListsTerms format at first.now last.now (state S.Store conn.old)
             (state S.Store conn.new) result }
         ensures work { TellsHeld (holds_in format) (state S.Store conn.old) (state S.Store conn.new)
@@ -249,7 +246,6 @@ pub trait Layout {
         work: &mut Work,
         at: RegisterOf,
     ) -> Result<Vec<TermCount>, RegFault>
-        ensures call { ReadingOf S.Store conn.old conn.new result (λ _. IsUnchanged) }
         ensures units { TellsAll format at (state S.Store conn.old)
             (state S.Store conn.new) result }
         ensures work { IfOk result (λ list. Works (row_work * length list.items) 0 0 0 work.old
@@ -265,7 +261,6 @@ pub trait Layout {
         start: &str,
         n: u64,
     ) -> Result<Vec<TermCount>, RegFault>
-        ensures call { ReadingOf S.Store conn.old conn.new result (λ _. IsUnchanged) }
         ensures units { TellsFrom format at start.now n (state S.Store conn.old)
             (state S.Store conn.new) result }
         ensures work { IfOk result (λ list. Works (row_work * length list.items) 0 0 0 work.old
@@ -281,7 +276,6 @@ pub trait Layout {
         start: &str,
         n: u64,
     ) -> Result<Vec<TermCount>, RegFault>
-        ensures call { ReadingOf S.Store conn.old conn.new result (λ _. IsUnchanged) }
         ensures units { TellsBefore format at start.now n (state S.Store conn.old)
             (state S.Store conn.new) result }
         ensures work { IfOk result (λ list. Works (row_work * length list.items) 0 0 0 work.old
@@ -297,7 +291,6 @@ pub trait Layout {
         work: &mut Work,
         at: RegisterOf,
     ) -> Result<Totals, RegFault>
-        ensures call { ReadingOf S.Store conn.old conn.new result (λ _. IsUnchanged) }
         ensures units { TellsTotals format at (state S.Store conn.old) (state S.Store conn.new)
             result }
         ensures work { TellsOf S.Store conn.old conn.new result
@@ -310,10 +303,8 @@ pub trait Layout {
         conn: &mut Connection<S>,
         expected: &Expected,
     ) -> Result<bool, Error>
-        ensures call { ReadingOf S.Store conn.old conn.new result (λ _. IsUnchanged) }
-        ensures value { TellsWhetherOf S.Store conn.old conn.new
-            (λ trees. AreExpected format trees expected.now) (IsOrdered expected.now) result }
-        ensures refused { IsReasonedErrorOf S.Store conn.old conn.new result };
+        ensures { AsksWhetherOf S.Store conn.old conn.new
+            (λ trees. AreExpected format trees expected.now) (IsOrdered expected.now) result };
 }
 
 /// A content is told by its postings. It can be changed at one key of one record, and a database can be taken from it, each in one way.

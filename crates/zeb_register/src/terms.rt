@@ -2,16 +2,15 @@
 
 ghost use Rattle.std.specs.Prelude.{ℕ, List, ◌≡◌, ◌↔◌, ◌<◌, ◌+◌, ◌^◌, ◌++◌, [], ◌∷◌, IfOk, OnOk, string_bytes};
 ghost use Rattle.std.specs.List.Sorted.{IsStrictlySortedBy};
-ghost use Rattle.sqlite.specs.State.{IsUnchanged};
 ghost use Rattle.sqlite.specs.Order.{row_cmp};
 ghost use Rattle.sqlite_rules.specs.Lists.{Has};
 ghost use Rattle.zeb_register.specs.Occurring.{AreCounts, key_in};
 ghost use Rattle.zeb_register.specs.PlainUnits.{HasShownNone, RowsCount};
 ghost use Rattle.zeb_register.specs.PrivateNearest.{AreNearest, FindsCount, HasOn, HideNearest, HidesNext, IsNearer, IsOn};
 ghost use Rattle.zeb_register.specs.PrivateRowTerms.{IsShown, ShowsOccurrence, IsOccurrenceRow, SomeIsNoOccurrence, ShowsTerm, IsTermRow};
-ghost use Rattle.zeb_register.specs.Answers.{Answers, IfDamaged, IfRowDamaged};
-ghost use Rattle.zeb_register.specs.Connections.{IsReasonedErrorOf, IsReasonedOf, OnStoreOf, ReadingOf};
-ghost use Rattle.zeb_register.specs.PrivateRowTerms.{FindsNearest, HidesText, IsCountedIn, ReadsRows, ShowsNearest};
+ghost use Rattle.zeb_register.specs.Answers.{Answers, IfRowDamaged};
+ghost use Rattle.zeb_register.specs.PrivateRowTerms.{FindsNearest, HidesText, IsCountedIn, ShowsNearest};
+ghost use Rattle.zeb_register.specs.Connections.{AsksOf, LooksIntoOf};
 
 use crate::plain::postings_under;
 use crate::registers::{RegisterOf, TermCount};
@@ -92,14 +91,10 @@ fn term_count<S: Alter>(
     at: RegisterOf,
     term: String,
 ) -> Result<TermCount, RegFault>
-    ensures call { ReadingOf S.Store conn.old conn.new result (λ _. IsUnchanged) }
-    ensures counts { OnStoreOf S.Store conn.old conn.new
-        (λ trees. Answers (IfDamaged
-        (HasShownNone trees at.db.0 (key_in at.index at.register (string_bytes term))))
-        (λ t. (t.term ≡ string_bytes term)
-        × RowsCount trees at.db.0 (key_in at.index at.register (string_bytes term)) t.records)
-        result) }
-    ensures refused { IsReasonedOf S.Store conn.old conn.new result }
+    ensures { LooksIntoOf S.Store conn.old conn.new result
+        (λ trees. HasShownNone trees at.db.0 (key_in at.index at.register (string_bytes term)))
+        (λ trees t. (t.term ≡ string_bytes term) × RowsCount trees at.db.0 (key_in at.index
+        at.register (string_bytes term)) t.records) }
 {
     let list = postings_under(alloc, conn, at, term.as_str())?;
     let records = records_in(&list);
@@ -137,11 +132,9 @@ fn term_on<S: Alter>(
     way: Way,
     text: &str,
 ) -> Result<Option<String>, RegFault>
-    ensures call { ReadingOf S.Store conn.old conn.new result (λ _. IsUnchanged) }
-    ensures finds { OnStoreOf S.Store conn.old conn.new
-        (λ trees. Answers (IfDamaged (HidesText (HasOn at way text.now trees) (IsNearer way)))
-        (FindsNearest (HasOn at way text.now trees) (IsNearer way)) result) }
-    ensures refused { IsReasonedOf S.Store conn.old conn.new result }
+    ensures { LooksIntoOf S.Store conn.old conn.new result
+        (λ trees. HidesText (HasOn at way text.now trees) (IsNearer way))
+        (λ trees. FindsNearest (HasOn at way text.now trees) (IsNearer way)) }
 {
     let rows = nearest_rows(conn, at, way, text)?;
     Ok(term_of(&rows)?)
@@ -154,10 +147,8 @@ fn nearest_rows<S: Alter>(
     way: Way,
     text: &str,
 ) -> Result<Vec<Row>, Error>
-    ensures call { ReadingOf S.Store conn.old conn.new result
-        (λ rows a b. ReadsRows (λ trees. ShowsNearest (HasOn at way text.now trees)
-        (IsNearer way)) a b rows.items) }
-    ensures err { IsReasonedErrorOf S.Store conn.old conn.new result }
+    ensures { AsksOf S.Store conn.old conn.new result
+        (λ trees rows. ShowsNearest (HasOn at way text.now trees) (IsNearer way) rows.items) }
 {
     match way {
         Way::Up => rows_from(conn, at, text),
@@ -173,11 +164,8 @@ fn count_on<S: Alter>(
     way: Way,
     text: &str,
 ) -> Result<Option<TermCount>, RegFault>
-    ensures call { ReadingOf S.Store conn.old conn.new result (λ _. IsUnchanged) }
-    ensures finds { OnStoreOf S.Store conn.old conn.new
-        (λ trees. Answers (IfDamaged (HidesNext at way text.now trees))
-        (FindsCount at way text.now trees) result) }
-    ensures refused { IsReasonedOf S.Store conn.old conn.new result }
+    ensures { LooksIntoOf S.Store conn.old conn.new result (HidesNext at way text.now)
+        (FindsCount at way text.now) }
 {
     let Some(term) = term_on(conn, at, way, text)? else {
         return Ok(None);
@@ -205,11 +193,9 @@ pub(crate) fn nearest_terms<S: Alter>(
     start: &str,
     n: u64,
 ) -> Result<Vec<TermCount>, RegFault>
-    ensures call { ReadingOf S.Store conn.old conn.new result (λ _. IsUnchanged) }
-    ensures lists { OnStoreOf S.Store conn.old conn.new
-        (λ trees. Answers (IfDamaged (HideNearest at way start.now trees n))
-        (λ list. AreNearest at way start.now trees n list.items) result) }
-    ensures refused { IsReasonedOf S.Store conn.old conn.new result }
+    ensures { LooksIntoOf S.Store conn.old conn.new result
+        (λ trees. HideNearest at way start.now trees n)
+        (λ trees list. AreNearest at way start.now trees n list.items) }
 {
     let mut counts = Vec::new(alloc);
     let mut text = String::from_str(alloc, start)?;

@@ -54,7 +54,7 @@ pub use Rattle.zeb_query.specs.declared.plans.PairPlan.{PairPlan}
 pub use Rattle.zeb_query.specs.declared.plans.Relation.{Relation}
 pub use Rattle.zeb_query.specs.declared.plans.Separation.{Separation}
 pub use Rattle.zeb_query.specs.declared.values.Subject.TheVariants.{Entries, Record}
-pub use Rattle.zeb_register.proofs.Answered.{or_reasoned, told_held}
+pub use Rattle.zeb_register.proofs.Answered.{looks_tell, or_reasoned, told_held}
 pub use Rattle.zeb_register.proofs.Calls.{nothing_still, nothing_then, store_same}
 pub use Rattle.zeb_register.proofs.CallsInTurn.{quiet_still, quiet_then}
 pub use Rattle.zeb_register.proofs.Causes.{may_after}

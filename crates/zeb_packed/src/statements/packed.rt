@@ -5,8 +5,8 @@ ghost use Rattle.sqlite.specs.declared.types.Value.TheVariants.{Text};
 ghost use Rattle.zeb_register.specs.Store.{blocks_tree, dict_tree, IsRest};
 ghost use Rattle.zeb_register.specs.PrivateKeyColumns.{register_columns};
 ghost use Rattle.zeb_packed.specs.PrivatePackedRows.{IsRestBefore, IsRestFrom, ListsFirst, ListsLast};
-ghost use Rattle.zeb_register.specs.Connections.{IsReasonedErrorOf, ReadingOf};
-ghost use Rattle.zeb_register.specs.PrivateRowStatements.{Lists};
+ghost use Rattle.zeb_register.specs.Connections.{AsksOf};
+ghost use Rattle.zeb_register.specs.Sql.{IsListOf};
 
 use sqlite::{Alter, Connection, Error, Row, params};
 use zeb_register::RegisterOf;
@@ -22,9 +22,9 @@ pub(crate) fn block_rows<S: Alter>(
     at: RegisterOf,
     term: &str,
 ) -> Result<Vec<Row>, Error>
-    ensures call { ReadingOf S.Store conn.old conn.new result (λ rows a b. Lists
-        (IsRest blocks_tree (register_columns at ++ Text term.now ∷ [])) a b rows.items) }
-    ensures err { IsReasonedErrorOf S.Store conn.old conn.new result }
+    ensures { AsksOf S.Store conn.old conn.new result
+        (λ trees rows. IsListOf (IsRest blocks_tree (register_columns at ++ Text term.now ∷ [])
+        trees) rows.items) }
 {
     let db = at.db.column();
     let reg = u32::from(at.register.code());
@@ -40,9 +40,8 @@ pub(crate) fn dict_rows<S: Alter>(
     conn: &mut Connection<S>,
     at: RegisterOf,
 ) -> Result<Vec<Row>, Error>
-    ensures call { ReadingOf S.Store conn.old conn.new result (λ rows a b. Lists
-        (IsRest dict_tree (register_columns at)) a b rows.items) }
-    ensures err { IsReasonedErrorOf S.Store conn.old conn.new result }
+    ensures { AsksOf S.Store conn.old conn.new result
+        (λ trees rows. IsListOf (IsRest dict_tree (register_columns at) trees) rows.items) }
 {
     let db = at.db.column();
     let reg = u32::from(at.register.code());
@@ -60,9 +59,8 @@ pub(crate) fn dict_rows_from<S: Alter>(
     start: &str,
     limit: i64,
 ) -> Result<Vec<Row>, Error>
-    ensures call { ReadingOf S.Store conn.old conn.new result (λ rows a b. ListsFirst limit
-        (IsRestFrom dict_tree (register_columns at) start.now) a b rows.items) }
-    ensures err { IsReasonedErrorOf S.Store conn.old conn.new result }
+    ensures { AsksOf S.Store conn.old conn.new result (λ trees rows. ListsFirst limit
+        (IsRestFrom dict_tree (register_columns at) start.now trees) rows.items) }
 {
     let db = at.db.column();
     let reg = u32::from(at.register.code());
@@ -77,9 +75,8 @@ pub(crate) fn dict_rows_before<S: Alter>(
     start: &str,
     limit: i64,
 ) -> Result<Vec<Row>, Error>
-    ensures call { ReadingOf S.Store conn.old conn.new result (λ rows a b. ListsLast limit
-        (IsRestBefore dict_tree (register_columns at) start.now) a b rows.items) }
-    ensures err { IsReasonedErrorOf S.Store conn.old conn.new result }
+    ensures { AsksOf S.Store conn.old conn.new result (λ trees rows. ListsLast limit
+        (IsRestBefore dict_tree (register_columns at) start.now trees) rows.items) }
 {
     let db = at.db.column();
     let reg = u32::from(at.register.code());

@@ -1,10 +1,10 @@
 //! Statements that read the rows of a register's terms from one text to another.
 
 ghost use Rattle.zeb_register.specs.PrivateBetweenRows.{IsRestBetween};
-ghost use Rattle.zeb_register.specs.Connections.{IsReasonedErrorOf, ReadingOf};
 ghost use Rattle.zeb_register.specs.PrivateKeyColumns.{register_columns};
-ghost use Rattle.zeb_register.specs.PrivateRowStatements.{Lists};
 ghost use Rattle.zeb_register.specs.Store.{postings_tree};
+ghost use Rattle.zeb_register.specs.Connections.{AsksOf};
+ghost use Rattle.zeb_register.specs.Sql.{IsListOf};
 
 use crate::RegisterOf;
 use crate::statements::queries::look_up;
@@ -20,10 +20,9 @@ pub(crate) fn posting_rows_between<S: Alter>(
     first: &str,
     end: &str,
 ) -> Result<Vec<Row>, Error>
-    ensures call { ReadingOf S.Store conn.old conn.new result
-        (λ rows a b. Lists (IsRestBetween postings_tree (register_columns at) first.now end.now) a b
-        rows.items) }
-    ensures err { IsReasonedErrorOf S.Store conn.old conn.new result }
+    ensures { AsksOf S.Store conn.old conn.new result
+        (λ trees rows. IsListOf (IsRestBetween postings_tree (register_columns at) first.now end.now
+        trees) rows.items) }
 {
     let db = at.db.column();
     let reg = u32::from(at.register.code());

@@ -1,9 +1,10 @@
 //! Statements on the table `databases`.
 
 ghost use Rattle.zeb_register.specs.Store.{databases_tree};
-ghost use Rattle.zeb_register.specs.PrivateRowStatements.{AddsDatabase, SetsLast, IsDatabaseRow, IsListedRow, Lists, ListsInside};
+ghost use Rattle.zeb_register.specs.PrivateRowStatements.{AddsDatabase, SetsLast, IsDatabaseRow, IsListedRow, ListsInside};
 ghost use Rattle.zeb_register.specs.Calls.{Alters};
-ghost use Rattle.zeb_register.specs.Connections.{InsideOf, IsReasonedErrorInsideOf, IsReasonedErrorOf, ReadingOf, WritesOf};
+ghost use Rattle.zeb_register.specs.Connections.{AsksOf, InsideOf, IsReasonedErrorInsideOf, WritesOf};
+ghost use Rattle.zeb_register.specs.Sql.{IsListOf};
 
 use crate::statements::queries::look_up;
 use crate::statements::writing::write;
@@ -21,9 +22,8 @@ pub(crate) fn database_rows<S: Alter>(
     conn: &mut Connection<S>,
     name: &str,
 ) -> Result<Vec<Row>, Error>
-    ensures call { ReadingOf S.Store conn.old conn.new result
-        (λ rows a b. Lists (λ trees. IsDatabaseRow trees name.now) a b rows.items) }
-    ensures err { IsReasonedErrorOf S.Store conn.old conn.new result }
+    ensures { AsksOf S.Store conn.old conn.new result
+        (λ trees rows. IsListOf (IsDatabaseRow trees name.now) rows.items) }
 {
     look_up(conn, BY_NAME, params![name])
 }
@@ -40,9 +40,8 @@ pub(crate) fn database_rows_inside<S: Alter>(
 
 /// All databases, rising by the bytes of their names: the name, the id and the last number of each.
 pub(crate) fn listed_rows<S: Alter>(conn: &mut Connection<S>) -> Result<Vec<Row>, Error>
-    ensures call { ReadingOf S.Store conn.old conn.new result
-        (λ rows a b. Lists IsListedRow a b rows.items) }
-    ensures err { IsReasonedErrorOf S.Store conn.old conn.new result }
+    ensures { AsksOf S.Store conn.old conn.new result
+        (λ trees rows. IsListOf (IsListedRow trees) rows.items) }
 {
     look_up(conn, LISTED, &[])
 }

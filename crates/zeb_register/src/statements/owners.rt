@@ -2,10 +2,9 @@
 
 ghost use Rattle.std.specs.Prelude.{◌≡◌, ◌≤ℤ◌};
 ghost use Rattle.zeb_register.specs.Agreeing.{Owns};
-ghost use Rattle.zeb_register.specs.Connections.{IsReasonedErrorOf, ReadingOf};
 ghost use Rattle.zeb_register.specs.PrivateRowExpected.{tree_of};
 ghost use Rattle.zeb_register.specs.PrivateRowReads.{ShowsFirst, greatest_text, least_text, next_text};
-ghost use Rattle.zeb_register.specs.PrivateRowTerms.{ReadsRows};
+ghost use Rattle.zeb_register.specs.Connections.{AsksOf};
 
 use crate::agreeing::Table;
 use crate::statements::queries::look_up;
@@ -40,10 +39,8 @@ pub(crate) fn least_rows<S: Alter>(
     conn: &mut Connection<S>,
     table: Table,
 ) -> Result<Vec<Row>, Error>
-    ensures call { ReadingOf S.Store conn.old conn.new result
-        (λ rows a b. ReadsRows (λ trees. ShowsFirst (λ id other. id ≤ℤ other)
-        (Owns (tree_of table) trees)) a b rows.items) }
-    ensures err { IsReasonedErrorOf S.Store conn.old conn.new result }
+    ensures { AsksOf S.Store conn.old conn.new result (λ trees rows. ShowsFirst
+        (λ id other. id ≤ℤ other) (Owns (tree_of table) trees) rows.items) }
 {
     look_up(conn, least_text(table), &[])
 }
@@ -53,10 +50,8 @@ pub(crate) fn greatest_rows<S: Alter>(
     conn: &mut Connection<S>,
     table: Table,
 ) -> Result<Vec<Row>, Error>
-    ensures call { ReadingOf S.Store conn.old conn.new result
-        (λ rows a b. ReadsRows (λ trees. ShowsFirst (λ id other. other ≤ℤ id)
-        (Owns (tree_of table) trees)) a b rows.items) }
-    ensures err { IsReasonedErrorOf S.Store conn.old conn.new result }
+    ensures { AsksOf S.Store conn.old conn.new result (λ trees rows. ShowsFirst
+        (λ id other. other ≤ℤ id) (Owns (tree_of table) trees) rows.items) }
 {
     look_up(conn, greatest_text(table), &[])
 }
@@ -67,10 +62,9 @@ pub(crate) fn next_rows<S: Alter>(
     table: Table,
     start: i64,
 ) -> Result<Vec<Row>, Error>
-    ensures call { ReadingOf S.Store conn.old conn.new result
-        (λ rows a b. ReadsRows (λ trees. ShowsFirst (λ id other. id ≤ℤ other)
-        (λ id. Owns (tree_of table) trees id × (start ≤ℤ id))) a b rows.items) }
-    ensures err { IsReasonedErrorOf S.Store conn.old conn.new result }
+    ensures { AsksOf S.Store conn.old conn.new result (λ trees rows. ShowsFirst
+        (λ id other. id ≤ℤ other) (λ id. Owns (tree_of table) trees id
+        × (start ≤ℤ id)) rows.items) }
 {
     look_up(conn, next_text(table), params![start])
 }

@@ -1,14 +1,14 @@
 //! Statements on the table `postings`: a row for each posting.
 
 ghost use Rattle.std.specs.Prelude.{IsUtf8, [], ◌∷◌, ◌++◌};
-ghost use Rattle.sqlite.specs.State.{IsUnchanged};
 ghost use Rattle.sqlite.specs.declared.types.Value.TheVariants.{Text};
-ghost use Rattle.zeb_register.specs.PrivateRowStatements.{Lists, ListsInside};
+ghost use Rattle.zeb_register.specs.PrivateRowStatements.{ListsInside};
 ghost use Rattle.zeb_register.specs.Store.{postings_tree, IsRest};
-ghost use Rattle.zeb_register.specs.Connections.{InsideOf, IsReasonedErrorOf, ReadingOf};
+ghost use Rattle.zeb_register.specs.Connections.{AsksOf, InsideOf};
 ghost use Rattle.zeb_register.specs.PrivateKeyColumns.{HasTermOf, numbered_columns, register_columns};
-ghost use Rattle.zeb_register.specs.PrivateRowTerms.{ShowsNearest, ReadsRows};
+ghost use Rattle.zeb_register.specs.PrivateRowTerms.{ShowsNearest};
 ghost use Rattle.zeb_register.specs.Terms.{Comes};
+ghost use Rattle.zeb_register.specs.Sql.{IsListOf};
 
 use crate::RegisterOf;
 use crate::statements::keys::KeyOf;
@@ -34,8 +34,7 @@ const TERM_BEFORE: &str =
 
 /// Reads nothing. It is refused where the connection is closed.
 pub(crate) fn nothing_of<S: Alter>(conn: &mut Connection<S>) -> Result<(), Error>
-    ensures call { ReadingOf S.Store conn.old conn.new result (λ _. IsUnchanged) }
-    ensures err { IsReasonedErrorOf S.Store conn.old conn.new result }
+    ensures { AsksOf S.Store conn.old conn.new result (λ _ _. Unit {0}) }
 {
     look_up(conn, NOTHING, &[])?;
     Ok(())
@@ -46,10 +45,9 @@ pub(crate) fn posting_rows<S: Alter>(
     at: RegisterOf,
     term: &str,
 ) -> Result<Vec<Row>, Error>
-    ensures call { ReadingOf S.Store conn.old conn.new result
-        (λ rows a b. Lists (IsRest postings_tree (register_columns at ++ Text term.now ∷ [])) a b
-        rows.items) }
-    ensures err { IsReasonedErrorOf S.Store conn.old conn.new result }
+    ensures { AsksOf S.Store conn.old conn.new result
+        (λ trees rows. IsListOf (IsRest postings_tree (register_columns at ++ Text term.now ∷ [])
+        trees) rows.items) }
 {
     let db = at.db.column();
     let reg = u32::from(at.register.code());
@@ -76,9 +74,8 @@ pub(crate) fn register_rows<S: Alter>(
     conn: &mut Connection<S>,
     at: RegisterOf,
 ) -> Result<Vec<Row>, Error>
-    ensures call { ReadingOf S.Store conn.old conn.new result
-        (λ rows a b. Lists (IsRest postings_tree (register_columns at)) a b rows.items) }
-    ensures err { IsReasonedErrorOf S.Store conn.old conn.new result }
+    ensures { AsksOf S.Store conn.old conn.new result
+        (λ trees rows. IsListOf (IsRest postings_tree (register_columns at) trees) rows.items) }
 {
     let db = at.db.column();
     let reg = u32::from(at.register.code());
@@ -91,10 +88,8 @@ pub(crate) fn rows_from<S: Alter>(
     at: RegisterOf,
     start: &str,
 ) -> Result<Vec<Row>, Error>
-    ensures call { ReadingOf S.Store conn.old conn.new result
-        (λ rows a b. ReadsRows (λ trees. ShowsNearest
-        (λ term. HasTermOf at trees term × ¬ Comes term start.now) Comes) a b rows.items) }
-    ensures err { IsReasonedErrorOf S.Store conn.old conn.new result }
+    ensures { AsksOf S.Store conn.old conn.new result (λ trees rows. ShowsNearest
+        (λ term. HasTermOf at trees term × ¬ Comes term start.now) Comes rows.items) }
 {
     let db = at.db.column();
     let reg = u32::from(at.register.code());
@@ -107,11 +102,9 @@ pub(crate) fn rows_before<S: Alter>(
     at: RegisterOf,
     start: &str,
 ) -> Result<Vec<Row>, Error>
-    ensures call { ReadingOf S.Store conn.old conn.new result
-        (λ rows a b. ReadsRows (λ trees. ShowsNearest
-        (λ term. HasTermOf at trees term × Comes term start.now) (λ one other. Comes other one)) a b
-        rows.items) }
-    ensures err { IsReasonedErrorOf S.Store conn.old conn.new result }
+    ensures { AsksOf S.Store conn.old conn.new result (λ trees rows. ShowsNearest
+        (λ term. HasTermOf at trees term × Comes term start.now)
+        (λ one other. Comes other one) rows.items) }
 {
     let db = at.db.column();
     let reg = u32::from(at.register.code());

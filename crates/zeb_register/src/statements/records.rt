@@ -4,9 +4,8 @@ ghost use Rattle.std.specs.Prelude.{◌≡◌, List, [], ◌∷◌, take};
 ghost use Rattle.sqlite.specs.declared.types.Value.TheVariants.{Int};
 ghost use Rattle.zeb_register.specs.Sql.{IsListOf};
 ghost use Rattle.zeb_register.specs.Store.{records_tree, IsRest};
-ghost use Rattle.zeb_register.specs.PrivateRowStatements.{IsElderRow, IsIdentRow, IsRestAtLeast, Lists, ListsInside, ShowsCount};
-ghost use Rattle.zeb_register.specs.PrivateRowTerms.{ReadsRows};
-ghost use Rattle.zeb_register.specs.Connections.{InsideOf, IsReasonedErrorInsideOf, IsReasonedErrorOf, ReadingOf};
+ghost use Rattle.zeb_register.specs.PrivateRowStatements.{IsElderRow, IsIdentRow, IsRestAtLeast, ListsInside, ShowsCount};
+ghost use Rattle.zeb_register.specs.Connections.{AsksOf, InsideOf, IsReasonedErrorInsideOf};
 
 use crate::statements::queries::look_up;
 use sqlite::{Alter, Connection, Error, Row, Transaction, params};
@@ -39,26 +38,23 @@ pub(crate) fn ident_rows<S: Alter>(
     db: i64,
     sysno: i64,
 ) -> Result<Vec<Row>, Error>
-    ensures call { ReadingOf S.Store conn.old conn.new result
-        (λ rows a b. Lists (IsIdentRow db sysno) a b rows.items) }
-    ensures err { IsReasonedErrorOf S.Store conn.old conn.new result }
+    ensures { AsksOf S.Store conn.old conn.new result
+        (λ trees rows. IsListOf (IsIdentRow db sysno trees) rows.items) }
 {
     look_up(conn, IDENT, params![db, sysno])
 }
 
 pub(crate) fn record_rows<S: Alter>(conn: &mut Connection<S>, db: i64) -> Result<Vec<Row>, Error>
-    ensures call { ReadingOf S.Store conn.old conn.new result
-        (λ rows a b. Lists (IsRest records_tree (Int db ∷ [])) a b rows.items) }
-    ensures err { IsReasonedErrorOf S.Store conn.old conn.new result }
+    ensures { AsksOf S.Store conn.old conn.new result
+        (λ trees rows. IsListOf (IsRest records_tree (Int db ∷ []) trees) rows.items) }
 {
     look_up(conn, ALL, params![db])
 }
 
 /// How many records a database has: one row, with one number.
 pub(crate) fn count_rows<S: Alter>(conn: &mut Connection<S>, db: i64) -> Result<Vec<Row>, Error>
-    ensures call { ReadingOf S.Store conn.old conn.new result
-        (λ rows a b. ReadsRows (ShowsCount db) a b rows.items) }
-    ensures err { IsReasonedErrorOf S.Store conn.old conn.new result }
+    ensures { AsksOf S.Store conn.old conn.new result
+        (λ trees rows. ShowsCount db trees rows.items) }
 {
     look_up(conn, COUNT, params![db])
 }
@@ -69,11 +65,9 @@ pub(crate) fn rows_from<S: Alter>(
     db: i64,
     start: i64,
 ) -> Result<Vec<Row>, Error>
-    ensures call { ReadingOf S.Store conn.old conn.new result
-        (λ rows a b. ReadsRows (λ trees rows. (all : List _)
-        × IsListOf (IsRestAtLeast records_tree (Int db ∷ []) start trees) all × (rows ≡ take 1 all))
-        a b rows.items) }
-    ensures err { IsReasonedErrorOf S.Store conn.old conn.new result }
+    ensures { AsksOf S.Store conn.old conn.new result (λ trees rows. (all : List _)
+        × IsListOf (IsRestAtLeast records_tree (Int db ∷ []) start trees) all
+        × (rows.items ≡ take 1 all)) }
 {
     look_up(conn, FIRST_FROM, params![db, start])
 }

@@ -1,27 +1,17 @@
-use Rattle.zeb_leaf_rows.proofs.Cited.{HasCleanDisk, arith, state}
-use Rattle.std.proofs.Common.{true}
-use Rattle.zeb_register.proofs.Calls.{reading_then, store_same}
-use Rattle.zeb_register.proofs.Causes.{reasoned_after}
-use Rattle.zeb_leaf_rows.proofs.CoveringCalls.{answered_uncovered}
+use Rattle.zeb_leaf_rows.proofs.Cited.{state}
+use Rattle.zeb_register.proofs.LooksInTurn.{looks_as, looks_failed, looks_then, looks_told}
+use Rattle.zeb_leaf_rows.proofs.CoveringCalls.{gone_at, still_uncovered}
 use Rattle.zeb_leaf_rows.proofs.covering.leaf_at.Goals as goal
 
-pub returns-in-Some-clause-finds : goal.returns-in-Some-clause-finds
-returns-in-Some-clause-finds g c clean store = rw c.in-Some.is at (c.in_ok-leaf.ensures.covers clean store)
+pub returns-in_err-leaf : goal.returns-in_err-leaf
+returns-in_err-leaf g c = looks_failed _ _ _ c.from_residual.result _ _ _ c.in_err-leaf.ensures c.from_residual.ensures.1
 
-pub returns-in-None-clause-call : goal.returns-in-None-clause-call
-returns-in-None-clause-call g c =
-    let first = c.in_ok-leaf.ensures.call in
-    reading_then _ _ _ true _ (record { idle = first.idle; ok = first.ok; same = first.same; crash = first.crash }) c.no_leaf.ensures.call
+pub returns-in-Some : goal.returns-in-Some
+returns-in-Some g c = looks_told _ _ _ _ _ _ _ c.in_ok-leaf.ensures (λ store covers. rw c.in-Some.is at covers)
 
-pub returns-in-None-clause-finds : goal.returns-in-None-clause-finds
-returns-in-None-clause-finds g c clean store =
-    let s0 = state g.S.Store c.args.conn.now in
-    let s1 = state g.S.Store c.covering_leaf.new.conn in
-    let clean1 : HasCleanDisk s1 = omega (arith, c.no_leaf.ensures.call.crash.clean) in
-    let same = (c.in_ok-leaf.ensures.call.ok clean1).0.now_is in
-    let none = rw c.in-None.is at (c.in_ok-leaf.ensures.covers clean1 store) in
-    answered_uncovered c.args.at c.args.term.now c.args.block s0.now s1.now same none c.no_leaf.result (c.no_leaf.ensures.none clean (store_same s0 s1 same store))
-
-pub returns-in-None-clause-refused : goal.returns-in-None-clause-refused
-returns-in-None-clause-refused g c clean store told =
-    reasoned_after (state g.S.Store c.args.conn.now) (state g.S.Store c.covering_leaf.new.conn) _ c.no_leaf.result c.in_ok-leaf.ensures.call.crash c.in_ok-leaf.ensures.call.ok c.no_leaf.ensures.call.crash c.no_leaf.ensures.refused told clean store
+pub returns-in-None : goal.returns-in-None
+returns-in-None g c =
+    let trees = (state g.S.Store c.args.conn.now).now.trees in
+    looks_then _ _ _ _ c.no_leaf.result _ _ _ _ _ _ (looks_as _ _ _ _ c.in_ok-leaf.ensures) c.no_leaf.ensures
+    (λ store covers. still_uncovered trees c.args.at c.args.term.now c.args.block (rw c.in-None.is at covers))
+    (λ store covers found none. gone_at trees c.args.at c.args.term.now c.args.block (rw c.in-None.is at covers) found none.0 none.1)

@@ -1,20 +1,15 @@
-use Rattle.zeb_leaf_rows.proofs.Cited.{HasCleanDisk, IsLeafAt, IsLeafIn, IsUncovered, arith, leaf_key, state, subst}
-use Rattle.sqlite.specs.Effect.{Database}
 use Rattle.zeb_leaf_rows.proofs.OnlyLeaf.{below_above}
-use Rattle.zeb_register.proofs.Calls.{store_same}
-use Rattle.zeb_register.specs.Answers.{Answers, IfDamaged}
+use Rattle.zeb_register.proofs.LooksInTurn.{looks_as, looks_failed, looks_then, looks_told}
 use Rattle.zeb_leaf_rows.proofs.neighbours.leaf_from.Goals as goal
 
 pub only_leaf-requires : goal.only_leaf-requires
 only_leaf-requires g c = rw (c.as_str.ensures.value, c.in_ok-end.ensures) (below_above c.args.first.now)
 
-pub returns-in-Some-clause-finds : goal.returns-in-Some-clause-finds
-returns-in-Some-clause-finds g c clean store = (rw c.in-Some.is at (c.in_ok-leaf.ensures.finds clean store)).covers
+pub returns-in_err-leaf : goal.returns-in_err-leaf
+returns-in_err-leaf g c = looks_failed _ _ _ c.from_residual-in_err-leaf.result _ _ _ c.in_err-leaf.ensures c.from_residual-in_err-leaf.ensures.1
 
-pub returns-clause-finds : goal.returns-clause-finds
-returns-clause-finds g c clean store =
-    let s0 = state g.S.Store c.args.conn.now in
-    let s1 = state g.S.Store c.only_leaf.new.conn in
-    let clean1 : HasCleanDisk s1 = omega (arith, c.leaf_at.ensures.call.crash.clean) in
-    let same = (c.in_ok-leaf.ensures.call.ok clean1).0.now_is in
-    subst (λ (d : Database). Answers (IfDamaged (IsUncovered (IsLeafIn d.trees c.args.at) (leaf_key c.args.first.now 0))) (λ found. IsLeafAt (IsLeafIn d.trees c.args.at) (leaf_key c.args.first.now 0) found) c.leaf_at.result) same (c.leaf_at.ensures.finds clean (store_same s0 s1 same store))
+pub returns-in-Some : goal.returns-in-Some
+returns-in-Some g c = looks_told _ _ _ _ _ _ _ c.in_ok-leaf.ensures (λ store found. (rw c.in-Some.is at found).covers)
+
+pub returns : goal.returns
+returns g c = looks_then _ _ _ _ c.leaf_at.result _ _ _ _ _ _ (looks_as _ _ _ _ c.in_ok-leaf.ensures) c.leaf_at.ensures (λ store found uncovered. uncovered) (λ store found leaf is. is)

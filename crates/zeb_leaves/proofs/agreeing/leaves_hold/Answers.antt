@@ -6,24 +6,18 @@ use Rattle.zeb_leaves.proofs.WalkedHold.{walked_hold}
 use Rattle.zeb_register.proofs.YesNoAnswers.{told_so}
 use Rattle.zeb_leaves.proofs.agreeing.leaves_hold.Goals as goal
 
-pub returns-clause-call : goal.returns-clause-call
-returns-clause-call g c = record {
-  idle = c.leaves_walked.ensures.call.idle;
-  ok = λ clean. IfOk-weaker c.leaves_walked.result _ _ (λ b it. it.0) (c.leaves_walked.ensures.call.ok clean);
-  same = c.leaves_walked.ensures.call.same;
-  crash = c.leaves_walked.ensures.call.crash;
-}
-
-pub returns-clause-value : goal.returns-clause-value
-returns-clause-value g c clean store up =
+pub returns : goal.returns
+returns g c =
     let s = state g.S.Store c.args.conn.now in
     let postings = c.args.postings.now in
-    IfOk-weaker c.leaves_walked.result _ _ (λ b it.
-    let read = it.1 store in
-    let rests = IsRest blocks_tree (Int c.args.db ∷ []) s.now.trees in
-    let keys = own_keys s store c.args.db in
-    let are = subst (λ i. IsListOf (IsRest blocks_tree (Int i ∷ []) s.now.trees) read.0) (to_z-of_z {w = w64} {z = c.args.db} c.ranges.db) read.1 in
-    told_so (AreWalked None read.0 postings) (HoldsPostings rests postings) b (walked_hold rests read.0 are keys postings up, held_walked rests read.0 are keys postings up) read.2) (c.leaves_walked.ensures.call.ok clean)
-
-pub returns-clause-refused : goal.returns-clause-refused
-returns-clause-refused g c = c.leaves_walked.ensures.refused
+    let it = c.leaves_walked.ensures in
+    record {
+      call = record { idle = it.call.idle; ok = λ clean. IfOk-weaker c.leaves_walked.result _ _ (λ b read. read.0) (it.call.ok clean); same = it.call.same; crash = it.call.crash };
+      value = λ clean store. IfOk-weaker c.leaves_walked.result _ _ (λ b read up.
+          let rows = read.1 store in
+          let rests = IsRest blocks_tree (Int c.args.db ∷ []) s.now.trees in
+          let keys = own_keys s store c.args.db in
+          let are = subst (λ i. IsListOf (IsRest blocks_tree (Int i ∷ []) s.now.trees) rows.0) (to_z-of_z {w = w64} {z = c.args.db} c.ranges.db) rows.1 in
+          told_so (AreWalked None rows.0 postings) (HoldsPostings rests postings) b (walked_hold rests rows.0 are keys postings up, held_walked rests rows.0 are keys postings up) rows.2) (it.call.ok clean);
+      refused = it.refused;
+    }

@@ -13,13 +13,13 @@ returns-then-is_listed-clause-value g c clean store =
     let here = subst (IsListedId c.args.listed.now) (to_z-of_z {w = w64} {z = c.args.id} c.ranges.id) (c.is_listed.ensures.same c.if-is_listed.true) in
     (λ _ other. absurd (other here), λ _. refl)
 
+pub returns-then-is_listed-clause-refused : goal.returns-then-is_listed-clause-refused
+returns-then-is_listed-clause-refused g c clean store = tt
+
 pub returns-clause-call : goal.returns-clause-call
-returns-clause-call g c = record {
-  idle = c.leaves_hold.ensures.call.idle;
-  ok = λ clean. IfOk-weaker c.leaves_hold.result _ _ (λ b same open'. same) (c.leaves_hold.ensures.call.ok clean);
-  same = c.leaves_hold.ensures.call.same;
-  crash = c.leaves_hold.ensures.call.crash;
-}
+returns-clause-call g c =
+    let it = c.leaves_hold.ensures.call in
+    record { idle = it.idle; ok = λ clean. IfOk-weaker c.leaves_hold.result _ _ (λ b same open'. same) (it.ok clean); same = it.same; crash = it.crash }
 
 pub returns-clause-value : goal.returns-clause-value
 unfolding IsStrictlySortedBy
@@ -28,10 +28,7 @@ returns-clause-value g c clean store =
     let same = to_z-of_z {w = w64} {z = c.args.id} c.ranges.id in
     let empty = λ (id : ℤ). HasLeaves id [] trees in
     IfOk-weaker c.leaves_hold.result _ _ (λ b is. told_so (empty (to_z w64 (of_z w64 c.args.id))) (IsEmptyBeside c.args.listed.now trees c.args.id) b
-    (λ h _. subst empty same h, λ beside. subst empty (sym same) (beside (subst (λ (id : ℤ). ¬ IsListedId c.args.listed.now id) same (c.is_listed.ensures.other c.if-is_listed.false)))) is) (c.leaves_hold.ensures.value clean store tt)
-
-pub returns-then-is_listed-clause-refused : goal.returns-then-is_listed-clause-refused
-returns-then-is_listed-clause-refused g c clean store = tt
+    (λ h _. subst empty same h, λ beside. subst empty (sym same) (beside (subst (λ (id : ℤ). ¬ IsListedId c.args.listed.now id) same (c.is_listed.ensures.other c.if-is_listed.false)))) (is tt)) (c.leaves_hold.ensures.value clean store)
 
 pub returns-clause-refused : goal.returns-clause-refused
 returns-clause-refused g c = c.leaves_hold.ensures.refused

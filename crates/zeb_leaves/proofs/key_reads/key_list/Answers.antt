@@ -1,55 +1,47 @@
-use Rattle.zeb_leaves.proofs.Cited.{◌∙◌, ℕ, List, Err, ap, subst, rules, state, IsLeafOf, IsUncovered, leaf_key, SayAll, SomeSaysNone, AreSpanLeaves, SomeShowsNoKey, refused_so, rows_told}
+use Rattle.zeb_leaves.proofs.Cited.{◌∙◌, ℕ, List, subst, state, IsLeafOf, IsUncovered, leaf_key, SayAll, SomeSaysNone, AreSpanLeaves, SomeShowsNoKey}
 use Rattle.zeb_leaf.specs.declared.entries.Held.{Held}
 use Rattle.zeb_leaf_rows.proofs.OnlyLeaf.{below_above}
+use Rattle.zeb_register.proofs.LooksInTurn.{found_refused, looks_handed, looks_so}
 use Rattle.zeb_leaves.proofs.KeyCalls.{held_listed, held_malformed, lacking_malformed, uncovered_lacking, unread_lacking}
 use Rattle.zeb_leaves.proofs.key_reads.key_list.Goals as goal
 
 pub span_leaves-requires : goal.span_leaves-requires
 span_leaves-requires g c = rw (c.as_str.ensures.value, c.in_ok-end.ensures) (below_above c.as_str-term.result.now)
 
-pub returns-clause-units : goal.returns-clause-units
-returns-clause-units g c clean store =
-    let s0 = state g.S.Store c.args.conn.now in
+pub returns-in_err-rows : goal.returns-in_err-rows
+returns-in_err-rows g c =
+    let s = state g.S.Store c.args.conn.now in
     let key = c.args.key.now in
-    let Leaves = IsLeafOf s0.now.trees c.args.db.0 key in
+    let Leaves = IsLeafOf s.now.trees c.args.db.0 key in
+    looks_handed _ _ _ c.from_residual-in_err-rows.result _ _ _ _ c.in_err-rows.ensures c.from_residual-in_err-rows.ensures.1 (λ store uncovered.
+    lacking_malformed s c.args.db.0 key (uncovered_lacking Leaves key.term (subst (λ (t : List ℕ). IsUncovered Leaves (leaf_key t 0)) c.as_str-term.ensures uncovered)))
+
+pub returns-in_err-held : goal.returns-in_err-held
+returns-in_err-held g c =
+    let s = state g.S.Store c.args.conn.now in
+    let key = c.args.key.now in
     let rows = c.in_ok-rows.rows.items in
-    let held = c.in_ok-held.held.items in
-    let found = c.in_ok-rows.ensures.finds clean store c.as_str-term.result.now (c.as_str.ensures.value ∙ c.in_ok-end.ensures) in
-    let are = subst (λ (t : List ℕ). AreSpanLeaves Leaves t t rows) c.as_str-term.ensures found in
+    found_refused _ _ _ c.in_err-held.field-0.0 c.from_residual-in_err-held.result _ _ _ _ c.in_ok-rows.ensures c.from_residual-in_err-held.ensures.1 (λ store found told.
+    let are = subst (λ (t : List ℕ). AreSpanLeaves (IsLeafOf s.now.trees c.args.db.0 key) t t rows) c.as_str-term.ensures (found c.as_str-term.result.now (c.as_str.ensures.value ∙ c.in_ok-end.ensures)) in
+    lacking_malformed s c.args.db.0 key (unread_lacking s store c.args.db.0 key rows are (subst SomeShowsNoKey c.deref.ensures.value (c.in_err-held.ensures told))))
+
+pub returns-in_err-postings_said : goal.returns-in_err-postings_said
+returns-in_err-postings_said g c =
+    let s = state g.S.Store c.args.conn.now in
+    let key = c.args.key.now in
+    let rows = c.in_ok-rows.rows.items in
+    found_refused _ _ _ c.in_err-postings_said.field-0.0 c.from_residual-in_err-postings_said.result _ _ _ _ c.in_ok-rows.ensures c.from_residual-in_err-postings_said.ensures.1 (λ store found told.
+    let are = subst (λ (t : List ℕ). AreSpanLeaves (IsLeafOf s.now.trees c.args.db.0 key) t t rows) c.as_str-term.ensures (found c.as_str-term.result.now (c.as_str.ensures.value ∙ c.in_ok-end.ensures)) in
     let shows = rw (c.deref.ensures.value, c.as_bytes.ensures.value, c.as_bytes-2.ensures.value, c.as_str-2.ensures.value, c.in_ok-end.ensures, c.as_str-term.ensures) at c.in_ok-held.ensures in
+    held_malformed s store c.args.db.0 key rows are c.in_ok-held.held.items shows (subst SomeSaysNone c.deref-2.ensures.value (c.in_err-postings_said.ensures told)))
+
+pub returns : goal.returns
+returns g c =
+    let s = state g.S.Store c.args.conn.now in
+    let key = c.args.key.now in
+    let rows = c.in_ok-rows.rows.items in
     let list = c.in_ok-postings_said.field-0.items in
-    held_listed s0 store c.args.db.0 key rows are held shows list (subst (λ (h : List Held). SayAll h list) c.deref-2.ensures.value c.in_ok-postings_said.ensures)
-
-pub returns-in_err-postings_said-clause-units : goal.returns-in_err-postings_said-clause-units
-returns-in_err-postings_said-clause-units g c clean store =
-    let s0 = state g.S.Store c.args.conn.now in
-    let key = c.args.key.now in
-    let Leaves = IsLeafOf s0.now.trees c.args.db.0 key in
-    let rows = c.in_ok-rows.rows.items in
-    let held = c.in_ok-held.held.items in
-    let found = c.in_ok-rows.ensures.finds clean store c.as_str-term.result.now (c.as_str.ensures.value ∙ c.in_ok-end.ensures) in
-    let are = subst (λ (t : List ℕ). AreSpanLeaves Leaves t t rows) c.as_str-term.ensures found in
+    looks_so _ _ _ _ _ _ _ _ c.in_ok-rows.ensures (λ store found.
+    let are = subst (λ (t : List ℕ). AreSpanLeaves (IsLeafOf s.now.trees c.args.db.0 key) t t rows) c.as_str-term.ensures (found c.as_str-term.result.now (c.as_str.ensures.value ∙ c.in_ok-end.ensures)) in
     let shows = rw (c.deref.ensures.value, c.as_bytes.ensures.value, c.as_bytes-2.ensures.value, c.as_str-2.ensures.value, c.in_ok-end.ensures, c.as_str-term.ensures) at c.in_ok-held.ensures in
-    rows_told c.in_err-postings_said.field-0.0 c.from_residual-in_err-postings_said.result c.from_residual-in_err-postings_said.ensures.1 _ _ _
-    (λ told. held_malformed s0 store c.args.db.0 key rows are held shows (subst SomeSaysNone c.deref-2.ensures.value (c.in_err-postings_said.ensures told)))
-
-pub returns-in_err-held-clause-units : goal.returns-in_err-held-clause-units
-returns-in_err-held-clause-units g c clean store =
-    let s0 = state g.S.Store c.args.conn.now in
-    let key = c.args.key.now in
-    let Leaves = IsLeafOf s0.now.trees c.args.db.0 key in
-    let rows = c.in_ok-rows.rows.items in
-    let found = c.in_ok-rows.ensures.finds clean store c.as_str-term.result.now (c.as_str.ensures.value ∙ c.in_ok-end.ensures) in
-    let are = subst (λ (t : List ℕ). AreSpanLeaves Leaves t t rows) c.as_str-term.ensures found in
-    rows_told c.in_err-held.field-0.0 c.from_residual-in_err-held.result c.from_residual-in_err-held.ensures.1 _ _ _
-    (λ told. lacking_malformed s0 c.args.db.0 key (unread_lacking s0 store c.args.db.0 key rows are (subst SomeShowsNoKey c.deref.ensures.value (c.in_err-held.ensures told))))
-
-pub returns-in_err-rows-clause-units : goal.returns-in_err-rows-clause-units
-returns-in_err-rows-clause-units g c clean store =
-    let s0 = state g.S.Store c.args.conn.now in
-    let key = c.args.key.now in
-    let Leaves = IsLeafOf s0.now.trees c.args.db.0 key in
-    refused_so _ _ c.from_residual-in_err-rows.result c.in_err-rows.field-0.0 (search rules) (
-      λ told. lacking_malformed s0 c.args.db.0 key (uncovered_lacking Leaves key.term (subst (λ (t : List ℕ). IsUncovered Leaves (leaf_key t 0)) c.as_str-term.ensures (c.in_err-rows.ensures.finds clean store told))),
-      λ failed. c.in_err-rows.ensures.refused clean store (ap Err failed),
-    )
+    held_listed s store c.args.db.0 key rows are c.in_ok-held.held.items shows list (subst (λ (h : List Held). SayAll h list) c.deref-2.ensures.value c.in_ok-postings_said.ensures))

@@ -1,17 +1,13 @@
-use Rattle.zeb_leaves.proofs.HandedOn.{answered_so, failed_reading, later_reading, shows_none}
+use Rattle.zeb_leaves.proofs.Cited.{rules}
+use Rattle.zeb_register.specs.declared.faults.RowFault.TheVariants.{Memory as NoMemory}
+use Rattle.zeb_register.proofs.LooksInTurn.{looks_failed, looks_refused, looks_told}
 use Rattle.zeb_leaves.proofs.rows_from.rows_behind.Goals as goal
 
-pub returns-in_err-rows-clause-call : goal.returns-in_err-rows-clause-call
-returns-in_err-rows-clause-call g c = failed_reading _ _ _ _ c.from_residual.result _ _ c.in_err-rows.ensures.call c.from_residual.ensures.1
+pub returns-in_err-rows : goal.returns-in_err-rows
+returns-in_err-rows g c = looks_failed _ _ _ c.from_residual.result _ _ _ c.in_err-rows.ensures c.from_residual.ensures.1
 
-pub returns-in_err-rows-clause-lists : goal.returns-in_err-rows-clause-lists
-returns-in_err-rows-clause-lists g c clean store = shows_none _ c.from_residual.result _ c.from_residual.ensures.1
+pub returns-in_err-insert : goal.returns-in_err-insert
+returns-in_err-insert g c = looks_refused _ _ _ NoMemory c.from_residual-in_err-insert.result _ _ _ c.in_ok-rows.ensures c.from_residual-in_err-insert.ensures.1 (λ store listed told. cc)
 
-pub returns-in_err-insert-clause-call : goal.returns-in_err-insert-clause-call
-returns-in_err-insert-clause-call g c = later_reading _ _ _ _ c.from_residual-in_err-insert.result _ _ c.in_ok-rows.ensures.call c.from_residual-in_err-insert.ensures.1
-
-pub returns-in_err-insert-clause-lists : goal.returns-in_err-insert-clause-lists
-returns-in_err-insert-clause-lists g c clean store = shows_none _ c.from_residual-in_err-insert.result _ c.from_residual-in_err-insert.ensures.1
-
-pub returns-clause-call : goal.returns-clause-call
-returns-clause-call g c = answered_so _ _ _ _ _ c.in_ok-rows.ensures.call (λ h. h.0)
+pub returns : goal.returns
+returns g c = looks_told _ _ _ _ _ _ _ c.in_ok-rows.ensures (λ store listed. (c.in_ok-rows.rows.items, search rules, listed))

@@ -1,4 +1,5 @@
-use Rattle.zeb_leaves.proofs.Cited.{Text, ◌≡◌, ◌∙◌, false, pos, refl, column, register_code, HasBlockFrom, IsRest, blocks_tree, value_cmp, is_lt, lists_read, register_of, refused, why_failed}
+use Rattle.zeb_leaves.proofs.Cited.{Text, ◌≡◌, ◌∙◌, false, pos, refl, column, register_code, HasBlockFrom, IsRest, blocks_tree, value_cmp, is_lt, register_of, refused}
+use Rattle.zeb_register.proofs.AsksInTurn.{asks_list}
 use Rattle.zeb_register.proofs.BoundColumns.{looks_up_so, none_bound, register_bound, value_bound}
 use Rattle.zeb_leaves.proofs.FromStatements.{from_listed, from_query}
 use Rattle.zeb_leaves.proofs.rows_from.rows_from.Goals as goal
@@ -6,12 +7,9 @@ use Rattle.zeb_leaves.proofs.rows_from.rows_from.Goals as goal
 pub look_up-requires : goal.look_up-requires
 look_up-requires g c = (from_query c.args.at.db.0 (pos c.args.at.index) (pos (register_code c.args.at.register)) c.args.first.now).silent
 
-pub returns-clause-call : goal.returns-clause-call
-returns-clause-call g c = lists_read (λ trees row. IsRest blocks_tree (register_of c.args.at.db.0 (pos c.args.at.index) (pos (register_code c.args.at.register))) trees row × (is_lt (value_cmp (column row 0) (Text c.args.first.now)) ≡ false) × HasBlockFrom 0 row) _ _ c.look_up.result (λ rows store shown. from_listed c.args.at.db.0 (pos c.args.at.index) (pos (register_code c.args.at.register)) c.args.first.now _ _ rows store shown)
-    (looks_up_so c.look_up.ensures (register_bound c.column-db.ensures.fits c.column-db.ensures.value (c.from-reg.ensures ∙ c.code.ensures) c.params-to_sql.ensures c.params-to_sql-2.ensures c.params-to_sql-3.ensures
-    (value_bound c.params-to_sql-4.ensures refl (value_bound c.params-to_sql-5.ensures refl none_bound))))
-
-pub returns-clause-err : goal.returns-clause-err
-returns-clause-err g c = why_failed (refused (from_query c.args.at.db.0 (pos c.args.at.index) (pos (register_code c.args.at.register)) c.args.first.now)) _ _ c.look_up.result
+pub returns : goal.returns
+returns g c =
+    asks_list (λ trees row. IsRest blocks_tree (register_of c.args.at.db.0 (pos c.args.at.index) (pos (register_code c.args.at.register))) trees row × (is_lt (value_cmp (column row 0) (Text c.args.first.now)) ≡ false) × HasBlockFrom 0 row) (refused (from_query c.args.at.db.0 (pos c.args.at.index) (pos (register_code c.args.at.register)) c.args.first.now)) _ _ c.look_up.result
+    (λ rows store shown. from_listed c.args.at.db.0 (pos c.args.at.index) (pos (register_code c.args.at.register)) c.args.first.now _ _ rows store shown)
     (looks_up_so c.look_up.ensures (register_bound c.column-db.ensures.fits c.column-db.ensures.value (c.from-reg.ensures ∙ c.code.ensures) c.params-to_sql.ensures c.params-to_sql-2.ensures c.params-to_sql-3.ensures
     (value_bound c.params-to_sql-4.ensures refl (value_bound c.params-to_sql-5.ensures refl none_bound))))

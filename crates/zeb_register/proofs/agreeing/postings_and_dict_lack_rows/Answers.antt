@@ -1,30 +1,25 @@
-use Rattle.zeb_register.proofs.Cited.{Database, state, HasCleanDisk, ◌≡◌, ◌↔◌, [], true, false, IsTrue, subst, arith, IfOk-weaker, BelongsTo, LacksPostingsAndDict, dict_tree, postings_tree}
+use Rattle.zeb_register.proofs.Cited.{state, ◌≡◌, false, true, dict_tree, postings_tree}
+use Rattle.zeb_register.proofs.AsksInTurn.{asks_handed, asks_so, asks_then}
 use Rattle.zeb_register.proofs.AgreeingRows.{empty_belongs, no_dict, no_postings}
-use Rattle.zeb_register.proofs.Calls.{reading_then, store_same}
-use Rattle.zeb_register.proofs.YesNoAnswers.{told_so}
 use Rattle.zeb_register.proofs.agreeing.postings_and_dict_lack_rows.Goals as goal
 
-pub returns-then-not-branch-clause-value : goal.returns-then-not-branch-clause-value
-returns-then-not-branch-clause-value g c clean store =
+pub returns-in_err-belongs : goal.returns-in_err-belongs
+returns-in_err-belongs g c = asks_handed _ _ _ c.from_residual.result _ _ c.in_err-belongs.ensures c.from_residual.ensures.1
+
+pub returns-then-not-branch : goal.returns-then-not-branch
+returns-then-not-branch g c =
+    asks_so _ _ _ _ _ _ c.in_ok-belongs.ensures (λ store one. (
+      λ h. absurd (let e : false ≡ true = h in cc),
+      λ lacks.
+          let yes' : c.in_ok-belongs.field-0 ≡ true = one.1 (empty_belongs postings_tree (state g.S.Store c.args.conn.now).now.trees lacks.0) in
+          let no' : c.in_ok-belongs.field-0 ≡ false = c.if-not-branch.true in
+          absurd cc,
+    ))
+
+pub returns : goal.returns
+returns g c =
     let s = state g.S.Store c.args.conn.now in
-    let no' : c.in_ok-belongs.field-0 ≡ false = c.if-not-branch.true in
-    let first = subst (λ b. IsTrue b ↔ BelongsTo postings_tree [] s.now.trees) no' (c.in_ok-belongs.ensures.value clean store) in
-    (λ h. absurd (let e : false ≡ true = h in cc), λ lacks. first.1 (empty_belongs postings_tree s.now.trees lacks.0))
-
-pub returns-clause-call : goal.returns-clause-call
-returns-clause-call g c = reading_then _ _ _ _ _ c.in_ok-belongs.ensures.call c.belongs-2.ensures.call
-
-pub returns-clause-value : goal.returns-clause-value
-returns-clause-value g c clean store =
-    let s0 = state g.S.Store c.args.conn.now in
-    let s1 = state g.S.Store c.belongs.new.conn in
-    let clean1 : HasCleanDisk s1 = omega (arith, c.belongs-2.ensures.call.crash.clean) in
-    let at = (c.in_ok-belongs.ensures.call.ok clean1).0.now_is in
-    let yes' : c.in_ok-belongs.field-0 ≡ true = c.if-not-branch.false in
-    let first = (c.in_ok-belongs.ensures.value clean1 store).0 yes' in
-    let so : BelongsTo dict_tree [] s0.now.trees ↔ LacksPostingsAndDict s0.now.trees = (
-      λ belongs. (no_postings s0 store first, no_dict s0 store belongs),
-      λ lacks. empty_belongs dict_tree s0.now.trees lacks.1,
-    ) in
-    IfOk-weaker c.belongs-2.result _ _ (λ b second. told_so (BelongsTo dict_tree [] s0.now.trees) (LacksPostingsAndDict s0.now.trees) b so
-    (subst (λ (d : Database). IsTrue b ↔ BelongsTo dict_tree [] d.trees) at second)) (c.belongs-2.ensures.value clean (store_same s0 s1 at store))
+    asks_then _ _ _ _ c.belongs-2.result _ _ _ c.in_ok-belongs.ensures c.belongs-2.ensures (λ store one answer two. (
+      λ yes'. (no_postings s store (one.0 c.if-not-branch.false), no_dict s store (two.0 yes')),
+      λ lacks. two.1 (empty_belongs dict_tree s.now.trees lacks.1),
+    ))

@@ -1,4 +1,4 @@
-use Rattle.zeb_register.proofs.Cited.{GoesOn, IsStore, state, rules}
+use Rattle.zeb_register.proofs.Cited.{state, rules}
 use Rattle.zeb_register.proofs.Calls.{goes_then}
 use Rattle.zeb_register.proofs.HandedOn.{behind_inside}
 use Rattle.zeb_register.proofs.PlaceLemmas.{DropsTwo, drops}

@@ -1,5 +1,4 @@
 use Rattle.zeb_register.proofs.Cited.{Alters, Empties, state, rules}
-use Rattle.zeb_register.proofs.Calls.{goes_then}
 use Rattle.zeb_register.proofs.HandedOn.{behind_inside}
 use Rattle.zeb_register.proofs.Wiped.{registers_wiped}
 use Rattle.zeb_register.proofs.wiping.registers_wipe.Goals as goal

@@ -1,4 +1,4 @@
-use Rattle.zeb_search.proofs.Cited.{on_ok_weaker, ◌≤◌, holds_in, length, Trees, Vec, Global, Posting, state, AreRun, HidesKeys, ListsKeys, HasMalformedBetween, ListsBetween, ListsUnits, has_malformed, told_held, list_told}
+use Rattle.zeb_search.proofs.Cited.{on_ok_weaker, ◌≤◌, holds_in, length, Trees, Vec, Global, Posting, state, AreRun, HidesKeys, ListsKeys, HasMalformedBetween, ListsBetween, ListsUnits, has_malformed, told_held, list_told, looks_tell}
 use Rattle.zeb_search.proofs.KeyReads.{between_hides, between_lists, one_hides, one_lists}
 use Rattle.zeb_search.proofs.NeighbourLemmas.{between_counted, each_counted, ends_got, several}
 use Rattle.zeb_search.proofs.OneKey.{one_counted}
@@ -15,7 +15,7 @@ returns-then-run-eq1-clause-units g c are =
     tells_more (λ trees. has_malformed format trees of.db.0 key) (λ trees. HidesKeys format trees of run (2 ≤ length run))
     (λ (trees : Trees) (list : Vec Posting Global). ListsUnits format trees of.db.0 key list.items) (λ (trees : Trees) (list : Vec Posting Global). ListsKeys format trees of run (2 ≤ length run) list.items) old (state g.S.Store c.key_list.new.conn) c.key_list.result
     (λ _ _. one_hides format old.now.trees of (2 ≤ length run) run key c.if-run-eq1.true c.index-run-0.is are) (λ _ _ list. one_lists format old.now.trees of (2 ≤ length run) run key c.if-run-eq1.true c.index-run-0.is are list.items)
-    c.key_list.ensures.units
+    (looks_tell _ _ _ _ _ c.key_list.ensures.units)
 
 pub returns-clause-units : goal.returns-clause-units
 returns-clause-units g c are =
@@ -32,7 +32,7 @@ returns-clause-units g c are =
     tells_more (λ trees. HasMalformedBetween format trees of low high) (λ trees. HidesKeys format trees of run (2 ≤ length run))
     (λ (trees : Trees) (list : Vec Posting Global). ListsBetween format trees of low high list.items) (λ (trees : Trees) (list : Vec Posting Global). ListsKeys format trees of run (2 ≤ length run) list.items) old (state g.S.Store c.postings_between.new.conn) c.postings_between.result
     (λ _ _. between_hides format old.now.trees of run first last ends low high c.as_str.ensures c.as_str-2.ensures many are) (λ _ _ list. between_lists format old.now.trees of run first last ends low high c.as_str.ensures c.as_str-2.ensures many are list.items)
-    c.postings_between.ensures.units
+    (looks_tell _ _ _ _ _ c.postings_between.ensures.units)
 
 pub returns-then-run-eq1-clause-work : goal.returns-then-run-eq1-clause-work
 returns-then-run-eq1-clause-work g c =

@@ -1,4 +1,4 @@
-use Rattle.zeb_search.proofs.Cited.{rules, ◌≡◌, ◌∙◌, IsTrue, Err, inl, length, Ok, sym, on_ok_weaker, state, holds_in, Trees, Vec, Global, EntryDict, Posting, RegisterOf, FoundKeys, AreFound, Fits, HasNoStar, HidesKeys, HidesWord, ListsKeys, AreMet, ReadsWord, posting_cmp, IsStrictlySortedBy, HidesSome, ListsUnits, has_malformed, told_held, list_told}
+use Rattle.zeb_search.proofs.Cited.{rules, ◌≡◌, ◌∙◌, IsTrue, Err, inl, length, Ok, sym, on_ok_weaker, state, holds_in, Trees, Vec, Global, EntryDict, Posting, RegisterOf, FoundKeys, AreFound, Fits, HasNoStar, HidesKeys, HidesWord, ListsKeys, AreMet, ReadsWord, posting_cmp, IsStrictlySortedBy, HidesSome, ListsUnits, has_malformed, told_held, list_told, looks_tell}
 use Rattle.zeb_keys.specs.declared.Register.TheVariants as register
 use Rattle.zeb_search.proofs.EntryReads.{entries_hidden, entries_read, reads_same}
 use Rattle.zeb_search.proofs.FoundLaws.{found_held, keys_held}
@@ -22,14 +22,14 @@ returns-then-len-eq1-clause-units g c clean store =
     let key = c.index.result.now in
     let joint = IsTrue found.are_neighbours in
     let one : length keys ≡ 1 = sym found.keys.ok.0 ∙ sym c.len.ensures ∙ c.if-len-eq1.true in
-    let met = c.in_ok-found.ensures.units (clean_before mid new c.key_list.ensures.call.crash clean) store in
+    let met = c.in_ok-found.ensures.units (clean_before mid new c.key_list.ensures.units.call.crash clean) store in
     let hides = λ (trees : Trees). has_malformed format trees of.db.0 key in
     let lists = λ (trees : Trees) (list : Vec Posting Global). ListsUnits format trees of.db.0 key list.items in
     tells_more hides (λ trees. HidesWord format trees of.db.0 of.index c.args.pattern.now) lists
     (λ (trees : Trees) (list : Vec Posting Global). ReadsWord format trees of.db.0 of.index c.args.pattern.now list.items × IsStrictlySortedBy posting_cmp list.items) old new c.key_list.result
     (λ _ _ bad. entries_hidden format old.now.trees of (wanted.Matching c.args.pattern) found met (one_hides format old.now.trees of joint keys key one c.index.ensures met.are bad))
     (λ _ _ list its. (entries_read format old.now.trees of (wanted.Matching c.args.pattern) found met list.items (one_lists format old.now.trees of joint keys key one c.index.ensures met.are list.items its), its.rising))
-    (tells_later hides lists old mid new (as_read old mid found c.in_ok-found.ensures.call) c.key_list.ensures.call.crash c.key_list.result c.key_list.ensures.units) clean store
+    (tells_later hides lists old mid new (as_read old mid found c.in_ok-found.ensures.call) c.key_list.ensures.units.call.crash c.key_list.result (looks_tell _ _ _ _ _ c.key_list.ensures.units)) clean store
 
 pub returns-clause-units : goal.returns-clause-units
 returns-clause-units g c clean store =
@@ -63,7 +63,7 @@ returns-then-len-eq1-clause-work g c =
     (list_told format of.db.0 c.index.result.now mid new c.key_list.result c.key_list.ensures.units) (told_held (holds_in g.L.Layout.format) _ mid new c.key_list.result c.key_list.ensures.work) in
     on_ok_weaker c.key_list.result
     (λ counted. found_counted format (λ content. EntryDict g.L.Layout.row_work content of.db.0 (HasNoStar c.args.pattern.now) of.index register.Word) rows of (Fits c.args.pattern.now) found
-    old mid new c.args.work.now c.keys_wanted.new.work c.key_list.new.work (as_read old mid found c.in_ok-found.ensures.call) c.key_list.ensures.call.crash c.in_ok-found.ensures.work
+    old mid new c.args.work.now c.keys_wanted.new.work c.key_list.new.work (as_read old mid found c.in_ok-found.ensures.call) c.key_list.ensures.units.call.crash c.in_ok-found.ensures.work
     (λ first store content has. (let met = c.in_ok-found.ensures.units first store in (keys_held format old.now.trees of (wanted.Matching c.args.pattern) found met content has, found_held format old.now.trees of (wanted.Matching c.args.pattern) found met content has)))
     (each_counted format rows of.db.0 (λ content. AreFound content of found) found.keys.items mid new c.keys_wanted.new.work c.key_list.new.work counted)) listed
 

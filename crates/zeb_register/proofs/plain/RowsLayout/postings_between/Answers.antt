@@ -1,17 +1,13 @@
-use Rattle.zeb_register.proofs.Cited.{state, arith, inl, IfOk-weaker, plain_rows, HasMalformedBetween, ListsBetween}
-use Rattle.zeb_register.proofs.Answered.{told_or}
+use Rattle.zeb_register.proofs.Cited.{state, arith, inl, IfOk-weaker, plain_rows}
 use Rattle.zeb_register.proofs.BetweenLists.{between_told}
 use Rattle.zeb_register.proofs.CountLemmas.{none_in_sum}
 use Rattle.zeb_register.proofs.plain.RowsLayout.postings_between.Goals as goal
 
 pub returns-clause-units : goal.returns-clause-units
-returns-clause-units g c =
-    told_or (λ trees. HasMalformedBetween plain_rows trees c.args.at c.args.first.now c.args.last.now) (λ trees list. ListsBetween plain_rows trees c.args.at c.args.first.now c.args.last.now list.items) (state g.S.Store c.args.conn.now) (state g.S.Store c.postings_between.new.conn) c.postings_between.result c.postings_between.ensures.lists c.postings_between.ensures.refused
+returns-clause-units g c = c.postings_between.ensures
 
 pub returns-clause-work : goal.returns-clause-work
 returns-clause-work g c clean store =
-    let old = state g.S.Store c.args.conn.now in
-    let new = state g.S.Store c.postings_between.new.conn in
     IfOk-weaker c.postings_between.result _ _ (λ list value content holds keys known.
     let none = none_in_sum keys in
     record {
@@ -19,5 +15,4 @@ returns-clause-work g c clean store =
       writes_terms = inl (omega arith);
       reads_blocks = inl (omega (arith, none));
       writes_blocks = inl (omega arith);
-    }) (between_told plain_rows c.args.at c.args.first.now c.args.last.now old new c.postings_between.result
-    (told_or (λ trees. HasMalformedBetween plain_rows trees c.args.at c.args.first.now c.args.last.now) (λ trees list. ListsBetween plain_rows trees c.args.at c.args.first.now c.args.last.now list.items) old new c.postings_between.result c.postings_between.ensures.lists c.postings_between.ensures.refused) clean store)
+    }) (between_told plain_rows c.args.at c.args.first.now c.args.last.now (state g.S.Store c.args.conn.now) (state g.S.Store c.postings_between.new.conn) c.postings_between.result c.postings_between.ensures clean store)

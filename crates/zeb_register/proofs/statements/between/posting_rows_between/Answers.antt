@@ -1,20 +1,17 @@
 use Rattle.zeb_register.proofs.Cited.{pos, register_code, IsRestBetween, postings_tree, ◌∙◌, refl}
+use Rattle.zeb_register.proofs.AsksInTurn.{asks_list}
 use Rattle.zeb_register.proofs.BetweenStatements.{lists_postings, postings_query}
-use Rattle.zeb_register.proofs.Calls.{lists_read}
 use Rattle.zeb_register.proofs.BoundColumns.{looks_up_so, none_bound, register_bound, value_bound}
 use Rattle.zeb_register.proofs.PostingStatements.{register_of}
-use Rattle.zeb_register.proofs.Refusals.{refused, why_failed}
+use Rattle.zeb_register.proofs.Refusals.{refused}
 use Rattle.zeb_register.proofs.statements.between.posting_rows_between.Goals as goal
 
 pub look_up-requires : goal.look_up-requires
 look_up-requires g c = (postings_query c.args.at.db.0 (pos c.args.at.index) (pos (register_code c.args.at.register)) c.args.first.now c.args.end.now).silent
 
-pub returns-clause-call : goal.returns-clause-call
-returns-clause-call g c = lists_read (IsRestBetween postings_tree (register_of c.args.at.db.0 (pos c.args.at.index) (pos (register_code c.args.at.register))) c.args.first.now c.args.end.now) _ _ c.look_up.result (λ rows store shown. lists_postings c.args.at.db.0 (pos c.args.at.index) (pos (register_code c.args.at.register)) c.args.first.now c.args.end.now _ _ rows store shown)
-    (looks_up_so c.look_up.ensures (register_bound c.column-db.ensures.fits c.column-db.ensures.value (c.from-reg.ensures ∙ c.code.ensures) c.params-to_sql.ensures c.params-to_sql-2.ensures c.params-to_sql-3.ensures
-    (value_bound c.params-to_sql-4.ensures refl (value_bound c.params-to_sql-5.ensures refl none_bound))))
-
-pub returns-clause-err : goal.returns-clause-err
-returns-clause-err g c = why_failed (refused (postings_query c.args.at.db.0 (pos c.args.at.index) (pos (register_code c.args.at.register)) c.args.first.now c.args.end.now)) _ _ c.look_up.result
+pub returns : goal.returns
+returns g c =
+    asks_list (IsRestBetween postings_tree (register_of c.args.at.db.0 (pos c.args.at.index) (pos (register_code c.args.at.register))) c.args.first.now c.args.end.now) (refused (postings_query c.args.at.db.0 (pos c.args.at.index) (pos (register_code c.args.at.register)) c.args.first.now c.args.end.now)) _ _ c.look_up.result
+    (λ rows store shown. lists_postings c.args.at.db.0 (pos c.args.at.index) (pos (register_code c.args.at.register)) c.args.first.now c.args.end.now _ _ rows store shown)
     (looks_up_so c.look_up.ensures (register_bound c.column-db.ensures.fits c.column-db.ensures.value (c.from-reg.ensures ∙ c.code.ensures) c.params-to_sql.ensures c.params-to_sql-2.ensures c.params-to_sql-3.ensures
     (value_bound c.params-to_sql-4.ensures refl (value_bound c.params-to_sql-5.ensures refl none_bound))))

@@ -1,19 +1,16 @@
 use Rattle.zeb_register.proofs.Cited.{register_code, pos, IsRest, postings_tree, key_of, ◌∙◌, refl}
-use Rattle.zeb_register.proofs.Calls.{lists_read}
+use Rattle.zeb_register.proofs.AsksInTurn.{asks_list}
 use Rattle.zeb_register.proofs.PostingStatements.{lists_key, key_query}
 use Rattle.zeb_register.proofs.BoundColumns.{looks_up_so, none_bound, register_bound, value_bound}
-use Rattle.zeb_register.proofs.Refusals.{refused, why_failed}
+use Rattle.zeb_register.proofs.Refusals.{refused}
 use Rattle.zeb_register.proofs.statements.postings.posting_rows.Goals as goal
 
 pub look_up-requires : goal.look_up-requires
 look_up-requires g c = (key_query c.args.at.db.0 (pos c.args.at.index) (pos (register_code c.args.at.register)) c.args.term.now).silent
 
-pub returns-clause-call : goal.returns-clause-call
-returns-clause-call g c = lists_read (IsRest postings_tree (key_of c.args.at.db.0 (pos c.args.at.index) (pos (register_code c.args.at.register)) c.args.term.now)) _ _ c.look_up.result (λ rows store shown. lists_key c.args.at.db.0 (pos c.args.at.index) (pos (register_code c.args.at.register)) c.args.term.now _ _ rows store shown)
-    (looks_up_so c.look_up.ensures (register_bound c.column-db.ensures.fits c.column-db.ensures.value (c.from-reg.ensures ∙ c.code.ensures) c.params-to_sql.ensures c.params-to_sql-2.ensures c.params-to_sql-3.ensures
-    (value_bound c.params-to_sql-4.ensures refl none_bound)))
-
-pub returns-clause-err : goal.returns-clause-err
-returns-clause-err g c = why_failed (refused (key_query c.args.at.db.0 (pos c.args.at.index) (pos (register_code c.args.at.register)) c.args.term.now)) _ _ c.look_up.result
+pub returns : goal.returns
+returns g c =
+    asks_list (IsRest postings_tree (key_of c.args.at.db.0 (pos c.args.at.index) (pos (register_code c.args.at.register)) c.args.term.now)) (refused (key_query c.args.at.db.0 (pos c.args.at.index) (pos (register_code c.args.at.register)) c.args.term.now)) _ _ c.look_up.result
+    (λ rows store shown. lists_key c.args.at.db.0 (pos c.args.at.index) (pos (register_code c.args.at.register)) c.args.term.now _ _ rows store shown)
     (looks_up_so c.look_up.ensures (register_bound c.column-db.ensures.fits c.column-db.ensures.value (c.from-reg.ensures ∙ c.code.ensures) c.params-to_sql.ensures c.params-to_sql-2.ensures c.params-to_sql-3.ensures
     (value_bound c.params-to_sql-4.ensures refl none_bound)))
