@@ -18,7 +18,7 @@ pub use Rattle.std.proofs.lemmas.Str.Pattern.{split_once_first}
 pub use Rattle.std.specs.Char.{len_utf8, is_ascii_digit}
 pub use Rattle.std.specs.List.{list_all, list_any, position_or_len, before_first, after_first, find, AllPass, flat_map}
 pub use Rattle.std.specs.Option.{is_none, option_copied, unwrap_or, option_map, option_to_list}
-pub use Rattle.std.specs.Prelude.{Result, Ok, Err, IfOk, not, map, ◌||◌, option_and_then, ◌&&◌, IfSome, nat_lt, nat_le, slice_get, if◌then◌else◌, ◌==◌, string_bytes}
+pub use Rattle.std.specs.Prelude.{Result, Ok, Err, MatchResult, IfOk, not, map, ◌||◌, option_and_then, ◌&&◌, IfSome, nat_lt, nat_le, slice_get, if◌then◌else◌, ◌==◌, string_bytes}
 pub use Rattle.std.specs.Result.{OnOk, IfErr, result_ok}
 pub use Rattle.std.specs.Str.{all_ascii_digits, bytes_eq, NonePass}
 pub use Rattle.std.specs.Str.Parse.{digits_value, ParsesUnsigned}
@@ -30,7 +30,7 @@ pub use Rattle.zeb_query.specs.Grammar.{few, many, is_number, number_of, TreeVal
 pub use Rattle.zeb_query.specs.Places.{IsBeginning, IsQueryWithin, IsBeginningWithin, IsStrange, IsUnfinished, IsUnspelled, IsCrowded, operators, IsFaultOf, IsReadable, IsFaulty, is_long, is_unspelled, is_crowded}
 pub use Rattle.zeb_query.specs.Plans.{BeginsAtKey, HasSmallNumber, HasSmallNumbers, NearOf, NumberOf, OrderedOf, PairOf, PlanValue, RecordNumberOf, ScanValue, TermOf, TermPlanValue, asked_with, entries_asked, near_asked, operand_pattern, plan_of, plan_value, scan_value, start_asked, subject_asked, texts_asked, tree_asked, tree_scanned, words_asked}
 pub use Rattle.zeb_query.specs.PrivatePlanning.{◌>>=◌, index_read, kept_or, operands_plan, passed, patterns_read, related_plan, subject_index, subject_plan, subject_read, tree_plan}
-pub use Rattle.zeb_query.specs.PrivateReading.{words_with, first_keyword, word_of, left, fault_of, ReadsText, ReadsWord, IsSpec, SpellsAttribute, SpellsHead, SpellsMore, SpellsParameters, SpellsOperator, SpellsSet, Spells, SpellsUnder, IsFault, held_with, with_set, IsDiagnostic, holding_value}
+pub use Rattle.zeb_query.specs.PrivateReading.{words_with, first_keyword, word_of, left, fault_of, more_structures, IsRead, ReadsQuery, ReadsStructure, ReadsText, ReadsWord, IsSpec, SpellsAttribute, SpellsHead, SpellsWholeHead, SpellsMore, SpellsParameters, SpellsOperator, SpellsSet, Spells, SpellsUnder, IsFault, held_with, with_set, IsDiagnostic, holding_value}
 pub use Rattle.zeb_query.specs.PrivateWalk.{parameter_count, words_at, Due, Start, Structures, SetOrSpec, Spec, MoreWords, words_then, fault, fault_at_end, Step, Allowed, Refused, step, good_step, structure_step, start_step, spec_step, operator_step, Begun, unquoted, in_word, in_quotes, plain_word, quoted_word, with_front}
 pub use Rattle.zeb_query.specs.Words.{Word, AreWords, is_blank, Sign, Itself, Escaped, sign_text, meant, is_sign, IsCutOff, IsWritten, is_plain, is_braced, is_quoted, is_open, Stretch, stretch_text, stretch_word, IsStretch}
 pub use Rattle.zeb_query.specs.declared.attributes.Asked.{Asked}
@@ -50,6 +50,7 @@ pub use Rattle.zeb_query.specs.declared.plans.Relation.TheVariants.{Equal}
 pub use Rattle.zeb_query.specs.declared.plans.Separation.{Separation}
 pub use Rattle.zeb_query.specs.declared.keywords.OperatorWord.{OperatorWord}
 pub use Rattle.zeb_query.specs.declared.keywords.OperatorWord.TheVariants.{And, Or, Not, Proximity}
+pub use Rattle.zeb_query.specs.declared.queries.Query.{Query}
 pub use Rattle.zeb_query.specs.declared.queries.Tree.{Term, Tree}
 pub use Rattle.zeb_query.specs.declared.values.Purpose.{Purpose}
 pub use Rattle.zeb_query.specs.declared.values.Purpose.TheVariants.{Find, Scan, Near}

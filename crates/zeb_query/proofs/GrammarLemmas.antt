@@ -1,5 +1,5 @@
 -- Steps of a reader of queries, in the words of the grammar.
-use Rattle.zeb_query.proofs.Cited.{◌≡◌, ◌≢◌, ℕ, suc, ◌<◌, ◌+◌, true, false, List, [], ◌∷◌, ◌++◌, Option, Some, None, length, cond, eqb, refl, ap, sym, subst, ◌∙◌, arith, append_assoc, ◌-◌, zero, nil_from_length, operator_step, IsQuery, option_and_then, nat_lt, map, list_all, before_first, after_first, position_or_len, nat_tests, length-map, length-append, Rest, Spelling, Plain, Quoted, Bad, OperatorWord, Keyword, AttributeSet, Attribute, TermType, ResultSet, Operator, number_of, keyword_of, if_any, is_equals_sign, has_equals, is_good, is_good_spelling, IsStructure, is_attribute, is_attribute_of_set, under, heads, no_head, or_else, with_type, text_of, is_term, is_named, is_pair, parameter_count, is_structure, is_structure_of_set, AttributeValue, HeadValue, TreeValue, TermValue, NamedValue, PairValue, Word, left, word_of, fault_of, first_keyword, ReadsText, ReadsWord, IsSpec, SpellsAttribute, SpellsHead, SpellsMore, SpellsParameters, SpellsOperator, SpellsSet, Spells, SpellsUnder, Due, Start, Structures, MoreWords, words_then, fault, Step, Allowed, Refused, step, structure_step, start_step, And, Or, Not, Proximity, ConnectiveValue, connective_of, ◌&&◌, QueryFault, Diagnostic, Memory, IsFault, IsDiagnostic, Result, Ok, Err, IfErr, Bool}
+use Rattle.zeb_query.proofs.Cited.{◌≡◌, ◌≢◌, ℕ, suc, ◌<◌, ◌+◌, true, false, List, [], ◌∷◌, ◌++◌, Option, Some, None, length, cond, eqb, refl, ap, sym, subst, ◌∙◌, arith, append_assoc, ◌-◌, zero, nil_from_length, operator_step, IsQuery, option_and_then, nat_lt, map, list_all, before_first, after_first, position_or_len, nat_tests, length-map, length-append, Rest, Spelling, Plain, Quoted, Bad, OperatorWord, Keyword, AttributeSet, Attribute, TermType, ResultSet, Operator, number_of, keyword_of, if_any, is_equals_sign, has_equals, is_good, is_good_spelling, IsStructure, is_attribute, is_attribute_of_set, under, heads, no_head, or_else, with_type, text_of, is_term, is_named, is_pair, parameter_count, is_structure, is_structure_of_set, AttributeValue, HeadValue, TreeValue, TermValue, NamedValue, PairValue, Word, left, word_of, fault_of, first_keyword, ReadsText, ReadsWord, IsSpec, SpellsAttribute, SpellsHead, SpellsMore, SpellsParameters, SpellsOperator, SpellsSet, Spells, SpellsUnder, Due, Start, Structures, words_then, fault, Step, Allowed, Refused, step, structure_step, start_step, And, Or, Not, Proximity, ConnectiveValue, connective_of, ◌&&◌, QueryFault, Diagnostic, Memory, IsFault, IsDiagnostic, Result, Ok, Err, MatchResult, Bool, Tree, tree_value, IsRead, ReadsStructure, SpellsWholeHead, more_structures}
 use Rattle.std.specs.Result.{IsErrAnd}
 use Rattle.zeb_query.specs.PrivateReading.{first_place}
 use Rattle.zeb_query.specs.declared.words.Word.{Word as WordOfText}
@@ -30,22 +30,22 @@ if_any-more kind [] e = cc
 if_any-more kind (b ∷ bs) e = refl
 
 -- an attribute without a set, and one with it
-pub spells_attribute : (rest after : Rest) (a : AttributeValue) (spec : Word) → left rest ≡ spec ∷ left after → is_good spec ≡ true → IsSpec spec None a → SpellsAttribute rest after a
-spells_attribute rest after a spec is good s = record {
+pub spells_attribute : (rest after : Rest) (a : AttributeValue) (spec : Word) → ReadsWord rest after spec → IsSpec spec None a → SpellsAttribute rest after a
+spells_attribute rest after a spec reads s = record {
   words = spec ∷ [];
-  is = is;
+  is = reads.is;
   spells = λ attr more tree keyword spelled.
       subst (λ set. IsStructure (attr ∷ spec ∷ more) (under (record { attributes = record { set = set; kind = a.kind; value = a.value } ∷ []; term_type = None }) tree)) (sym s.set_is)
-      (is_attribute attr spec more tree (a.kind, a.value) keyword good s.read spelled);
+      (is_attribute attr spec more tree (a.kind, a.value) keyword reads.good s.read spelled);
 }
 
-pub spells_attribute_of_set : (rest middle after : Rest) (a : AttributeValue) (set spec : Word) (text : List ℕ) → left rest ≡ set ∷ left middle → is_good set ≡ true → has_equals set.text ≡ false → text ≡ set.text → left middle ≡ spec ∷ left after → is_good spec ≡ true → IsSpec spec (Some text) a → SpellsAttribute rest after a
-spells_attribute_of_set rest middle after a set spec text is good plain same then good_spec s = record {
+pub spells_attribute_of_set : (rest middle after : Rest) (a : AttributeValue) (set spec : Word) (text : List ℕ) → ReadsWord rest middle set → has_equals set.text ≡ false → text ≡ set.text → ReadsWord middle after spec → IsSpec spec (Some text) a → SpellsAttribute rest after a
+spells_attribute_of_set rest middle after a set spec text reads plain same then s = record {
   words = set ∷ spec ∷ [];
-  is = is ∙ ap (λ ws. set ∷ ws) then;
+  is = reads.is ∙ ap (λ ws. set ∷ ws) then.is;
   spells = λ attr more tree keyword spelled.
       subst (λ named. IsStructure (attr ∷ set ∷ spec ∷ more) (under (record { attributes = record { set = named; kind = a.kind; value = a.value } ∷ []; term_type = None }) tree)) (sym (s.set_is ∙ ap (λ t. Some t) same))
-      (is_attribute_of_set attr set spec more tree (a.kind, a.value) keyword good plain good_spec s.read spelled);
+      (is_attribute_of_set attr set spec more tree (a.kind, a.value) keyword reads.good plain then.good s.read spelled);
 }
 
 -- what follows a step
@@ -96,11 +96,6 @@ fault_of-keyword k rest middle w reads found n due allowed =
     fault_of-read rest middle w reads (Structures (suc n)) due (λ end room ws. fault-step end room (Structures (suc n)) w ws (Allowed room due)
     (step-structure room n w (good_from_keyword w k found) ∙ ap (λ key. structure_step room key n) found ∙ allowed room))
 
--- a word of any kind where words are due
-pub fault_of-word : (rest middle : Rest) (w : Word) → ReadsWord rest middle w → is_good w ≡ true → (k n : ℕ) → fault_of rest (MoreWords k n) ≡ fault_of middle (words_then k n)
-fault_of-word rest middle w reads good k n =
-    fault_of-read rest middle w reads (MoreWords k n) (words_then k n) (λ end room ws. fault-step end room (MoreWords k n) w ws (Allowed room (words_then k n)) (rw good refl))
-
 -- heads one after another
 pub append-nil : {A : Type 0} (xs : List A) → xs ++ [] ≡ xs
 append-nil [] = refl
@@ -115,21 +110,28 @@ heads-assoc a b c =
     ap (λ attributes. record { attributes = attributes; term_type = or_else c.term_type (or_else b.term_type a.term_type) }) (append_assoc a.attributes b.attributes c.attributes)
     ∙ ap (λ type. record { attributes = a.attributes ++ (b.attributes ++ c.attributes); term_type = type }) (or_else-assoc a.term_type b.term_type c.term_type)
 
-pub under-under : (a b : HeadValue) (tree : TreeValue) → under a (under b tree) ≡ under (heads a b) tree
+under-under : (a b : HeadValue) (tree : TreeValue) → under a (under b tree) ≡ under (heads a b) tree
 under-under a b (TermValue place head text) = ap (λ h. TermValue place h text) (sym (heads-assoc a b head))
 under-under a b (NamedValue place head name) = ap (λ h. NamedValue place h name) (sym (heads-assoc a b head))
 under-under a b (PairValue place head connective left right) = ap (λ h. PairValue place h connective left right) (sym (heads-assoc a b head))
 
--- one more piece of a head
-pub spells_more : (start rest after : Rest) (old new : HeadValue) → SpellsHead start rest old → SpellsMore rest after old new → SpellsHead start after new
-spells_more start rest after old new s m = subst (λ head. SpellsHead start after head) (sym m.new_is) (record {
-  words = s.words ++ (m.keyword ∷ m.words);
-  is = s.is ∙ ap (λ ws. s.words ++ ws) m.is ∙ sym (append_assoc s.words (m.keyword ∷ m.words) (left after));
-  spells = λ more tree spelled.
-      subst (λ ws. IsStructure ws (under (heads old m.piece) tree)) (sym (append_assoc s.words (m.keyword ∷ m.words) more))
-      (subst (λ t. IsStructure (s.words ++ (m.keyword ∷ (m.words ++ more))) t) (under-under old m.piece tree)
-      (s.spells (m.keyword ∷ (m.words ++ more)) (under m.piece tree) (m.spells more tree spelled)));
-})
+-- one more piece of a head is read
+pub reads_more : (start rest after : Rest) (old new : HeadValue) → IsRead more_structures more_structures start rest (SpellsHead start rest old) → IsRead more_structures more_structures rest after (SpellsMore rest after old new)
+    → IsRead more_structures more_structures start after (SpellsHead start after new)
+reads_more start rest after old new first second =
+    let s = first.spelled in
+    let m = second.spelled in
+    record {
+      goes = λ n. first.goes n ∙ second.goes n;
+      spelled = subst (λ head. SpellsHead start after head) (sym m.new_is) (record {
+        words = s.words ++ (m.keyword ∷ m.words);
+        is = s.is ∙ ap (λ ws. s.words ++ ws) m.is ∙ sym (append_assoc s.words (m.keyword ∷ m.words) (left after));
+        spells = λ more tree spelled.
+            subst (λ ws. IsStructure ws (under (heads old m.piece) tree)) (sym (append_assoc s.words (m.keyword ∷ m.words) more))
+            (subst (λ t. IsStructure (s.words ++ (m.keyword ∷ (m.words ++ more))) t) (under-under old m.piece tree)
+            (s.spells (m.keyword ∷ (m.words ++ more)) (under m.piece tree) (m.spells more tree spelled)));
+      });
+    }
 
 pub heads-with_type : (h : HeadValue) (t : List ℕ) → record { attributes = h.attributes; term_type = Some t } ≡ heads h (with_type t)
 heads-with_type h t = ap (λ attributes. record { attributes = attributes; term_type = Some t }) (sym (append-nil h.attributes))
@@ -138,7 +140,7 @@ heads-to_no_head : (h : HeadValue) → heads h no_head ≡ h
 heads-to_no_head h = ap (λ attributes. record { attributes = attributes; term_type = h.term_type }) (append-nil h.attributes)
 
 -- a structure after its head
-pub spells_after : (start rest after : Rest) (head : HeadValue) (tree : TreeValue) → SpellsHead start rest head → SpellsUnder rest after head tree → Spells start after tree
+spells_after : (start rest after : Rest) (head : HeadValue) (tree : TreeValue) → SpellsHead start rest head → SpellsUnder rest after head tree → Spells start after tree
 spells_after start rest after head tree s u =
     subst (λ t. Spells start after t) (sym u.is_under) (record {
       words = s.words ++ u.spelled.words;
@@ -146,11 +148,11 @@ spells_after start rest after head tree s u =
       spells = s.spells u.spelled.words u.bare u.spelled.spells;
     })
 
-pub spells_term : (rest after : Rest) (head : HeadValue) (w : Word) (text : List ℕ) → ReadsWord rest after w → is_good w ≡ true → None ≡ keyword_of w → text ≡ w.text → SpellsUnder rest after head (TermValue w.place head text)
-spells_term rest after head w text reads good key same = record {
+pub spells_term : (rest after : Rest) (head : HeadValue) (w : Word) (text : List ℕ) → ReadsWord rest after w → None ≡ keyword_of w → text ≡ w.text → SpellsUnder rest after head (TermValue w.place head text)
+spells_term rest after head w text reads key same = record {
   bare = TermValue w.place no_head w.text;
   is_under = ap (λ t. TermValue w.place head t) same ∙ ap (λ h. TermValue w.place h w.text) (sym (heads-to_no_head head));
-  spelled = record { words = w ∷ []; is = reads.is; spells = is_term w good (sym key) };
+  spelled = record { words = w ∷ []; is = reads.is; spells = is_term w reads.good (sym key) };
 }
 
 pub spells_named : (rest middle after : Rest) (head : HeadValue) (set : Word) (text : List ℕ) → ReadsWord rest middle set → keyword_of set ≡ Some ResultSet → ReadsText middle after text → SpellsUnder rest after head (NamedValue set.place head text)
@@ -160,21 +162,27 @@ spells_named rest middle after head set text reads key name = record {
   spelled = record {
     words = set ∷ name.word ∷ [];
     is = reads.is ∙ ap (λ ws. set ∷ ws) name.reads.is;
-    spells = is_named set name.word key name.good;
+    spells = is_named set name.word key name.reads.good;
   };
 }
 
 -- no parameters, and one more in front
-pub spells_no_more : (rest : Rest) → SpellsParameters rest rest []
-spells_no_more rest = record { words = []; is = refl; good = refl; texts_are = refl }
+pub no_parameters : (rest : Rest) → IsRead Structures Structures rest rest (SpellsParameters rest rest [])
+no_parameters rest = record { goes = λ n. refl; spelled = record { words = []; is = refl; good = refl; texts_are = refl } }
 
-pub spells_next : (rest middle after : Rest) (text : List ℕ) (texts : List (List ℕ)) → ReadsText rest middle text → SpellsParameters middle after texts → SpellsParameters rest after (text ∷ texts)
-spells_next rest middle after text texts r s = record {
-  words = r.word ∷ s.words;
-  is = r.reads.is ∙ ap (λ ws. r.word ∷ ws) s.is;
-  good = ap (λ b. b && list_all is_good s.words) r.good ∙ s.good;
-  texts_are = ap (λ t. t ∷ map text_of s.words) (sym r.text_is) ∙ ap (λ ts. text ∷ ts) s.texts_are;
-}
+pub parameter_read : (k : ℕ) (rest middle after : Rest) (text : List ℕ) (texts : List (List ℕ)) → ReadsText rest middle text
+    → IsRead (words_then k) Structures middle after (SpellsParameters middle after texts) → IsRead (words_then (suc k)) Structures rest after (SpellsParameters rest after (text ∷ texts))
+parameter_read k rest middle after text texts r second =
+    let s = second.spelled in
+    record {
+      goes = λ n. r.goes k n ∙ second.goes n;
+      spelled = record {
+        words = r.word ∷ s.words;
+        is = r.reads.is ∙ ap (λ ws. r.word ∷ ws) s.is;
+        good = ap (λ b. b && list_all is_good s.words) r.reads.good ∙ s.good;
+        texts_are = ap (λ t. t ∷ map text_of s.words) (sym r.text_is) ∙ ap (λ ts. text ∷ ts) s.texts_are;
+      };
+    }
 
 -- the whole of a query, after which nothing is left
 pub spells_whole : (rest middle after : Rest) (set : Option (List ℕ)) (tree : TreeValue) → SpellsSet rest middle set → Spells middle after tree → left after ≡ [] → IsQuery (left rest) (record { attrset = set; tree = tree })
@@ -187,7 +195,7 @@ pub ended : (rest : Rest) → true ≡ eqb (length rest.words.now) 0 → left re
 ended rest e = ap (λ words. map word_of words) (nil_from_length rest.words.now (zero_from_test (length rest.words.now) e))
 
 -- as many parameters as the operator has
-pub count_of : (word : OperatorWord) (texts : List (List ℕ)) (connective : ConnectiveValue) → connective_of word texts ≡ Some connective → length texts ≡ parameter_count word
+count_of : (word : OperatorWord) (texts : List (List ℕ)) (connective : ConnectiveValue) → connective_of word texts ≡ Some connective → length texts ≡ parameter_count word
 count_of And [] connective e = refl
 count_of And (a ∷ texts) connective e = absurd cc
 count_of Or [] connective e = refl
@@ -240,7 +248,7 @@ operator_goes operator rest middle w reads found ne n =
     (step-structure middle.room n w (good_from_keyword w (Operator operator) found) ∙ ap (λ key. structure_step middle.room key n) found ∙ operator_allowed middle.room n operator ne)
 
 -- a word that is no operator on sets is that of proximity
-pub is_proximity : (operator : OperatorWord) → connective_of operator [] ≡ None → operator ≡ Proximity
+is_proximity : (operator : OperatorWord) → connective_of operator [] ≡ None → operator ≡ Proximity
 is_proximity And e = absurd cc
 is_proximity Or e = absurd cc
 is_proximity Not e = absurd cc
@@ -252,6 +260,31 @@ pub proximity_goes : (operator : OperatorWord) (rest middle : Rest) (w : Word) �
 proximity_goes operator rest middle w reads found ne none n =
     operator_goes operator rest middle w reads found ne n
     ∙ ap (λ word. fault middle.end (middle.room - 1) (words_then (parameter_count word) (suc (suc n))) (left middle)) (is_proximity operator none)
+
+-- one whose parameters are read, none or six
+pub operator_read : (operator : OperatorWord) (rest middle after : Rest) (w : Word) (texts : List (List ℕ)) (connective : ConnectiveValue) → ReadsWord rest middle w → keyword_of w ≡ Some (Operator operator) → (middle.room ≡ 0 → ⊥)
+    → connective_of operator texts ≡ Some connective → IsRead (words_then (length texts)) Structures (record middle { room = middle.room - 1 }) after (SpellsParameters (record middle { room = middle.room - 1 }) after texts)
+    → IsRead more_structures (λ n. more_structures (suc n)) rest after (SpellsOperator rest after operator w.place connective)
+operator_read operator rest middle after w texts connective reads found ne is read =
+    let s = read.spelled in
+    record {
+      goes = λ n.
+          operator_goes operator rest middle w reads found ne n
+          ∙ ap (λ k. fault middle.end (middle.room - 1) (words_then k (suc (suc n))) (left middle)) (sym (count_of operator texts connective is))
+          ∙ read.goes (suc (suc n));
+      spelled = record {
+        operator = w;
+        words = s.words;
+        is = reads.is ∙ ap (λ ws. w ∷ ws) s.is;
+        place_is = refl;
+        keyword = found;
+        good = s.good;
+        connective_is = ap (connective_of operator) s.texts_are ∙ is;
+      };
+    }
+
+pub proximity_with : (operator : OperatorWord) (texts : List (List ℕ)) (connective : ConnectiveValue) → connective_of operator [] ≡ None → connective_of Proximity texts ≡ Some connective → connective_of operator texts ≡ Some connective
+proximity_with operator texts connective none is = ap (λ word. connective_of word texts) (is_proximity operator none) ∙ is
 
 pub spells_pair : (rest first middle after : Rest) (head : HeadValue) (word : OperatorWord) (place : ℕ) (connective : ConnectiveValue) (x y : TreeValue) → SpellsOperator rest first word place connective → Spells first middle x → Spells middle after y → SpellsUnder rest after head (PairValue place head connective x y)
 spells_pair rest first middle after head word place connective x y o l r = record {
@@ -290,7 +323,7 @@ spells_set rest middle after keyword text reads found name =
     (record {
       words = keyword ∷ name.word ∷ [];
       is = reads.is ∙ ap (λ ws. keyword ∷ ws) name.reads.is;
-      spells = λ more tree spelled. is_structure_of_set keyword name.word more tree found name.good spelled;
+      spells = λ more tree spelled. is_structure_of_set keyword name.word more tree found name.reads.good spelled;
     })
 
 -- ---- faults
@@ -302,14 +335,20 @@ told_as (Diagnostic n p a) number place expected is e =
     (e ∙ ap (λ m. Some (m, place)) (sym is.0) ∙ ap (λ at. Some (n, at)) (sym is.1), is.2)
 
 -- a call hands on an error
-pub handed_on : {A : Type 0} (r : Result A QueryFault) (e : QueryFault) (P : QueryFault → Type 0) → IsErrAnd r (λ met. met ≡ e) → P e → IfErr r P
-handed_on (Ok x) e P failed p = absurd failed
-handed_on (Err f) e P is p = subst P (sym is) p
+pub handed_on : {A : Type 0} (r : Result A QueryFault) (e : QueryFault) (P : A → Type 0) (Q : QueryFault → Type 0) → IsErrAnd r (λ met. met ≡ e) → Q e → MatchResult r P Q
+handed_on (Ok x) e P Q failed q = absurd failed
+handed_on (Err f) e P Q is q = subst Q (sym is) q
 
--- which is the fault of a part, and so that of the whole
-pub passes_on : {A N : Type 0} (r : Result A QueryFault) (e : QueryFault) (whole part : N → Option (ℕ × ℕ)) → IsErrAnd r (λ met. met ≡ e) → ((n : N) → whole n ≡ part n) → ((n : N) → IsFault e (part n)) → IfErr r (λ f. (n : N) → IsFault f (whole n))
-passes_on {N = N} r e whole part failed same fails =
-    handed_on r e (λ f. (n : N) → IsFault f (whole n)) failed (λ n. subst (λ expected. IsFault e expected) (sym (same n)) (fails n))
+-- it is the fault of a part, and so that of the whole
+pub fault_behind : (e : QueryFault) {whole part : Option (ℕ × ℕ)} → whole ≡ part → IsFault e part → IsFault e whole
+fault_behind e same fault = subst (IsFault e) (sym same) fault
+
+-- a structure after its head, whatever a function gives that reads behind that
+pub reads_after : (start rest : Rest) (head : HeadValue) (r : Result (Tree × Rest) QueryFault) → IsRead more_structures more_structures start rest (SpellsWholeHead start rest head)
+    → ReadsStructure rest (λ after tree. SpellsUnder rest after head (tree_value tree)) r → ReadsStructure start (λ after tree. Spells start after (tree_value tree)) r
+reads_after start rest head (Ok read) first second =
+    record { goes = λ n. first.goes n ∙ second.goes n; spelled = spells_after start rest read.1 head (tree_value read.0) first.spelled.spelled second.spelled }
+reads_after start rest head (Err e) first second = λ n. fault_behind e (first.goes n) (second n)
 
 -- no word may follow
 pub unended : (end room : ℕ) (words : List WordOfText) → false ≡ eqb (length words) 0 → fault end room (Structures 0) (map word_of words) ≡ Some (108, first_place end (map word_of words))

@@ -1,5 +1,5 @@
 -- What a text is: the query that it spells, or its fault.
-use Rattle.zeb_query.proofs.Cited.{◌≡◌, ◌⊎◌, ℕ, ◌<◌, ◌≤◌, Bool, true, false, cond, List, Option, Some, None, inl, inr, length, refl, ap, sym, subst, ◌∙◌, arith, nat_lt, if◌then◌else◌, Result, Ok, Err, OnOk, IfErr, nat_tests, Word, AreWords, words_at, Start, fault, IsQuery, QueryValue, SpellsQuery, QueryFault, Diagnostic, Memory, IsFault, IsDiagnostic, IsFaultOf, IsUnspelled, IsReadable, IsFaulty, is_long, is_unspelled, is_crowded}
+use Rattle.zeb_query.proofs.Cited.{◌≡◌, ◌⊎◌, ℕ, ◌<◌, ◌≤◌, Bool, true, false, cond, List, Option, Some, None, inl, inr, length, refl, ap, sym, subst, ◌∙◌, arith, nat_lt, if◌then◌else◌, Result, Ok, Err, OnOk, IfErr, nat_tests, Word, AreWords, words_at, Start, fault, IsQuery, QueryValue, SpellsQuery, QueryFault, Diagnostic, Memory, IsFault, IsDiagnostic, IsFaultOf, Query, ReadsQuery, query_value, IsUnspelled, IsReadable, IsFaulty, is_long, is_unspelled, is_crowded}
 use Rattle.std.specs.Prelude.{chars, []}
 use Rattle.std.specs.Result.{IfOk}
 use Rattle.zeb_query.proofs.WordStretches.{words_read_are, words_are_read}
@@ -117,13 +117,18 @@ too_long text (Diagnostic number place addinfo) long is =
 
 -- ---- what is said of a result by the words that were read
 
-pub read_whole : {X : Type 0} (text : List ℕ) (words : List Word) (r : Result X QueryFault) → length text ≤ 65535 → words ≡ words_at 0 (chars text)
-    → IfOk r (λ _. fault (length text) 100 Start words ≡ None) → OnOk r (IsReadable text)
-read_whole text words (Ok x) short are e = readable text (of_words text words None short (subst (AreWords (chars text)) (sym are) (words_are_read (chars text))) e)
-read_whole text words (Err e) short are is = tt
+module _ (text : List ℕ) (words : List Word) (short : length text ≤ 65535) (are : words ≡ words_at 0 (chars text)) where
+  are_words : AreWords (chars text) words
+  are_words = subst (AreWords (chars text)) (sym are) (words_are_read (chars text))
 
-pub read_faulty : {X : Type 0} (text : List ℕ) (words : List Word) (r : Result X QueryFault) → length text ≤ 65535 → words ≡ words_at 0 (chars text)
-    → IfErr r (λ e. IsFault e (fault (length text) 100 Start words)) → IfErr r (λ e. IsFaultOf e text)
-read_faulty text words (Ok x) short are is = tt
-read_faulty text words (Err e) short are is =
-    fault_of_text text e (subst (IsFault e) (sym (of_words text words _ short (subst (AreWords (chars text)) (sym are) (words_are_read (chars text))) refl)) is)
+  pub read_spelled : (r : Result Query QueryFault) → ReadsQuery (length text) words r → IfOk r (λ query. SpellsQuery text (query_value query))
+  read_spelled (Ok query) it = record { words = words; are_words = are_words; spelled = it.0 }
+  read_spelled (Err e) it = tt
+
+  pub read_whole : (r : Result Query QueryFault) → ReadsQuery (length text) words r → OnOk r (IsReadable text)
+  read_whole (Ok query) it = readable text (of_words text words None short are_words it.1)
+  read_whole (Err e) it = tt
+
+  pub read_faulty : (r : Result Query QueryFault) → ReadsQuery (length text) words r → IfErr r (λ e. IsFaultOf e text)
+  read_faulty (Ok query) it = tt
+  read_faulty (Err e) it = fault_of_text text e (subst (IsFault e) (sym (of_words text words _ short are_words refl)) it)

@@ -6,7 +6,7 @@ pub use Rattle.zeb_query.specs.Checks.{Gives, distance_relations, one_of, operan
 pub use Rattle.zeb_query.specs.Grammar.{BooleanOf, HeadValue, IsQuery, SpellsQuery, attribute_value, connective_of, connective_value, few, has_equals, head_value, heads, is_good, is_number, kept_text, keyword_of, kind_and_value, many, no_head, number_of, operator_word, parameters_value, query_value, tree_value}
 pub use Rattle.zeb_query.specs.Places.{IsFaultOf, IsReadable}
 pub use Rattle.zeb_query.specs.Plans.{plan_value}
-pub use Rattle.zeb_query.specs.PrivateReading.{IsDiagnostic, IsFault, ReadsText, ReadsWord, Spells, SpellsUnder, SpellsAttribute, SpellsHead, SpellsMore, SpellsOperator, SpellsProximity, SpellsSet, IsSpec, condition_number, fault_of, first_keyword, first_place, held_with, holding_value, left, pair_value, with_set, word_of, words_with}
+pub use Rattle.zeb_query.specs.PrivateReading.{IsDiagnostic, IsFault, Reads, ReadsHead, ReadsQuery, ReadsStructure, ReadsText, ReadsWord, Spells, SpellsUnder, SpellsAttribute, SpellsWholeHead, SpellsMore, SpellsOperator, SpellsProximity, SpellsSet, IsSpec, condition_number, fault_of, first_keyword, first_place, held_with, holding_value, left, more_structures, pair_value, with_set, word_of, words_with}
 pub use Rattle.zeb_query.specs.PrivateWalk.{Due, MoreWords, SetOrSpec, Spec, Start, Structures, fault, fault_at_end, unquoted, words_at, words_then}
 pub use Rattle.zeb_query.specs.Words.{Word as WordOfQuery, is_blank}
 pub use Rattle.zeb_query.specs.declared.keywords.Keyword.TheVariants.{Attribute, Operator, ResultSet, TermType}

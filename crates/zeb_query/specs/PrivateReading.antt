@@ -1,8 +1,8 @@
 -- What only the contracts of private functions speak of; no public clause reaches it.
 -- What the functions that read a text give, in the words of the grammar.
-use Rattle.std.specs.Prelude.{ℕ, List, ◌++◌, map, string_bytes, ◌≡◌, [], ◌∷◌, true, Option, Some, None, ◌==◌, if◌then◌else◌, option_copied, find, option_to_list}
+use Rattle.std.specs.Prelude.{ℕ, suc, List, ◌++◌, map, string_bytes, ◌≡◌, ◌≢◌, Result, MatchResult, [], ◌∷◌, true, Option, Some, None, ◌==◌, if◌then◌else◌, option_copied, find, option_to_list}
 use Rattle.zeb_query.specs.Cited.{list_all, QueryFault, Diagnostic, Memory, OperatorWord, Keyword}
-use Rattle.zeb_query.specs.declared.keywords.Keyword.TheVariants.{Attribute, Operator}
+use Rattle.zeb_query.specs.declared.keywords.Keyword.TheVariants.{Attribute, Operator, TermType}
 use Rattle.std.specs.Borrow.{Bor}
 use Rattle.zeb_query.specs.declared.diagnostics.Condition.{Condition}
 use Rattle.zeb_query.specs.declared.diagnostics.Condition.TheVariants as condition
@@ -12,9 +12,10 @@ use Rattle.zeb_query.specs.declared.words.Mode.TheVariants.{Between, Plain, Quot
 use Rattle.zeb_query.specs.declared.words.Cutter.{Cutter}
 use Rattle.zeb_query.specs.declared.grammar.Rest.{Rest}
 use Rattle.zeb_query.specs.declared.holding.Holding.{Holding}
+use Rattle.zeb_query.specs.declared.queries.Query.{Query}
 use Rattle.zeb_query.specs.Words.{Word}
-use Rattle.zeb_query.specs.PrivateWalk.{words_at, in_word, in_quotes, escaped, plain_word, quoted_word, with_front, Due, fault}
-use Rattle.zeb_query.specs.Grammar.{keyword_of, IsStructure, IsQuery, heads, under, is_good, text_of, kind_and_value, connective_of, AttributeValue, ConnectiveValue, HeadValue, ParametersValue, TreeValue, or_else}
+use Rattle.zeb_query.specs.PrivateWalk.{words_at, in_word, in_quotes, escaped, plain_word, quoted_word, with_front, Due, Start, Structures, MoreWords, words_then, fault}
+use Rattle.zeb_query.specs.Grammar.{keyword_of, query_value, IsStructure, IsQuery, heads, under, is_good, text_of, kind_and_value, connective_of, AttributeValue, ConnectiveValue, HeadValue, ParametersValue, TreeValue, or_else}
 use Rattle.zeb_query.specs.Attributes.{HoldingValue, is_other_kind, is_other_set}
 
 -- ---- faults
@@ -87,18 +88,19 @@ abbrev pub first_keyword : List Word → Option Keyword
 first_keyword [] = None
 first_keyword (word ∷ words) = keyword_of word
 
--- one word is read from a rest, and what follows is left
+-- one word that isn't bad is read from a rest, and what follows is left
 pub record ReadsWord (rest after : Rest) (word : Word) : Type 0 where
+  pub good : is_good word ≡ true
   pub is : left rest ≡ word ∷ left after
   pub end : after.end ≡ rest.end
   pub room : after.room ≡ rest.room
 
--- one word is read, whose text this is
+-- one word is read, whose text this is; where it was due and others with it, these are due behind it
 pub record ReadsText (rest after : Rest) (text : List ℕ) : Type 0 where
   pub word : Word
   pub reads : ReadsWord rest after word
-  pub good : is_good word ≡ true
   pub text_is : text ≡ word.text
+  pub goes : (k n : ℕ) → fault_of rest (MoreWords k n) ≡ fault_of after (words_then k n)
 
 -- a number and a text, without where the text lies in memory
 abbrev pub pair_value : Option (ℕ × Bor (List ℕ)) → Option (ℕ × List ℕ)
@@ -129,6 +131,12 @@ pub record SpellsHead (rest after : Rest) (head : HeadValue) : Type 0 where
   pub words : List Word
   pub is : left rest ≡ words ++ left after
   pub spells : (more : List Word) (tree : TreeValue) → IsStructure more tree → IsStructure (words ++ more) (under head tree)
+
+-- and after them neither an attribute nor a term type stands
+pub record SpellsWholeHead (rest after : Rest) (head : HeadValue) : Type 0 where
+  pub spelled : SpellsHead rest after head
+  pub no_attribute : first_keyword (left after) ≢ Some Attribute
+  pub no_term_type : first_keyword (left after) ≢ Some TermType
 
 -- a keyword and the words after it put one more piece into a head, inside of all that stands there
 pub record SpellsMore (rest after : Rest) (old new : HeadValue) : Type 0 where
@@ -172,6 +180,37 @@ pub record SpellsUnder (rest after : Rest) (head : HeadValue) (tree : TreeValue)
   pub bare : TreeValue
   pub is_under : tree ≡ under head bare
   pub spelled : Spells rest after bare
+
+-- ---- what a function gives that reads
+
+-- where one of these was due in front of what was read, the next is due behind it, and it was spelled
+pub record IsRead (due next : ℕ → Due) (rest after : Rest) (Spelled : Type 0) : Type 0 where
+  pub goes : (n : ℕ) → fault_of rest (due n) ≡ fault_of after (next n)
+  pub spelled : Spelled
+
+-- something is read from the front of a rest, or the fault is that of its words, where one of these is due
+abbrev pub Reads : {A : Type 0} → (due next : ℕ → Due) → Rest → (A → Rest) → (A → Type 0) → Result A QueryFault → Type 0
+Reads due next rest after Spelled result = MatchResult result
+    (λ read. IsRead due next rest (after read) (Spelled read))
+    (λ e. (n : ℕ) → IsFault e (fault_of rest (due n)))
+
+-- one structure, and so many more behind it
+abbrev pub more_structures : ℕ → Due
+more_structures n = Structures (suc n)
+
+-- a structure is read
+abbrev pub ReadsStructure : {A : Type 0} → Rest → (Rest → A → Type 0) → Result (A × Rest) QueryFault → Type 0
+ReadsStructure rest Spelled result = Reads more_structures Structures rest (λ read. read.1) (λ read. Spelled read.1 read.0) result
+
+-- of a structure's head something is read
+abbrev pub ReadsHead : {A : Type 0} → Rest → (A → Rest) → (A → Type 0) → Result A QueryFault → Type 0
+ReadsHead rest after Spelled result = Reads more_structures more_structures rest after Spelled result
+
+-- a whole query of at most 100 operators is read, or its words have a fault
+abbrev pub ReadsQuery : ℕ → List Word → Result Query QueryFault → Type 0
+ReadsQuery end words result = MatchResult result
+    (λ query. IsQuery words (query_value query) × (fault end 100 Start words ≡ None))
+    (λ e. IsFault e (fault end 100 Start words))
 
 -- ---- the attributes that hold, one after another
 

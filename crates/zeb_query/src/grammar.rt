@@ -1,6 +1,6 @@
 //! Reading the words of a text as a query, from the left, an operator before its operands.
-ghost use Rattle.std.specs.Prelude.{◌≡◌, ◌≢◌, List, ℕ, suc, ◌∷◌, Some, None, map, IfOk, OnOk, IfErr, true, string_bytes, [], option_map};
-ghost use Rattle.zeb_query.specs.Clauses.{Attribute as AttributeKeyword, TermType as TermTypeKeyword, Operator as OperatorKeyword, ResultSet as ResultSetKeyword, IsFault, WordOfQuery, word_of, left, first_keyword, fault_of, pair_value, IsSpec, SpellsAttribute, SpellsProximity, SpellsHead, SpellsMore, SpellsOperator, SpellsSet, Spells, SpellsUnder, attribute_value, connective_value, head_value, parameters_value, tree_value, query_value, IsQuery, kind_and_value, has_equals, heads, Start, Structures, SetOrSpec, Spec, MoreWords, fault, words_then, first_place, ReadsText, ReadsWord, is_good, Due, fault_at_end};
+ghost use Rattle.std.specs.Prelude.{◌≡◌, List, ℕ, suc, ◌∷◌, Some, None, map, OnOk, MatchResult, true, string_bytes, [], option_map};
+ghost use Rattle.zeb_query.specs.Clauses.{Attribute as AttributeKeyword, TermType as TermTypeKeyword, Operator as OperatorKeyword, ResultSet as ResultSetKeyword, IsFault, WordOfQuery, word_of, left, first_keyword, fault_of, pair_value, IsSpec, SpellsAttribute, SpellsProximity, SpellsWholeHead, SpellsMore, SpellsOperator, SpellsSet, Spells, SpellsUnder, attribute_value, connective_value, head_value, parameters_value, tree_value, kind_and_value, has_equals, heads, Start, Structures, SetOrSpec, Spec, MoreWords, fault, words_then, first_place, ReadsText, ReadsWord, is_good, Due, fault_at_end, more_structures, Reads, ReadsHead, ReadsStructure, ReadsQuery};
 
 use crate::diagnostics::{Condition, Site};
 use crate::digits::short_number;
@@ -36,10 +36,8 @@ impl<'a> Rest<'a> {
 
     /// The first word, whatever it is but a bad one, and what follows it.
     fn word(&self, alloc: Global) -> Result<(&'a Word, Rest<'a>), QueryFault>
-        ensures reads { IfOk result (λ read. ReadsWord self.now read.1 (word_of read.0.now)) }
-        ensures good { IfOk result (λ read. is_good (word_of read.0.now) ≡ true) }
-        ensures fails { IfErr result (λ e. (due : Due) →
-            fault_at_end self.now.end due ≡ Some (108, self.now.end)
+        ensures { MatchResult result (λ read. ReadsWord self.now read.1 (word_of read.0.now))
+            (λ e. (due : Due) → fault_at_end self.now.end due ≡ Some (108, self.now.end)
             → IsFault e (fault_of self.now due)) }
     {
         match self.words.split_first() {
@@ -59,9 +57,7 @@ impl<'a> Rest<'a> {
 
 /// `query = [ @attrset SET ] structure`, to the end of the words.
 pub(crate) fn query(alloc: Global, words: &[Word], end: usize) -> Result<Query, QueryFault>
-    ensures none { IfOk result (λ _. fault end 100 Start (map word_of words.now) ≡ None) }
-    ensures spelled { IfOk result (λ query. IsQuery (map word_of words.now) (query_value query)) }
-    ensures fails { IfErr result (λ e. IsFault e (fault end 100 Start (map word_of words.now))) }
+    ensures { ReadsQuery end (map word_of words.now) result }
 {
     let rest = Rest {
         words,
@@ -81,11 +77,8 @@ fn attribute_set_of<'a>(
     alloc: Global,
     rest: Rest<'a>,
 ) -> Result<(Option<String>, Rest<'a>), QueryFault>
-    ensures goes { IfOk result
-        (λ read. fault_of rest.entry Start ≡ fault_of read.1 (Structures 1)) }
-    ensures spelled { IfOk result
-        (λ read. SpellsSet rest.entry read.1 (option_map string_bytes read.0)) }
-    ensures fails { IfErr result (λ e. IsFault e (fault_of rest.entry Start)) }
+    ensures { Reads (λ _. Start) (λ _. Structures 1) rest.entry (λ read. read.1)
+        (λ read. SpellsSet rest.entry read.1 (option_map string_bytes read.0)) result }
 {
     if rest.keyword() != Some(Keyword::AttributeSet) {
         return Ok((None, rest));
@@ -99,11 +92,8 @@ fn attribute_set_of<'a>(
 /// it.
 #[cycle(structure)]
 fn structure<'a>(alloc: Global, rest: Rest<'a>) -> Result<(Tree, Rest<'a>), QueryFault>
-    ensures goes { IfOk result (λ read. (n : ℕ) →
-        fault_of rest.entry (Structures (suc n)) ≡ fault_of read.1 (Structures n)) }
-    ensures spelled { IfOk result (λ read. Spells rest.entry read.1 (tree_value read.0)) }
-    ensures fails { IfErr result (λ e. (n : ℕ)
-        → IsFault e (fault_of rest.entry (Structures (suc n)))) }
+    ensures { ReadsStructure rest.entry
+        (λ after tree. Spells rest.entry after (tree_value tree)) result }
 {
     let (head, rest) = head_of(alloc, rest)?;
     match rest.keyword() {
@@ -117,12 +107,8 @@ fn structure<'a>(alloc: Global, rest: Rest<'a>) -> Result<(Tree, Rest<'a>), Quer
 /// The term at the front, under its head.
 fn term_of<'a>(alloc: Global, head: Head, rest: Rest<'a>) -> Result<(Tree, Rest<'a>), QueryFault>
     requires { first_keyword (left rest) ≡ None }
-    ensures goes { IfOk result (λ read. (n : ℕ) →
-        fault_of rest.entry (Structures (suc n)) ≡ fault_of read.1 (Structures n)) }
-    ensures spelled { IfOk result
-        (λ read. SpellsUnder rest.entry read.1 (head_value head) (tree_value read.0)) }
-    ensures fails { IfErr result (λ e. (n : ℕ)
-        → IsFault e (fault_of rest.entry (Structures (suc n)))) }
+    ensures { ReadsStructure rest.entry
+        (λ after tree. SpellsUnder rest.entry after (head_value head) (tree_value tree)) result }
 {
     let (word, after) = rest.word(alloc)?;
     let place = word.place;
@@ -133,12 +119,8 @@ fn term_of<'a>(alloc: Global, head: Head, rest: Rest<'a>) -> Result<(Tree, Rest<
 /// The `@set` at the front and the name after it, under their head.
 fn named_of<'a>(alloc: Global, head: Head, rest: Rest<'a>) -> Result<(Tree, Rest<'a>), QueryFault>
     requires { first_keyword (left rest) ≡ Some ResultSetKeyword }
-    ensures goes { IfOk result (λ read. (n : ℕ) →
-        fault_of rest.entry (Structures (suc n)) ≡ fault_of read.1 (Structures n)) }
-    ensures spelled { IfOk result
-        (λ read. SpellsUnder rest.entry read.1 (head_value head) (tree_value read.0)) }
-    ensures fails { IfErr result (λ e. (n : ℕ)
-        → IsFault e (fault_of rest.entry (Structures (suc n)))) }
+    ensures { ReadsStructure rest.entry
+        (λ after tree. SpellsUnder rest.entry after (head_value head) (tree_value tree)) result }
 {
     let (word, after) = rest.word(alloc)?;
     let place = word.place;
@@ -155,12 +137,8 @@ fn pair_of<'a>(
     rest: Rest<'a>,
 ) -> Result<(Tree, Rest<'a>), QueryFault>
     requires { first_keyword (left rest) ≡ Some (OperatorKeyword operator) }
-    ensures goes { IfOk result (λ read. (n : ℕ) →
-        fault_of rest.entry (Structures (suc n)) ≡ fault_of read.1 (Structures n)) }
-    ensures spelled { IfOk result
-        (λ read. SpellsUnder rest.entry read.1 (head_value head) (tree_value read.0)) }
-    ensures fails { IfErr result (λ e. (n : ℕ)
-        → IsFault e (fault_of rest.entry (Structures (suc n)))) }
+    ensures { ReadsStructure rest.entry
+        (λ after tree. SpellsUnder rest.entry after (head_value head) (tree_value tree)) result }
 {
     let (place, connective, after) = connective_of(alloc, operator, rest)?;
     let (left, after) = operand(alloc, after)?;
@@ -178,11 +156,8 @@ fn pair_of<'a>(
 /// The tree at the front, in memory of its own.
 #[cycle(structure)]
 fn operand<'a>(alloc: Global, rest: Rest<'a>) -> Result<(Box<Tree>, Rest<'a>), QueryFault>
-    ensures goes { IfOk result (λ read. (n : ℕ) →
-        fault_of rest.entry (Structures (suc n)) ≡ fault_of read.1 (Structures n)) }
-    ensures spelled { IfOk result (λ read. Spells rest.entry read.1 (tree_value read.0.value)) }
-    ensures fails { IfErr result (λ e. (n : ℕ)
-        → IsFault e (fault_of rest.entry (Structures (suc n)))) }
+    ensures { ReadsStructure rest.entry
+        (λ after tree. Spells rest.entry after (tree_value tree.value)) result }
 {
     let (tree, after) = structure(alloc, rest)?;
     Ok((Box::new(alloc, tree)?, after))
@@ -191,13 +166,8 @@ fn operand<'a>(alloc: Global, rest: Rest<'a>) -> Result<(Box<Tree>, Rest<'a>), Q
 /// The attributes and term types at the front: `@attr [ SET ] SPEC` and `@term TYPE`, any number of them. Of several
 /// term types the last is kept, since the innermost holds.
 fn head_of<'a>(alloc: Global, rest: Rest<'a>) -> Result<(Head, Rest<'a>), QueryFault>
-    ensures goes { IfOk result (λ read. (n : ℕ) →
-        fault_of rest.entry (Structures (suc n)) ≡ fault_of read.1 (Structures (suc n))) }
-    ensures spelled { IfOk result (λ read. SpellsHead rest.entry read.1 (head_value read.0)) }
-    ensures ended { IfOk result (λ read. (first_keyword (left read.1) ≢ Some AttributeKeyword)
-        × (first_keyword (left read.1) ≢ Some TermTypeKeyword)) }
-    ensures fails { IfErr result (λ e. (n : ℕ)
-        → IsFault e (fault_of rest.entry (Structures (suc n)))) }
+    ensures { ReadsHead rest.entry (λ read. read.1)
+        (λ read. SpellsWholeHead rest.entry read.1 (head_value read.0)) result }
 {
     let mut rest = rest;
     let mut head = Head {
@@ -222,12 +192,8 @@ fn read_attribute<'a>(
     rest: Rest<'a>,
 ) -> Result<Rest<'a>, QueryFault>
     requires { first_keyword (left rest) ≡ Some AttributeKeyword }
-    ensures goes { IfOk result (λ after. (n : ℕ) →
-        fault_of rest.entry (Structures (suc n)) ≡ fault_of after (Structures (suc n))) }
-    ensures spelled { IfOk result
-        (λ after. SpellsMore rest.entry after (head_value head.old) (head_value head.new)) }
-    ensures fails { IfErr result (λ e. (n : ℕ)
-        → IsFault e (fault_of rest.entry (Structures (suc n)))) }
+    ensures { ReadsHead rest.entry (λ after. after)
+        (λ after. SpellsMore rest.entry after (head_value head.old) (head_value head.new)) result }
 {
     let (_, after) = rest.word(alloc)?;
     let (attribute, after) = attribute_of(alloc, after)?;
@@ -252,12 +218,8 @@ fn read_term_type<'a>(
     rest: Rest<'a>,
 ) -> Result<Rest<'a>, QueryFault>
     requires { first_keyword (left rest) ≡ Some TermTypeKeyword }
-    ensures goes { IfOk result (λ after. (n : ℕ) →
-        fault_of rest.entry (Structures (suc n)) ≡ fault_of after (Structures (suc n))) }
-    ensures spelled { IfOk result
-        (λ after. SpellsMore rest.entry after (head_value head.old) (head_value head.new)) }
-    ensures fails { IfErr result (λ e. (n : ℕ)
-        → IsFault e (fault_of rest.entry (Structures (suc n)))) }
+    ensures { ReadsHead rest.entry (λ after. after)
+        (λ after. SpellsMore rest.entry after (head_value head.old) (head_value head.new)) result }
 {
     let (_, after) = rest.word(alloc)?;
     let (text, after) = next_text(alloc, after)?;
@@ -267,11 +229,8 @@ fn read_term_type<'a>(
 
 /// `[ SET ] SPEC`, what follows `@attr`: a word without `=` is the set.
 fn attribute_of<'a>(alloc: Global, rest: Rest<'a>) -> Result<(Attribute, Rest<'a>), QueryFault>
-    ensures goes { IfOk result (λ read. (n : ℕ) → fault_of rest.entry (SetOrSpec n)
-        ≡ fault_of read.1 (Structures (suc n))) }
-    ensures spelled { IfOk result
-        (λ read. SpellsAttribute rest.entry read.1 (attribute_value read.0)) }
-    ensures fails { IfErr result (λ e. (n : ℕ) → IsFault e (fault_of rest.entry (SetOrSpec n))) }
+    ensures { Reads SetOrSpec more_structures rest.entry (λ read. read.1)
+        (λ read. SpellsAttribute rest.entry read.1 (attribute_value read.0)) result }
 {
     let (word, after) = rest.word(alloc)?;
     if has_equals(word.text.as_str()) {
@@ -287,9 +246,9 @@ fn attribute_of<'a>(alloc: Global, rest: Rest<'a>) -> Result<(Attribute, Rest<'a
 /// `SPEC`: 1 to 9 digits, which are the type, then `=`, then the value. That there are at most nine is an own rule.
 fn spec_of(alloc: Global, set: Option<String>, word: &Word) -> Result<Attribute, QueryFault>
     requires { is_good (word_of word.now) ≡ true }
-    ensures spelled { IfOk result (λ attribute. IsSpec (word_of word.now)
-        (option_map string_bytes set) (attribute_value attribute)) }
-    ensures fails { IfErr result (λ e. (end room n : ℕ) (more : List WordOfQuery)
+    ensures { MatchResult result (λ attribute. IsSpec (word_of word.now)
+        (option_map string_bytes set) (attribute_value attribute))
+        (λ e. (end room n : ℕ) (more : List WordOfQuery)
         → IsFault e (fault end room (Spec n) (word_of word.now ∷ more))) }
 {
     let Some((kind, value)) = kind_and_value(word.text.as_str()) else {
@@ -326,12 +285,9 @@ fn connective_of<'a>(
     rest: Rest<'a>,
 ) -> Result<(usize, Connective, Rest<'a>), QueryFault>
     requires { first_keyword (left rest) ≡ Some (OperatorKeyword operator) }
-    ensures goes { IfOk result (λ read. (n : ℕ) →
-        fault_of rest.entry (Structures (suc n)) ≡ fault_of read.2 (Structures (suc (suc n)))) }
-    ensures spelled { IfOk result (λ read. SpellsOperator rest.entry read.2 operator read.0
-        (connective_value read.1)) }
-    ensures fails { IfErr result (λ e. (n : ℕ)
-        → IsFault e (fault_of rest.entry (Structures (suc n)))) }
+    ensures { Reads more_structures (λ n. more_structures (suc n)) rest.entry (λ read. read.2)
+        (λ read. SpellsOperator rest.entry read.2 operator read.0 (connective_value read.1))
+        result }
 {
     let (word, after) = rest.word(alloc)?;
     let place = word.place;
@@ -352,11 +308,8 @@ fn connective_of<'a>(
 }
 
 fn parameters_of<'a>(alloc: Global, rest: Rest<'a>) -> Result<(Parameters, Rest<'a>), QueryFault>
-    ensures goes { IfOk result (λ read. (n : ℕ) → fault_of rest.entry (words_then 6 n)
-        ≡ fault_of read.1 (Structures n)) }
-    ensures spelled { IfOk result
-        (λ read. SpellsProximity rest.entry read.1 (parameters_value read.0)) }
-    ensures fails { IfErr result (λ e. (n : ℕ) → IsFault e (fault_of rest.entry (words_then 6 n))) }
+    ensures { Reads (words_then 6) Structures rest.entry (λ read. read.1)
+        (λ read. SpellsProximity rest.entry read.1 (parameters_value read.0)) result }
 {
     let (exclusion, rest) = next_text(alloc, rest)?;
     let (distance, rest) = next_text(alloc, rest)?;
@@ -377,12 +330,8 @@ fn parameters_of<'a>(alloc: Global, rest: Rest<'a>) -> Result<(Parameters, Rest<
 
 /// The text of the next word, whatever that is.
 fn next_text<'a>(alloc: Global, rest: Rest<'a>) -> Result<(String, Rest<'a>), QueryFault>
-    ensures goes { IfOk result (λ read. (k n : ℕ) → fault_of rest.entry (MoreWords k n)
-        ≡ fault_of read.1 (words_then k n)) }
-    ensures reads { IfOk result
-        (λ read. ReadsText rest.entry read.1 (string_bytes read.0)) }
-    ensures fails { IfErr result (λ e. (k n : ℕ)
-        → IsFault e (fault_of rest.entry (MoreWords k n))) }
+    ensures { MatchResult result (λ read. ReadsText rest.entry read.1 (string_bytes read.0))
+        (λ e. (k n : ℕ) → IsFault e (fault_of rest.entry (MoreWords k n))) }
 {
     let (word, after) = rest.word(alloc)?;
     Ok((word.text.clone()?, after))

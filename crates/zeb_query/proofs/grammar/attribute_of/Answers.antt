@@ -3,28 +3,27 @@ use Rattle.zeb_query.proofs.GrammarLemmas.{spells_attribute, spells_attribute_of
 use Rattle.zeb_query.proofs.GrammarLaws.{over-set, over-set_or_spec, over-spec}
 use Rattle.zeb_query.proofs.grammar.attribute_of.Goals as goal
 
-pub returns-then-has_equals-clause-goes : goal.returns-then-has_equals-clause-goes
-returns-then-has_equals-clause-goes c = λ n.
+pub returns-then-has_equals : goal.returns-then-has_equals
+returns-then-has_equals c =
     let word = word_of c.in_ok-word.word.now in
-    fault_of-read c.args.rest c.in_ok-word.after word c.in_ok-word.ensures.reads (SetOrSpec n) (Structures (suc n))
-    (λ end room ws. over-set_or_spec end room n word ws _ c.in_ok-word.ensures.good c.in_ok-attribute.ensures.spelled.read)
+    let reads = c.in_ok-word.ensures in
+    let spec = c.in_ok-attribute.ensures in
+    record {
+      goes = λ n. fault_of-read c.args.rest c.in_ok-word.after word reads (SetOrSpec n) (Structures (suc n)) (λ end room ws. over-set_or_spec end room n word ws _ reads.good spec.read);
+      spelled = spells_attribute c.args.rest c.in_ok-word.after (attribute_value c.in_ok-attribute.attribute) word reads spec;
+    }
 
-pub returns-then-has_equals-clause-spelled : goal.returns-then-has_equals-clause-spelled
-returns-then-has_equals-clause-spelled c =
-    spells_attribute c.args.rest c.in_ok-word.after (attribute_value c.in_ok-attribute.attribute) (word_of c.in_ok-word.word.now)
-    c.in_ok-word.ensures.reads.is c.in_ok-word.ensures.good c.in_ok-attribute.ensures.spelled
-
-pub returns-clause-goes : goal.returns-clause-goes
-returns-clause-goes c = λ n.
+pub returns : goal.returns
+returns c =
     let set = word_of c.in_ok-word.word.now in
-    let spec = word_of c.in_ok-spec.spec.now in
-    fault_of-read c.args.rest c.in_ok-word.after set c.in_ok-word.ensures.reads (SetOrSpec n) (Spec n)
-    (λ end room ws. over-set end room n set ws c.in_ok-word.ensures.good (sym (ap has_equals c.as_str.ensures.value) ∙ sym c.if-has_equals.ensures))
-    ∙ fault_of-read c.in_ok-word.after c.in_ok-spec.after spec c.in_ok-spec.ensures.reads (Spec n) (Structures (suc n))
-    (λ end room ws. over-spec end room n spec ws _ c.in_ok-spec.ensures.good c.in_ok-attribute-2.ensures.spelled.read)
-
-pub returns-clause-spelled : goal.returns-clause-spelled
-returns-clause-spelled c =
-    spells_attribute_of_set c.args.rest c.in_ok-word.after c.in_ok-spec.after (attribute_value c.in_ok-attribute-2.attribute)
-    (word_of c.in_ok-word.word.now) (word_of c.in_ok-spec.spec.now) _ c.in_ok-word.ensures.reads.is c.in_ok-word.ensures.good (sym (ap has_equals c.as_str.ensures.value) ∙ sym c.if-has_equals.ensures)
-    c.in_ok-set.ensures.cases c.in_ok-spec.ensures.reads.is c.in_ok-spec.ensures.good c.in_ok-attribute-2.ensures.spelled
+    let word = word_of c.in_ok-spec.spec.now in
+    let reads = c.in_ok-word.ensures in
+    let then = c.in_ok-spec.ensures in
+    let spec = c.in_ok-attribute-2.ensures in
+    let plain = sym (ap has_equals c.as_str.ensures.value) ∙ sym c.if-has_equals.ensures in
+    record {
+      goes = λ n.
+          fault_of-read c.args.rest c.in_ok-word.after set reads (SetOrSpec n) (Spec n) (λ end room ws. over-set end room n set ws reads.good plain)
+          ∙ fault_of-read c.in_ok-word.after c.in_ok-spec.after word then (Spec n) (Structures (suc n)) (λ end room ws. over-spec end room n word ws _ then.good spec.read);
+      spelled = spells_attribute_of_set c.args.rest c.in_ok-word.after c.in_ok-spec.after (attribute_value c.in_ok-attribute-2.attribute) set word _ reads plain c.in_ok-set.ensures.cases then spec;
+    }

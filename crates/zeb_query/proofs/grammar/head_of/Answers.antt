@@ -1,18 +1,11 @@
-use Rattle.zeb_query.proofs.Cited.{◌∙◌}
-use Rattle.zeb_query.proofs.GrammarLemmas.{spells_more, less_after}
+use Rattle.zeb_query.proofs.GrammarLemmas.{reads_more, less_after}
 use Rattle.zeb_query.proofs.grammar.head_of.Goals as goal
 
 pub loop-head-preserved-in-Attribute-1 : goal.loop-head-preserved-in-Attribute-1
-loop-head-preserved-in-Attribute-1 c = record {
-  goes = λ n. c.loop-head.invariant.goes n ∙ c.in_ok-rest-in-Some-Attribute.ensures.goes n;
-  spelled = spells_more _ _ _ _ _ c.loop-head.invariant.spelled c.in_ok-rest-in-Some-Attribute.ensures.spelled;
-}
+loop-head-preserved-in-Attribute-1 c = reads_more _ _ _ _ _ c.loop-head.invariant c.in_ok-rest-in-Some-Attribute.ensures
 
 pub loop-head-preserved : goal.loop-head-preserved
-loop-head-preserved c = record {
-  goes = λ n. c.loop-head.invariant.goes n ∙ c.in_ok-rest-in-Some-TermType.ensures.goes n;
-  spelled = spells_more _ _ _ _ _ c.loop-head.invariant.spelled c.in_ok-rest-in-Some-TermType.ensures.spelled;
-}
+loop-head-preserved c = reads_more _ _ _ _ _ c.loop-head.invariant c.in_ok-rest-in-Some-TermType.ensures
 
 pub loop-head-smaller-in-Attribute-1 : goal.loop-head-smaller-in-Attribute-1
 loop-head-smaller-in-Attribute-1 c =

@@ -1,14 +1,8 @@
-use Rattle.zeb_query.proofs.Cited.{◌∙◌}
-use Rattle.zeb_query.proofs.GrammarLemmas.{spells_next, spells_no_more}
+use Rattle.zeb_query.proofs.GrammarLemmas.{parameter_read, no_parameters}
 use Rattle.zeb_query.proofs.grammar.parameters_of.Goals as goal
 
-pub returns-clause-goes : goal.returns-clause-goes
-returns-clause-goes c = λ n.
-    c.in_ok-exclusion.ensures.goes 5 n ∙ c.in_ok-distance.ensures.goes 4 n ∙ c.in_ok-ordered.ensures.goes 3 n
-    ∙ c.in_ok-relation.ensures.goes 2 n ∙ c.in_ok-which_code.ensures.goes 1 n ∙ c.in_ok-unit_code.ensures.goes 0 n
-
-pub returns-clause-spelled : goal.returns-clause-spelled
-returns-clause-spelled c =
-    spells_next _ _ _ _ _ c.in_ok-exclusion.ensures.reads (spells_next _ _ _ _ _ c.in_ok-distance.ensures.reads
-    (spells_next _ _ _ _ _ c.in_ok-ordered.ensures.reads (spells_next _ _ _ _ _ c.in_ok-relation.ensures.reads
-    (spells_next _ _ _ _ _ c.in_ok-which_code.ensures.reads (spells_next _ _ _ _ _ c.in_ok-unit_code.ensures.reads (spells_no_more _))))))
+pub returns : goal.returns
+returns c =
+    parameter_read 5 _ _ _ _ _ c.in_ok-exclusion.ensures (parameter_read 4 _ _ _ _ _ c.in_ok-distance.ensures
+    (parameter_read 3 _ _ _ _ _ c.in_ok-ordered.ensures (parameter_read 2 _ _ _ _ _ c.in_ok-relation.ensures
+    (parameter_read 1 _ _ _ _ _ c.in_ok-which_code.ensures (parameter_read 0 _ _ _ _ _ c.in_ok-unit_code.ensures (no_parameters _))))))
