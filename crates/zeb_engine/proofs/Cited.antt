@@ -98,7 +98,7 @@ pub use Rattle.zeb_engine.specs.Hidden.{HidesDatabase, HidesOf, TellsUnlessHidde
 pub use Rattle.zeb_engine.specs.Making.{DropsDatabase, OnAccepted, MakesDatabase, CreateOver, DropOver, CountedAnswers}
 pub use Rattle.zeb_engine.specs.PrivateAdopting.{MakesTables, MayBeTaken}
 pub use Rattle.zeb_engine.specs.PrivateChanging.{MayBeginUnder, BeginsWith, last_of, IsMissedFor, comes_to}
-pub use Rattle.zeb_engine.specs.PrivateConnections.{IsSettled, LooksReady, ReadsAlone, TellsReady}
+pub use Rattle.zeb_engine.specs.PrivateConnections.{AsksTables, IsSettled, LooksReady, LooksThrough, ReadsAlone, TellsReady}
 pub use Rattle.zeb_engine.specs.PrivateCrashes.{IsEmptyDisk, Commits, CommitsTables}
 pub use Rattle.zeb_engine.specs.PrivateDatabaseChanges.{Asked, AcceptsChange, AppliesChange, ChangesDatabase, CommitsRows, FoldsInto, Transacts, asked}
 pub use Rattle.zeb_engine.specs.PrivateDone.{CommandDone, ReadersDone}
@@ -167,7 +167,6 @@ pub use Rattle.zeb_query.specs.Places.{IsReadable, IsFaultOf}
 pub use Rattle.zeb_query.specs.Plans.{PlanValue, plan_of, HasSmallNumber, HasSmallNumbers, NearOf, NoWordsOf, PairOf, RecordNumberOf, TermOf, TermPlanValue, ScanValue, scan_of, plan_value, scan_value}
 pub use Rattle.zeb_query.specs.declared.faults.QueryFault.{QueryFault}
 pub use Rattle.zeb_query.specs.declared.faults.QueryFault.TheVariants.{Diagnostic, Memory}
-pub use Rattle.zeb_register.proofs.Answered.{looks_tell, or_reasoned}
 pub use Rattle.zeb_register.proofs.Calls.{store_same, nothing_then, goes_keeps, goes_then, on_err, reads_goes, nothing_still}
 pub use Rattle.zeb_register.proofs.CallsInTurn.{quiet_then, quiet_still}
 pub use Rattle.zeb_register.proofs.Causes.{may_after}
@@ -181,7 +180,7 @@ pub use Rattle.zeb_register.proofs.OccurringLemmas.{one_terms, one_totals, terms
 pub use Rattle.zeb_register.proofs.RisingLists.{same_list}
 pub use Rattle.zeb_register.proofs.RowsAreLists.{one_last, one_text}
 pub use Rattle.zeb_register.proofs.TermLists.{has_taken}
-pub use Rattle.zeb_register.specs.Answers.{Answers, IfDamaged, TellsOr}
+pub use Rattle.zeb_register.specs.Answers.{Answers, IfDamaged, LooksInto}
 pub use Rattle.zeb_register.specs.Calls.{ChangesNothing, OnlyReads, GoesOn, Alters, Inside, MayRefuse, Reading}
 pub use Rattle.zeb_register.specs.Catalog.{IsDatabaseOf, PutsDatabase, AreCountedDatabases}
 pub use Rattle.zeb_register.specs.Clauses.{IsReasoned, OnStore}
@@ -199,19 +198,18 @@ pub use Rattle.zeb_register.specs.declared.RegFault.{RegFault}
 pub use Rattle.zeb_register.specs.declared.kept.Record.{Record}
 pub use Rattle.zeb_register.specs.declared.registers.TermCount.{TermCount}
 pub use Rattle.zeb_register.specs.declared.registers.Work.{Work}
-pub use Rattle.zeb_search.proofs.FindCalls.{hits_reasoned}
 pub use Rattle.zeb_search.proofs.HoldsAlike.{tree_alike}
 pub use Rattle.zeb_search.proofs.KnownHolders.{holder_known, IsKnown}
 pub use Rattle.zeb_search.proofs.PlanLaws.{plan_held, plan_shown}
 pub use Rattle.zeb_search.proofs.ReadLemmas.{clean_before, accepted, one_read, read_still, read_then, still_store, still_trees, as_read}
 pub use Rattle.zeb_search.proofs.ReadableNames.{names_readable}
 pub use Rattle.zeb_search.proofs.SearchCountLemmas.{counts_then, counts_within, terms_count}
-pub use Rattle.zeb_search.proofs.ToldLemmas.{tells_later, tells_refused, told_refused}
 pub use Rattle.zeb_search.specs.Finds.{PlanFinds, PlanHides}
 pub use Rattle.zeb_search.specs.Holds.{TreeHolds, TermHolds}
 pub use Rattle.zeb_search.specs.Lists.{AreNumbers}
 pub use Rattle.zeb_search.specs.Registers.{has_ident_in, HoldsIn, is_kept_in, NamesReadable}
 pub use Rattle.zeb_search.specs.SearchCounts.{CountsAtMost}
+pub use Rattle.zeb_search.specs.Searching.{Searches}
 pub use Rattle.zeb_search.specs.Untouched.{IsUntouched}
 pub use Rattle.zeb_text.proofs.KeyLemmas.{value_of_key, digits_of_key, length_of_key, digits_from_all, all_from_digits, is_key}
 pub use Rattle.zeb_text.specs.Numbers.{number_key}

@@ -57,6 +57,7 @@ pub mod OneCount
 pub mod RunCommits
 pub mod AskedReads
 pub mod ReadsInTurn
+pub mod AskingInTurn
 pub mod LookedReady
 pub mod AskedContents
 pub mod AskedImages

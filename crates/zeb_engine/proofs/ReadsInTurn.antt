@@ -1,8 +1,8 @@
 -- Calls that read, one after the other: what a command that makes them did to the connection, what they tell, and which refusals it gives.
-use Rattle.zeb_engine.proofs.Cited.{◌≡◌, false, Result, Ok, Err, IfErr, ap, sym, subst, Contents, Held, state, State, HasCleanDisk, IsUnchanged, Survives, Ghosts, Trees, QueryFault, Diagnostic, Memory, RegFault, IsReasoned, ChangesNothing, IsStore, store_same, nothing_still, nothing_then, quiet_then, clean_before, read_still, Refusal, query_refusal, register_refusal, NeverUnready, NoReadFault, ReadsAlone, IsAskRefusal, Answers, IfDamaged, TellsOr, Reading, OnStore, quiet_still}
+use Rattle.zeb_engine.proofs.Cited.{◌≡◌, false, Result, Ok, Err, IfErr, ap, sym, subst, Contents, Held, state, State, HasCleanDisk, IsUnchanged, Survives, Ghosts, QueryFault, Diagnostic, Memory, RegFault, IsReasoned, ChangesNothing, IsStore, store_same, nothing_still, nothing_then, quiet_then, clean_before, Refusal, query_refusal, register_refusal, NeverUnready, NoReadFault, ReadsAlone, IsAskRefusal, Reading, quiet_still}
 use Rattle.zeb_register.specs.declared.RegFault.TheVariants as register
 use Rattle.zeb_search.proofs.ReadLemmas.{IsRead}
-use Rattle.zeb_engine.proofs.StoreCauses.{HasCauseFor, fault_after, fault_caused, query_caused}
+use Rattle.zeb_engine.proofs.StoreCauses.{HasCauseFor, fault_after, fault_caused}
 
 -- ---- which refusals it gives
 
@@ -16,9 +16,6 @@ query_asked Memory = tt
 
 pub fault_few : {T : Type 0} (fault : RegFault) (r : Result T Refusal) → r ≡ Err (register_refusal fault) → IfErr r IsAskRefusal
 fault_few {T} fault r is = subst (λ (q : Result T Refusal). IfErr q IsAskRefusal) (sym is) (fault_asked fault)
-
-pub query_few : {T : Type 0} (fault : QueryFault) (r : Result T Refusal) → r ≡ Err (query_refusal fault) → IfErr r IsAskRefusal
-query_few {T} fault r is = subst (λ (q : Result T Refusal). IfErr q IsAskRefusal) (sym is) (query_asked fault)
 
 pub asked_never : {T : Type 0} (r : Result T Refusal) → IfErr r IsAskRefusal → NeverUnready r
 asked_never {T} r few = (
@@ -43,10 +40,6 @@ reads_none {T = T} g held idle why caused r is =
       caused = λ clean. caused;
     } in
     subst (λ (q : Result T Refusal). ReadsAlone g held held q) (sym is) known
-
--- for the text of its query
-pub query_reads : {S T : Type 0} (g : Ghosts S) (held : Held S) → held.in_transaction ≡ false → (fault : QueryFault) → (r : Result T Refusal) → r ≡ Err (query_refusal fault) → ReadsAlone g held held r
-query_reads g held idle fault = reads_none g held idle (query_refusal fault) (query_caused (state g held) (state g held) fault)
 
 -- a look at the tables by one call
 module _ {S A T : Type 0} (g : Ghosts S) (old new : Held S) (idle : old.in_transaction ≡ false) where
@@ -85,16 +78,6 @@ module _ {S X : Type 0} (g : Ghosts S) (old mid : Held S) (x : X) (looked : Read
       let same = looked.same clean (looked.opened clean).1 in
       (store_same (state g old) (state g mid) same.1 store, ap (λ (d : Contents). d.trees) same.1)
 
-  -- what a call tells of the tables is told of those before the look
-  pub told_back : {A : Type 0} (D : Trees → Type 0) (P : Trees → A → Type 0) (new : State) → Survives (state g mid) new (λ _. ⊥) → (r : Result A RegFault) → TellsOr D P (state g mid) new r
-      → OnStore (state g old) new (λ trees. Answers (IfDamaged (D trees)) (P trees) r)
-  told_back D P new crash (Ok answer) tells clean store =
-      let at = shown_still (clean_before (state g mid) new crash clean) store in
-      subst (λ (t : Trees). P t answer) at.1 (tells clean at.0)
-  told_back D P new crash (Err fault) tells clean store =
-      let at = shown_still (clean_before (state g mid) new crash clean) store in
-      λ is. subst D at.1 ((tells clean at.0).0 is)
-
   -- calls that were accepted
   module _ (new : Held S) (read : IsRead (state g mid) (state g new)) where
     first : HasCleanDisk (state g new) → HasCleanDisk (state g mid)
@@ -120,10 +103,6 @@ module _ {S X : Type 0} (g : Ghosts S) (old mid : Held S) (x : X) (looked : Read
     reads_end {T} why caused r is =
         let known : ReadsAlone {T = T} g old new (Err why) = record { idle = read.idle looked.idle; same = same_on; opened = λ clean. tt; crash = crash_on; caused = λ clean. caused } in
         subst (λ (q : Result T Refusal). ReadsAlone g old new q) (sym is) known
-
-  -- a query that can't be planned
-  pub plan_reads : {T : Type 0} (fault : QueryFault) (r : Result T Refusal) → r ≡ Err (query_refusal fault) → ReadsAlone g old mid r
-  plan_reads fault = reads_end mid (read_still (state g mid)) (query_refusal fault) (query_caused (state g old) (state g mid) fault)
 
   -- calls of which the last was refused
   pub reads_fail : {A T : Type 0} (late : State) (new : Held S) → IsRead (state g mid) late → (P : A → State → State → Type 0) (fault : RegFault) → Reading {A = A} {E = RegFault} late (state g new) (Err fault) P

@@ -1,5 +1,5 @@
 -- The line of a canonical text that tells the rule for identifiers.
-use Rattle.zeb_engine.proofs.Cited.{rules, ◌≡◌, ◌≢◌, ◌↔◌, ◌∙◌, ℕ, List, [], ◌∷◌, ◌++◌, codes, get_or, drop, take, true, false, Some, Ok, refl, sym, ap, subst, arith, append_assoc, decimal, list_any, slice_split, option_map, bytes_eq, slice_split_at, bytes_eq-Decides, Directive, Identifier, Att, Melm, AllUnits, UnitPattern, canonical_line, canonical_text, pattern_text, targets_text, identifier_pattern, IsProfile, is_identifier, pattern_of, IsRead, is_line_feed, profile_sound, AllRead, written_one_line, bytes_other, are_same, is_rule_line, rule_line, same_rule, written}
+use Rattle.zeb_engine.proofs.Cited.{◌≡◌, ◌≢◌, ◌↔◌, ◌∙◌, ℕ, List, [], ◌∷◌, ◌++◌, codes, get_or, drop, take, true, false, Some, Ok, refl, sym, ap, subst, arith, append_assoc, decimal, list_any, slice_split, option_map, bytes_eq, slice_split_at, bytes_eq-Decides, Directive, Identifier, Att, Melm, AllUnits, UnitPattern, canonical_line, canonical_text, pattern_text, targets_text, identifier_pattern, IsProfile, is_identifier, pattern_of, IsRead, is_line_feed, profile_sound, AllRead, written_one_line, bytes_other, are_same, is_rule_line, rule_line, same_rule, written}
 use Rattle.std.specs.List.{find}
 use Rattle.zeb_profile.specs.declared.directives.Directive.TheVariants.{Store}
 

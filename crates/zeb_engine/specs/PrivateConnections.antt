@@ -4,9 +4,14 @@ use Rattle.std.specs.Prelude.{◌≡◌, ◌≢◌, false, ℕ, List, Err, IfErr
 use Rattle.sqlite.specs.Held.{Held, state}
 use Rattle.sqlite.specs.State.{HasCleanDisk, State, Survives}
 use Rattle.sqlite.specs.Store.{Ghosts}
+use Rattle.sqlite.specs.Tree.{Trees}
 use Rattle.zeb_profile.specs.declared.directives.Directive.{Directive}
-use Rattle.zeb_register.specs.Calls.{ChangesNothing}
+use Rattle.zeb_register.specs.declared.faults.RegFault.{RegFault}
+use Rattle.zeb_register.specs.Answers.{Answers, IfDamaged}
+use Rattle.zeb_register.specs.Calls.{ChangesNothing, Reading}
+use Rattle.zeb_register.specs.Clauses.{IsReasoned, OnStore}
 use Rattle.zeb_register.specs.Store.{IsStore}
+use Rattle.zeb_search.specs.Untouched.{IsUntouched}
 use Rattle.zeb_change.specs.declared.refusals.Refusal.{Refusal}
 use Rattle.zeb_change.specs.declared.refusals.Refusal.TheVariants.{Damaged}
 use Rattle.zeb_change.specs.declared.settings.Limits.{Limits}
@@ -16,9 +21,10 @@ use Rattle.zeb_image.specs.Holdings.{Holdings}
 use Rattle.zeb_image.specs.Image.{Keeps}
 use Rattle.zeb_engine.specs.Adopting.{StaysOpen}
 use Rattle.zeb_engine.specs.Causes.{HasStoreCause}
-use Rattle.zeb_engine.specs.PrivateLooking.{IsUnready}
+use Rattle.zeb_engine.specs.PrivateLooking.{IsAskRefusal, IsLook, IsUnready}
 use Rattle.zeb_engine.specs.Readiness.{GoesByTexts, IsReadyFor}
 use Rattle.zeb_engine.specs.Steps.{ready}
+use Rattle.zeb_engine.specs.Transactions.{Commanded}
 
 -- nothing changes
 abbrev pub LeavesAsIs : {S : Type 0} → Ghosts S → Held S → Held S → Type 0
@@ -36,14 +42,35 @@ FindsOpen g old new result = HasCleanDisk (state g new) → OnOk result (StaysOp
 abbrev pub FailsForCause : {S T : Type 0} → Ghosts S → Held S → Held S → Result T Refusal → Type 0
 FailsForCause g old new result = HasCleanDisk (state g new) → HasStoreCause (state g old) (state g new) result
 
--- A call that reads: no transaction is open then, and nothing changes; accepted, it found the connection open and left it so; a crash leaves what it left before; and the
--- store is found failed only for a cause.
+-- A call that reads: no transaction is open then, and nothing changes; accepted, it found the connection open and left it so; a crash leaves what
+-- it left before; and the store is found failed only for a cause.
 pub record ReadsAlone {S T : Type 0} (g : Ghosts S) (old new : Held S) (result : Result T Refusal) : Type 0 where
   pub idle : new.in_transaction ≡ false
   pub same : LeavesAsIs g old new
   pub opened : FindsOpen g old new result
   pub crash : CommitsNothing g old new
   pub caused : FailsForCause g old new result
+
+-- a command on a connection, behind which no transaction is open
+pub record CommandedOf {S T : Type 0} (g : Ghosts S) (old new : Held S) (result : Result T Refusal) : Type 0 where
+  pub idle : new.in_transaction ≡ false
+  pub call : Commanded (state g old) (state g new) result
+
+-- A call that asks a store's tables: it reads alone, its answer or its refusal tells this of them, whatever rows they have, and it is refused as a
+-- call that asks may be.
+pub record AsksTables {S T : Type 0} (g : Ghosts S) (old new : Held S) (result : Result T Refusal)
+    (Told : Trees → Result T Refusal → Type 0) : Type 0 where
+  pub reads : ReadsAlone g old new result
+  pub tables : OnStore (state g old) (state g new) (λ trees. Told trees result)
+  pub few : IfErr result IsAskRefusal
+
+-- A call looks at texts of a store: no transaction is open then, on a clean disk it is a look that finds this, or is refused over such tables, and
+-- a crash leaves what it left before.
+pub record LooksAt {S T : Type 0} (g : Ghosts S) (old new : Held S) (result : Result T Refusal) (Finds : Trees → T → Type 0)
+    (Refuses : Trees → Refusal → Type 0) : Type 0 where
+  pub idle : new.in_transaction ≡ false
+  pub look : HasCleanDisk (state g new) → IsLook Finds Refuses (state g old) (state g new) result
+  pub crash : CommitsNothing g old new
 
 -- the texts of the store tell whether the register was ready
 abbrev pub TellsReady : {S T : Type 0} → Ghosts S → (version : List ℕ) → List Directive → Held S → Held S → Result T Refusal → Type 0
@@ -64,3 +91,10 @@ pub record LooksReady {S : Type 0} (g : Ghosts S) (version : List ℕ) (profile 
       → Meets (λ bases _. IsTrue (state g old).is_open × IsTrue (state g new).is_open) (ready (conditions version profile limits) before) result
   pub few : IfErr result IsUnready
   pub whole : HasCleanDisk (state g new) → IsStore (state g old) → IsReadyFor version profile (state g old).now.trees → result ≢ Err Damaged
+
+-- a call that may find nothing to ask searches a store's tables, as `Searches` says, and counts nothing
+pub record LooksThrough {A : Type 0} (old new : State) (result : Result A RegFault) (Damage : Trees → Type 0)
+    (Found : Trees → A → Type 0) : Type 0 where
+  pub call : Reading old new result (λ _. IsUntouched)
+  pub finds : OnStore old new (λ trees. Answers (IfDamaged (Damage trees)) (Found trees) result)
+  pub refused : IsReasoned old new result

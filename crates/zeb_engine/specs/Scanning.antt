@@ -107,12 +107,14 @@ HidesPlanned format profile text number position trees db =
 abbrev pub HidesTerms : Format → List Directive → (name text : List ℕ) → (number position : ℕ) → Trees → Type 0
 HidesTerms format profile name text number position trees = IsReadable text × HidesOf (HidesPlanned format profile text number position trees) name trees
 
--- On the tables of a store that hold a content, at most as many terms count as read as are asked for and one more, and nothing else.
--- The start is at one of the places that are asked for.
+-- where the start is at one of the places that are asked for, at most as many terms count as read as are asked for and one more, and nothing else
+abbrev pub ScanCounts : ℕ → ℕ → ℕ → Work → Work → Type 0
+ScanCounts row_work number position before after = 1 ≤ position → position ≤ number → CountsAtMost (row_work * (number + 1)) 0 before after
+
+-- so it is on the tables of a store that hold a content
 abbrev pub ScanReads : Format → ℕ → ℕ → ℕ → State → Work → Work → Type 0
 ScanReads format row_work number position s before after =
-    IsStore s → (content : Content) → holds_in format s.now.trees content → 1 ≤ position → position ≤ number
-    → CountsAtMost (row_work * (number + 1)) 0 before after
+    IsStore s → (content : Content) → holds_in format s.now.trees content → ScanCounts row_work number position before after
 
 -- what a scan does on any tables of a store: it changes nothing, goes by the texts of the store, is answered by the postings where the
 -- tables hold a content, and of a ready register tells damage only where its database's last number or the count of a term that it asks

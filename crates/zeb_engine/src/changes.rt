@@ -7,16 +7,15 @@ ghost use Rattle.zeb_register.specs.Catalog.{PutsDatabase};
 ghost use Rattle.zeb_register.specs.Store.{databases_tree};
 ghost use Rattle.zeb_register.specs.Tallies.{CountsNothing};
 ghost use Rattle.zeb_change.specs.Inside.{WorksInsideOf};
-ghost use Rattle.zeb_change.specs.Reading.{NoneFailed, NoReadFault, TellsFaults};
+ghost use Rattle.zeb_change.specs.Reading.{NoneFailed, TellsFaults};
 ghost use Rattle.zeb_change.specs.RecordChanges.{OnRowsOf};
 ghost use Rattle.zeb_image.specs.NameOf.{name_bytes};
 ghost use Rattle.zeb_engine.specs.Changing.{HasNumbersTo};
 ghost use Rattle.zeb_engine.specs.PrivateChanging.{BeginsWith, IsMissedFor, last_of};
-ghost use Rattle.zeb_engine.specs.PrivateConnections.{ReadsAlone};
+ghost use Rattle.zeb_engine.specs.PrivateConnections.{AsksTables, CommandedOf};
 ghost use Rattle.zeb_engine.specs.PrivateDatabaseChanges.{AppliesChange, ChangesDatabase, Transacts, asked};
 ghost use Rattle.zeb_engine.specs.PrivateNumbers.{AreGiven, AreWellNumbered, IsMisnumbered};
-ghost use Rattle.zeb_engine.specs.Transactions.{Commanded};
-ghost use Rattle.zeb_register.specs.Connections.{ChangesTableOf, InStoreOf, InsideOf, OnStoreOf};
+ghost use Rattle.zeb_register.specs.Connections.{ChangesTableOf, InStoreOf, InsideOf};
 
 use crate::readiness::existing_database;
 use crate::replies::Reply;
@@ -166,8 +165,7 @@ fn transact<S: Alter, L: Layout, R: Source>(
     readers: &mut [R],
 ) -> Result<Reply, Refusal>
     requires idle { connection.old.in_transaction ≡ false }
-    ensures idle { connection.new.in_transaction ≡ false }
-    ensures call { Commanded (state S.Store connection.old) (state S.Store connection.new) result }
+    ensures commanded { CommandedOf S.Store connection.old connection.new result }
     ensures transacts { Transacts (AppliesChange (NoneFailed R.has_failed readers.new)
         (asked change.now.setting L.format L.row_work change.now.name.now
         (map R.remaining readers.old))
@@ -190,10 +188,8 @@ fn found_for<S: Alter, L: Layout>(
     name: &DbName,
 ) -> Result<Option<Database>, Refusal>
     requires idle { connection.old.in_transaction ≡ false }
-    ensures reads { ReadsAlone S.Store connection.old connection.new result }
-    ensures unread { NoReadFault result }
-    ensures finds { OnStoreOf S.Store connection.old connection.new
-        (λ trees. MatchResult result (BeginsWith setting.now.kind trees (name_bytes name.now))
+    ensures { AsksTables S.Store connection.old connection.new result
+        (λ trees found. MatchResult found (BeginsWith setting.now.kind trees (name_bytes name.now))
         (IsMissedFor setting.now.kind trees (name_bytes name.now))) }
 {
     match setting.kind {
@@ -215,8 +211,7 @@ pub(crate) fn change_database<S: Alter, L: Layout, R: Source>(
     readers: &mut [R],
 ) -> Result<Reply, Refusal>
     requires idle { connection.old.in_transaction ≡ false }
-    ensures idle { connection.new.in_transaction ≡ false }
-    ensures call { Commanded (state S.Store connection.old) (state S.Store connection.new) result }
+    ensures commanded { CommandedOf S.Store connection.old connection.new result }
     ensures transacts { Transacts (ChangesDatabase (NoneFailed R.has_failed readers.new)
         (asked setting.entry L.format L.row_work name.now
         (map R.remaining readers.old)) work.old work.new)

@@ -1,16 +1,12 @@
 //! What is kept of a database, as it came in.
 
-ghost use Rattle.std.specs.Prelude.{◌≡◌, false, IfErr};
+ghost use Rattle.std.specs.Prelude.{◌≡◌, false};
 ghost use Rattle.sqlite.specs.Held.{state};
-ghost use Rattle.zeb_register.specs.Answers.{TellsOr};
 ghost use Rattle.zeb_register.specs.Kept.{AreReadable};
-ghost use Rattle.zeb_search.specs.Untouched.{IsUntouched};
 ghost use Rattle.zeb_engine.specs.Dumping.{HidesRecords, DumpOver, JoinsRecords};
 ghost use Rattle.zeb_engine.specs.Hidden.{TellsUnlessHidden};
 ghost use Rattle.zeb_image.specs.NameOf.{name_bytes};
-ghost use Rattle.zeb_engine.specs.PrivateConnections.{ReadsAlone};
-ghost use Rattle.zeb_engine.specs.PrivateLooking.{IsAskRefusal};
-ghost use Rattle.zeb_register.specs.Connections.{OnStoreOf, ReadingOf};
+ghost use Rattle.zeb_engine.specs.PrivateConnections.{AsksTables, LooksThrough};
 
 use crate::readiness::existing_database;
 use crate::replies::Reply;
@@ -26,11 +22,10 @@ fn bytes_of<S: Alter>(
     connection: &mut Connection<S>,
     database: DatabaseId,
 ) -> Result<Vec<u8>, RegFault>
-    ensures call { ReadingOf S.Store connection.old connection.new result (λ _. IsUntouched) }
     // Whatever the tables hold, they are the bytes of records of the database, or one of its records can't be read.
-    ensures told { TellsOr (λ trees. ¬ AreReadable trees database.0)
-        (λ trees bytes. JoinsRecords trees database.0 bytes.items)
-        (state S.Store connection.old) (state S.Store connection.new) result }
+    ensures { LooksThrough (state S.Store connection.old) (state S.Store connection.new) result
+        (λ trees. ¬ AreReadable trees database.0)
+        (λ trees bytes. JoinsRecords trees database.0 bytes.items) }
 {
     let mut bytes = Vec::new(alloc);
     let mut next: u64 = 0;
@@ -51,12 +46,9 @@ pub(crate) fn dump<S: Alter, L: Layout>(
     name: &DbName,
 ) -> Result<Reply, Refusal>
     requires idle { connection.old.in_transaction ≡ false }
-    ensures reads { ReadsAlone S.Store connection.old connection.new result }
     // Whatever the tables hold, it is of records that the database keeps, or refused by the definition, or as damage that they have.
-    ensures tables { OnStoreOf S.Store connection.old connection.new
-        (λ trees. TellsUnlessHidden (DumpOver (name_bytes name.now))
-        (HidesRecords (name_bytes name.now)) trees result) }
-    ensures few { IfErr result IsAskRefusal }
+    ensures { AsksTables S.Store connection.old connection.new result
+        (TellsUnlessHidden (DumpOver (name_bytes name.now)) (HidesRecords (name_bytes name.now))) }
 {
     let database = existing_database::<S, L>(alloc, connection, name)?;
     let bytes = bytes_of(alloc, connection, database.id)?;

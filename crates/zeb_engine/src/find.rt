@@ -4,16 +4,13 @@ ghost use Rattle.std.specs.Prelude.{◌≡◌, ◌≢◌, ◌<◌, ◌^◌, ℕ,
 ghost use Rattle.sqlite.specs.Held.{state};
 ghost use Rattle.sqlite.specs.State.{HasCleanDisk};
 ghost use Rattle.sqlite_rules.specs.Lists.{Has};
-ghost use Rattle.zeb_register.specs.Answers.{TellsOr};
 ghost use Rattle.zeb_search.specs.Registers.{has_ident_in};
-ghost use Rattle.zeb_search.specs.Untouched.{IsUntouched};
 ghost use Rattle.zeb_change.specs.Refused.{why_of, store_failed, Meets};
 ghost use Rattle.zeb_engine.specs.Finding.{HidesOne, FindOver, HidesFind, AreShown, asked_of, FindReads};
 ghost use Rattle.zeb_engine.specs.Hidden.{TellsUnlessHidden};
 ghost use Rattle.zeb_image.specs.NameOf.{name_bytes};
-ghost use Rattle.zeb_engine.specs.PrivateConnections.{ReadsAlone};
+ghost use Rattle.zeb_engine.specs.PrivateConnections.{AsksTables, LooksThrough};
 ghost use Rattle.zeb_engine.specs.PrivateLooking.{IsAskRefusal};
-ghost use Rattle.zeb_register.specs.Connections.{OnStoreOf, ReadingOf};
 
 use crate::readiness::existing_database;
 use crate::replies::{Hit, Reply};
@@ -44,13 +41,12 @@ fn show<S: Alter>(
     database: DatabaseId,
     numbers: &[u64],
 ) -> Result<Vec<Hit>, RegFault>
-    ensures call { ReadingOf S.Store connection.old connection.new result (λ _. IsUntouched) }
     // Whatever the tables hold, each is a kept record's, or, where a column can hold the numbers, one of them can't be shown.
-    ensures told { TellsOr (λ trees. ((n : ℕ) → Has numbers.now n → n < 2 ^ 63)
+    ensures { LooksThrough (state S.Store connection.old) (state S.Store connection.new) result
+        (λ trees. ((n : ℕ) → Has numbers.now n → n < 2 ^ 63)
         → HidesOne trees database.0 numbers.now)
-        (λ trees shown. AreShown (has_ident_in trees database.0) numbers.now (map (λ hit.
-        (hit.sysno, string_bytes hit.ident)) shown.items))
-        (state S.Store connection.old) (state S.Store connection.new) result }
+        (λ trees shown. AreShown (has_ident_in trees database.0) numbers.now
+        (map (λ hit. (hit.sysno, string_bytes hit.ident)) shown.items)) }
 {
     let mut shown = Vec::with_capacity(alloc, numbers.len())?;
     for number in numbers {
@@ -99,15 +95,13 @@ pub(crate) fn find<S: Alter, L: Layout>(
     question: Question<'_>,
 ) -> Result<Reply, Refusal>
     requires idle { connection.old.in_transaction ≡ false }
-    ensures reads { ReadsAlone S.Store connection.old connection.new result }
     // Whatever the tables hold, the hits are those that the units tell, a hit is shown only as a record that is kept, and damage is told for a
     // row that the query asks for.
-    ensures tables { OnStoreOf S.Store connection.old connection.new
-        (λ trees. TellsUnlessHidden (FindOver L.format profile.now (name_bytes name.now)
+    ensures asks { AsksTables S.Store connection.old connection.new result
+        (TellsUnlessHidden (FindOver L.format profile.now (name_bytes name.now)
         question.entry.query.now question.entry.first question.entry.count)
         (HidesFind L.format profile.now (name_bytes name.now) question.entry.query.now
-        question.entry.first question.entry.count) trees result) }
-    ensures few { IfErr result IsAskRefusal }
+        question.entry.first question.entry.count)) }
     // No row is written; of terms no more are read than the searched registers have, once for each pattern with a star and each entry that
     // isn't named, and no more lists than those that the query asks for.
     ensures work { (L.row_work ≡ 0 → work.new ≡ work.old)

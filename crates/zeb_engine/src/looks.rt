@@ -1,15 +1,13 @@
 //! Looks at the texts of a store: its layout's version, its profile, and its rule for identifiers.
 
 ghost use Rattle.std.specs.Prelude.{◌≡◌, false, codes, string_bytes, IfErr};
-ghost use Rattle.sqlite.specs.Held.{state};
-ghost use Rattle.sqlite.specs.State.{HasCleanDisk};
 ghost use Rattle.zeb_register.specs.Formats.{version_of};
 ghost use Rattle.zeb_change.specs.Reading.{NoReadFault};
-ghost use Rattle.zeb_engine.specs.PrivateLooking.{FindsStanding, IsLook, IsUnready, RefusesVersion, TellsStanding};
+ghost use Rattle.zeb_engine.specs.PrivateLooking.{FindsStanding, IsUnready, RefusesVersion, TellsStanding};
 ghost use Rattle.zeb_engine.specs.Reindexing.{IsReadyToReindex, RefusesReindex};
 ghost use Rattle.zeb_engine.specs.Readiness.{KeepsText, RefusesText, TellsText};
 ghost use Rattle.zeb_engine.specs.Upgrading.{RefusesUpgrade};
-ghost use Rattle.zeb_engine.specs.PrivateConnections.{CommitsNothing};
+ghost use Rattle.zeb_engine.specs.PrivateConnections.{LooksAt};
 
 use crate::readiness::{IDENTIFIER, PROFILE, VERSION};
 use sqlite::{Alter, Connection};
@@ -40,13 +38,9 @@ pub(crate) enum Standing {
 /// The version of the tables' layout. `NotInitialised` where none is kept.
 pub(crate) fn kept_version<S: Alter>(connection: &mut Connection<S>) -> Result<String, Refusal>
     requires idle { connection.old.in_transaction ≡ false }
-    ensures idle { connection.new.in_transaction ≡ false }
-    ensures look { HasCleanDisk (state S.Store connection.new)
-        → IsLook (λ trees version. KeepsText trees (codes "version") (string_bytes version))
-        RefusesVersion (state S.Store connection.old)
-        (state S.Store connection.new) result }
+    ensures looks { LooksAt S.Store connection.old connection.new result
+        (λ trees version. KeepsText trees (codes "version") (string_bytes version)) RefusesVersion }
     ensures few { IfErr result IsUnready }
-    ensures crash { CommitsNothing S.Store connection.old connection.new }
 {
     match meta_of(connection, VERSION)? {
         Some(version) => Ok(version),
@@ -61,12 +55,9 @@ pub(crate) fn keeps_text<S: Alter>(
     text: &str,
 ) -> Result<bool, Refusal>
     requires idle { connection.old.in_transaction ≡ false }
-    ensures idle { connection.new.in_transaction ≡ false }
-    ensures look { HasCleanDisk (state S.Store connection.new)
-        → IsLook (TellsText name.now text.now) (RefusesText name.now) (state S.Store connection.old)
-        (state S.Store connection.new) result }
+    ensures looks { LooksAt S.Store connection.old connection.new result
+        (TellsText name.now text.now) (RefusesText name.now) }
     ensures few { IfErr result IsUnready }
-    ensures crash { CommitsNothing S.Store connection.old connection.new }
 {
     match meta_of(connection, name)? {
         Some(found) => Ok(found.as_str() == text),
@@ -81,13 +72,10 @@ pub(crate) fn check_rule<S: Alter, L: Layout>(
     profile: &Profile,
 ) -> Result<(), Refusal>
     requires idle { connection.old.in_transaction ≡ false }
-    ensures idle { connection.new.in_transaction ≡ false }
-    ensures look { HasCleanDisk (state S.Store connection.new)
-        → IsLook (λ trees _. IsReadyToReindex (version_of L.format) profile.now trees)
-        (RefusesReindex (version_of L.format) profile.now)
-        (state S.Store connection.old) (state S.Store connection.new) result }
+    ensures looks { LooksAt S.Store connection.old connection.new result
+        (λ trees _. IsReadyToReindex (version_of L.format) profile.now trees)
+        (RefusesReindex (version_of L.format) profile.now) }
     ensures unread { NoReadFault result }
-    ensures crash { CommitsNothing S.Store connection.old connection.new }
 {
     let version = kept_version(connection)?;
     if version.as_str() != L::version() {
@@ -126,13 +114,10 @@ pub(crate) fn check_layout<S: Alter, L: Layout>(
     profile: &Profile,
 ) -> Result<Standing, Refusal>
     requires idle { connection.old.in_transaction ≡ false }
-    ensures idle { connection.new.in_transaction ≡ false }
-    ensures look { HasCleanDisk (state S.Store connection.new)
-        → IsLook (FindsStanding (version_of L.format) profile.now)
-        (RefusesUpgrade (version_of L.format) profile.now)
-        (state S.Store connection.old) (state S.Store connection.new) result }
+    ensures looks { LooksAt S.Store connection.old connection.new result
+        (FindsStanding (version_of L.format) profile.now)
+        (RefusesUpgrade (version_of L.format) profile.now) }
     ensures unread { NoReadFault result }
-    ensures crash { CommitsNothing S.Store connection.old connection.new }
 {
     let version = kept_version(connection)?;
     let Some(standing) = standing_of::<L>(version.as_str()) else {

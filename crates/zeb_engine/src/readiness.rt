@@ -1,14 +1,11 @@
 //! Whether a register may be used by a session, and which of its databases is meant.
 
 ghost use Rattle.std.specs.Prelude.{◌≡◌, false, IfErr};
-ghost use Rattle.sqlite.specs.Held.{state};
-ghost use Rattle.sqlite.specs.State.{HasCleanDisk};
 ghost use Rattle.zeb_register.specs.Formats.{version_of};
 ghost use Rattle.zeb_image.specs.NameOf.{name_bytes};
-ghost use Rattle.zeb_engine.specs.PrivateLooking.{FindsNamed, IsAskRefusal, IsLook, IsUnready, RefusesTexts};
+ghost use Rattle.zeb_engine.specs.PrivateLooking.{FindsNamed, IsUnready, RefusesTexts};
 ghost use Rattle.zeb_engine.specs.Readiness.{IsReadyFor};
-ghost use Rattle.zeb_engine.specs.PrivateConnections.{CommitsNothing, LooksReady, ReadsAlone};
-ghost use Rattle.zeb_register.specs.Connections.{OnStoreOf};
+ghost use Rattle.zeb_engine.specs.PrivateConnections.{AsksTables, LooksAt, LooksReady};
 
 use crate::looks::{keeps_text, kept_version};
 use sqlite::{Alter, Connection};
@@ -53,13 +50,10 @@ fn check_texts<S: Alter, L: Layout>(
     profile: &Profile,
 ) -> Result<(), Refusal>
     requires idle { connection.old.in_transaction ≡ false }
-    ensures idle { connection.new.in_transaction ≡ false }
-    ensures look { HasCleanDisk (state S.Store connection.new)
-        → IsLook (λ trees _. IsReadyFor (version_of L.format) profile.now trees)
-        (RefusesTexts (version_of L.format) profile.now)
-        (state S.Store connection.old) (state S.Store connection.new) result }
+    ensures looks { LooksAt S.Store connection.old connection.new result
+        (λ trees _. IsReadyFor (version_of L.format) profile.now trees)
+        (RefusesTexts (version_of L.format) profile.now) }
     ensures few { IfErr result IsUnready }
-    ensures crash { CommitsNothing S.Store connection.old connection.new }
 {
     let version = kept_version(connection)?;
     if version.as_str() != L::version() {
@@ -79,11 +73,9 @@ pub(crate) fn existing_database<S: Alter, L: Layout>(
     name: &DbName,
 ) -> Result<Database, Refusal>
     requires idle { connection.old.in_transaction ≡ false }
-    ensures reads { ReadsAlone S.Store connection.old connection.new result }
     // Whatever the tables hold, it goes by the row of the name.
-    ensures finds { OnStoreOf S.Store connection.old connection.new
-        (λ trees. FindsNamed (name_bytes name.now) trees result) }
-    ensures few { IfErr result IsAskRefusal }
+    ensures { AsksTables S.Store connection.old connection.new result
+        (FindsNamed (name_bytes name.now)) }
 {
     match database_of(connection, name.as_str())? {
         Some(database) => Ok(database),

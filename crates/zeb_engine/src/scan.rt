@@ -1,17 +1,14 @@
 //! Scanning the terms of a register around a start.
 
-ghost use Rattle.std.specs.Prelude.{◌≡◌, ◌++◌, false, IfErr, IfOk, OnOk};
+ghost use Rattle.std.specs.Prelude.{◌≡◌, ◌++◌, false, IfOk, OnOk};
 ghost use Rattle.sqlite.specs.Held.{state};
 ghost use Rattle.sqlite.specs.State.{HasCleanDisk};
 ghost use Rattle.zeb_query.specs.Plans.{scan_value};
-ghost use Rattle.zeb_register.specs.Answers.{TellsOr};
-ghost use Rattle.zeb_search.specs.Untouched.{IsUntouched};
-ghost use Rattle.zeb_engine.specs.Scanning.{HidesAround, HidesTerms, ScanOver, TellsAround, ScanReads};
+ghost use Rattle.zeb_search.specs.Searching.{Searches};
+ghost use Rattle.zeb_engine.specs.Scanning.{HidesAround, HidesTerms, ScanOver, TellsAround, ScanCounts, ScanReads};
 ghost use Rattle.zeb_engine.specs.Hidden.{TellsUnlessHidden};
 ghost use Rattle.zeb_image.specs.NameOf.{name_bytes};
-ghost use Rattle.zeb_engine.specs.PrivateConnections.{ReadsAlone};
-ghost use Rattle.zeb_engine.specs.PrivateLooking.{IsAskRefusal};
-ghost use Rattle.zeb_register.specs.Connections.{OnStoreOf, ReadingOf};
+ghost use Rattle.zeb_engine.specs.PrivateConnections.{AsksTables};
 
 use crate::readiness::existing_database;
 use crate::replies::Reply;
@@ -51,17 +48,14 @@ fn terms_around<S: Alter, L: Layout>(
     plan: &ScanPlan,
     around: &Around<'_>,
 ) -> Result<Vec<TermCount>, RegFault>
-    ensures call { ReadingOf S.Store connection.old connection.new result (λ _. IsUntouched) }
     // Whatever the tables hold, they are those that the counts tell, or the count of one of them can't be shown.
-    ensures told { TellsOr (λ trees. HidesAround L.format trees database.0 (scan_value plan.now)
-        around.now.number around.now.position)
+    ensures { Searches L.format L.row_work
+        (λ trees. HidesAround L.format trees database.0 (scan_value plan.now) around.now.number
+        around.now.position)
         (λ trees terms. TellsAround L.format trees database.0 (scan_value plan.now)
         around.now.number around.now.position terms.items)
-        (state S.Store connection.old) (state S.Store connection.new) result }
-    ensures work { (L.row_work ≡ 0 → work.new ≡ work.old)
-        × (HasCleanDisk (state S.Store connection.new)
-        → OnOk result (ScanReads L.format L.row_work around.now.number around.now.position
-        (state S.Store connection.old) work.old work.new)) }
+        (λ _. ScanCounts L.row_work around.now.number around.now.position)
+        (state S.Store connection.old) (state S.Store connection.new) work.old work.new result }
 {
     let below = (around.position as u64).saturating_sub(1);
     let from = (around.number as u64 + 1).saturating_sub(around.position as u64);
@@ -86,15 +80,13 @@ pub(crate) fn scan<S: Alter, L: Layout>(
     around: Around<'_>,
 ) -> Result<Reply, Refusal>
     requires idle { connection.old.in_transaction ≡ false }
-    ensures reads { ReadsAlone S.Store connection.old connection.new result }
     // Whatever the tables hold, the terms are those that the rows around the start tell, or it is refused by the definition, or as damage
     // that these rows or the database's have.
-    ensures tables { OnStoreOf S.Store connection.old connection.new
-        (λ trees. TellsUnlessHidden (ScanOver L.format profile.now (name_bytes name.now)
+    ensures asks { AsksTables S.Store connection.old connection.new result
+        (TellsUnlessHidden (ScanOver L.format profile.now (name_bytes name.now)
         around.entry.query.now around.entry.number around.entry.position)
         (HidesTerms L.format profile.now (name_bytes name.now) around.entry.query.now
-        around.entry.number around.entry.position) trees result) }
-    ensures few { IfErr result IsAskRefusal }
+        around.entry.number around.entry.position)) }
     // The terms that are asked for are read, one more at most, and nothing else.
     ensures work { (L.row_work ≡ 0 → work.new ≡ work.old)
         × (HasCleanDisk (state S.Store connection.new)

@@ -1,16 +1,13 @@
 //! How much a database holds.
 
-ghost use Rattle.std.specs.Prelude.{◌≡◌, ◌++◌, false, IfErr, IfOk, OnOk, string_bytes};
+ghost use Rattle.std.specs.Prelude.{◌≡◌, ◌++◌, false, IfOk, OnOk, string_bytes};
 ghost use Rattle.sqlite.specs.Held.{state};
-ghost use Rattle.zeb_register.specs.Answers.{TellsOr};
-ghost use Rattle.zeb_search.specs.Untouched.{IsUntouched};
+ghost use Rattle.zeb_search.specs.Searching.{Searches};
 ghost use Rattle.zeb_engine.specs.Counting.{HidesRegister, HidesRegisters, IsSummedUp, StatOver, Paired, name_of_index, target_in, target_list};
 ghost use Rattle.zeb_engine.specs.Hidden.{TellsUnlessHidden};
 ghost use Rattle.zeb_engine.specs.Answers.{extent_of};
 ghost use Rattle.zeb_image.specs.NameOf.{name_bytes};
-ghost use Rattle.zeb_engine.specs.PrivateConnections.{ReadsAlone};
-ghost use Rattle.zeb_engine.specs.PrivateLooking.{IsAskRefusal};
-ghost use Rattle.zeb_register.specs.Connections.{OnStoreOf, ReadingOf};
+ghost use Rattle.zeb_engine.specs.PrivateConnections.{AsksTables};
 
 use crate::readiness::existing_database;
 use crate::replies::{Holding, Reply};
@@ -83,14 +80,14 @@ fn holdings_of<S: Alter, L: Layout>(
     database: DatabaseId,
     targets: &[(u32, Register)],
 ) -> Result<Vec<Holding>, RegFault>
-    ensures call { ReadingOf S.Store connection.old connection.new result (λ _. IsUntouched) }
-    // Whatever the tables hold, each stands under the name of its index, and is what its register sums up to.
-    ensures told { TellsOr (λ trees. HidesRegister L.format targets.now trees database.0)
+    // Whatever the tables hold, each stands under the name of its index, and is what its register sums up to. What it counts in a layout
+    // that counts isn't said.
+    ensures { Searches L.format L.row_work
+        (λ trees. HidesRegister L.format targets.now trees database.0)
         (λ trees holdings. Paired (λ target holding.
         IsSummedUp L.format profile.now trees database.0 target (extent_of holding)) targets.now
-        holdings.items)
-        (state S.Store connection.old) (state S.Store connection.new) result }
-    ensures no_work { L.row_work ≡ 0 → work.new ≡ work.old }
+        holdings.items) (λ _ _ _. Unit {0})
+        (state S.Store connection.old) (state S.Store connection.new) work.old work.new result }
 {
     let mut holdings = Vec::with_capacity(alloc, targets.len())?;
     for target in targets {
@@ -115,13 +112,11 @@ pub(crate) fn stat<S: Alter, L: Layout>(
     name: &DbName,
 ) -> Result<Reply, Refusal>
     requires idle { connection.old.in_transaction ≡ false }
-    ensures reads { ReadsAlone S.Store connection.old connection.new result }
     // Whatever the tables hold, the records are counted, the last number is told and the rows of the registers are sound, or it is refused by
     // the definition, or as damage that these rows or the database's have.
-    ensures tables { OnStoreOf S.Store connection.old connection.new
-        (λ trees. TellsUnlessHidden (StatOver L.format profile.now (name_bytes name.now))
-        (HidesRegisters L.format profile.now (name_bytes name.now)) trees result) }
-    ensures few { IfErr result IsAskRefusal }
+    ensures asks { AsksTables S.Store connection.old connection.new result
+        (TellsUnlessHidden (StatOver L.format profile.now (name_bytes name.now))
+        (HidesRegisters L.format profile.now (name_bytes name.now))) }
     ensures no_work { L.row_work ≡ 0 → work.new ≡ work.old }
 {
     let database = existing_database::<S, L>(alloc, connection, name)?;

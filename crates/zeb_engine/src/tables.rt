@@ -3,10 +3,10 @@
 ghost use Rattle.std.specs.Prelude.{◌≡◌, false, OnOk, IfErr};
 ghost use Rattle.sqlite.specs.Held.{state};
 ghost use Rattle.sqlite.specs.State.{HasCleanDisk, Survives};
+ghost use Rattle.zeb_engine.specs.PrivateConnections.{CommandedOf};
 ghost use Rattle.zeb_engine.specs.Adopting.{HasOtherTables};
 ghost use Rattle.zeb_engine.specs.PrivateAdopting.{MakesTables, MayBeTaken, TakesOwn};
 ghost use Rattle.zeb_engine.specs.PrivateCrashes.{CommitsTables};
-ghost use Rattle.zeb_engine.specs.Transactions.{Commanded};
 
 use sqlite::{Alter, Connection};
 use zeb_change::Refusal;
@@ -31,8 +31,7 @@ fn check_tables<S: Alter>(connection: &Connection<S>) -> Result<(), Refusal>
 /// store is refused (`Store`) before anything is written.
 pub(crate) fn make_absent_tables<S: Alter>(connection: &mut Connection<S>) -> Result<(), Refusal>
     requires idle { connection.old.in_transaction ≡ false }
-    ensures idle { connection.new.in_transaction ≡ false }
-    ensures call { Commanded (state S.Store connection.old) (state S.Store connection.new) result }
+    ensures commanded { CommandedOf S.Store connection.old connection.new result }
     ensures makes { HasCleanDisk (state S.Store connection.new) → OnOk result
         (MakesTables (state S.Store connection.old) (state S.Store connection.new)) }
     ensures survives { Survives (state S.Store connection.old) (state S.Store connection.new)

@@ -14,12 +14,12 @@ ghost use Rattle.zeb_change.specs.Outcomes.{register_refusal};
 ghost use Rattle.zeb_change.specs.RecordChanges.{OnRowsOf};
 ghost use Rattle.zeb_image.specs.NameOf.{name_bytes};
 ghost use Rattle.zeb_image.specs.Rebuilding.{AreSound};
+ghost use Rattle.zeb_engine.specs.PrivateConnections.{CommandedOf};
 ghost use Rattle.zeb_engine.specs.Costs.{no_work};
 ghost use Rattle.zeb_engine.specs.PrivateDatabaseChanges.{Transacts};
 ghost use Rattle.zeb_engine.specs.PrivateDone.{CommandDone};
 ghost use Rattle.zeb_engine.specs.PrivateLooking.{IsAskRefusal};
 ghost use Rattle.zeb_engine.specs.PrivateWriting.{LeavesNoDatabase, CreatesDatabase, DropsNamed, IsUnsound, IsWriteRefusal, MakesRow, PutsTexts, RemakesRows, TakesRows, WriteDoes, WriteWorks};
-ghost use Rattle.zeb_engine.specs.Transactions.{Commanded};
 ghost use Rattle.zeb_register.specs.Connections.{InsideOf};
 
 use crate::commands::Command;
@@ -178,8 +178,7 @@ pub(crate) fn transact<S: Alter, L: Layout>(
     write: &Write<'_>,
 ) -> Result<Reply, Refusal>
     requires idle { connection.old.in_transaction ≡ false }
-    ensures idle { connection.new.in_transaction ≡ false }
-    ensures call { Commanded (state S.Store connection.old) (state S.Store connection.new) result }
+    ensures commanded { CommandedOf S.Store connection.old connection.new result }
     ensures transacts { Transacts (WriteDoes L.format write.now) (state S.Store connection.old)
         (state S.Store connection.new) result }
     ensures few { IfErr result (IsWriteRefusal write.now) }
@@ -225,8 +224,7 @@ pub(crate) fn create_database<S: Alter, L: Layout>(
     name: &DbName,
 ) -> Result<Reply, Refusal>
     requires idle { connection.old.in_transaction ≡ false }
-    ensures idle { connection.new.in_transaction ≡ false }
-    ensures call { Commanded (state S.Store connection.old) (state S.Store connection.new) result }
+    ensures commanded { CommandedOf S.Store connection.old connection.new result }
     // Whatever the tables hold, it goes by the row of the name.
     ensures transacts { Transacts (CreatesDatabase (name_bytes name.now))
         (state S.Store connection.old) (state S.Store connection.new) result }
@@ -246,8 +244,7 @@ pub(crate) fn drop_database<S: Alter, L: Layout>(
     name: &DbName,
 ) -> Result<Reply, Refusal>
     requires idle { connection.old.in_transaction ≡ false }
-    ensures idle { connection.new.in_transaction ≡ false }
-    ensures call { Commanded (state S.Store connection.old) (state S.Store connection.new) result }
+    ensures commanded { CommandedOf S.Store connection.old connection.new result }
     ensures transacts { Transacts (DropsNamed L.format (name_bytes name.now))
         (state S.Store connection.old) (state S.Store connection.new) result }
     ensures few { IfErr result IsAskRefusal }

@@ -2,7 +2,7 @@
 pub use Rattle.sqlite.specs.Effect.{Database, IsDatabase}
 pub use Rattle.sqlite.specs.Held.{state}
 pub use Rattle.sqlite.specs.Order.{Row, column, row_cmp, value_cmp}
-pub use Rattle.sqlite.specs.State.{HasCleanDisk, Shown, State, IsUnchanged, FailsToQuery, Survives, IsTooLate, Executes}
+pub use Rattle.sqlite.specs.State.{HasCleanDisk, Shown, State, IsUnchanged, FailsToQuery, Survives, Executes}
 pub use Rattle.sqlite.specs.Term.{Term, eval, col, lit}
 pub use Rattle.sqlite.specs.Tree.{Trees}
 pub use Rattle.sqlite.specs.declared.types.Value.TheVariants.{Blob, Int, Null, Real, Text}
@@ -19,7 +19,7 @@ pub use Rattle.std.proofs.lemmas.Cmp.{tied_itself}
 pub use Rattle.std.proofs.lemmas.List.{length-append, length-map, drop_more, length-drop, length-reverse, drop-drop, take-append-drop, take_rest, take_more, reverse-reverse, drop_all}
 pub use Rattle.std.proofs.lemmas.List.Elements.{filter-append, Contains-append_cases}
 pub use Rattle.std.proofs.lemmas.List.Sums.{sum_by-append, sum_by-cons}
-pub use Rattle.std.proofs.lemmas.Result.{IfOk-weaker, err_from_is_err_and}
+pub use Rattle.std.proofs.lemmas.Result.{IfOk-weaker}
 pub use Rattle.std.specs.Cmp.{IsTotalOrder, int_cmp_total, nat_cmp_total, on_total, then_total}
 pub use Rattle.std.specs.Cmp.Lexicographic.{nat_list_cmp_total, slice_cmp}
 pub use Rattle.std.specs.List.{AllByRecursion, sum_by, list_any}
@@ -105,8 +105,8 @@ pub use Rattle.zeb_register.proofs.YesNoAnswers.{match_so}
 pub use Rattle.zeb_register.specs.Agreeing.{IsLeastFrom, IsListedId, IsThere, LacksPostingsAndDict, Owns, expected_name, listed_name, AreBeside, ListsAgree}
 pub use Rattle.zeb_register.specs.Answers.{Answers, Asks, IfDamaged, IfRowDamaged, LooksInto}
 pub use Rattle.zeb_register.specs.Between.{IsBetween}
-pub use Rattle.zeb_register.specs.Calls.{MayRefuse, Reading, ChangesNothing, Alters, Inside, OnlyReads}
-pub use Rattle.zeb_register.specs.Clauses.{IsReasonedError, TellsInside}
+pub use Rattle.zeb_register.specs.Calls.{MayRefuse, Reading, ChangesNothing, Alters, Inside}
+pub use Rattle.zeb_register.specs.Clauses.{IsReasonedError}
 pub use Rattle.zeb_register.specs.Content.{Content, HasRisingLists, IsWithout, places_in, posted, posting_cmp, posting_at}
 pub use Rattle.zeb_register.specs.Covering.{Covers, HasEntriesAt, IsUpTo, LacksEntriesAt, ShowsEntries, leaf_key, own_key, HasTextTerm}
 pub use Rattle.zeb_register.specs.Expected.{key_posting_order, AreExpected, IsOrdered}

@@ -46,6 +46,7 @@ module _ {A : Type 0} (Damage : Trees → Type 0) (Found : Trees → A → Type 
             let at = still.now_is (before clean) in
             subst (λ (d : Database). Answers (IfDamaged (Damage d.trees)) (Found d.trees) r) at (it.finds clean (store_same a b at store));
         refused = λ clean store is. may_after a b c still.crash (still.opened (before clean)) (λ _. it.refused clean (store_same a b (still.now_is (before clean)) store) is);
+        opened = λ clean is. (still.kept (before clean) (it.opened clean is)).0.was_open;
       }
     where
       unchanged : HasCleanDisk c → (answer : Result A RegFault) → IfOk answer (λ _. IsUnchanged b c) → IfOk answer (λ _. IsUnchanged a c)

@@ -1,16 +1,15 @@
 -- What only the contracts of private functions speak of; no public clause reaches it: what statements show of leaves inside a transaction,
 -- and which leaf is found behind a key.
-use Rattle.std.specs.Prelude.{◌≡◌, ℕ, ℤ, false, List, Option, Some, None, Result, IfOk}
+use Rattle.std.specs.Prelude.{◌≡◌, ℕ, ℤ, false, List, Option, Some, None}
 use Rattle.std.specs.Option.{option_map}
 use Rattle.std.specs.Ordering.{is_lt}
-use Rattle.sqlite.specs.declared.error.Error.{Error}
 use Rattle.sqlite.specs.declared.types.Value.TheVariants.{Int, Text}
 use Rattle.sqlite.specs.Order.{Row, column, value_cmp}
-use Rattle.sqlite.specs.State.{HasCleanDisk, Shown, State}
+use Rattle.sqlite.specs.State.{Shown, State}
 use Rattle.sqlite.specs.Tree.{Trees}
 use Rattle.zeb_leaf_rows.specs.LeafRows.{IsLastOf}
 use Rattle.zeb_leaf_rows.specs.PrivateLeafRows.{IsFirst}
-use Rattle.zeb_register.specs.Calls.{Inside, OnlyReads}
+use Rattle.zeb_register.specs.Calls.{OnlyReads}
 use Rattle.zeb_register.specs.Covering.{IsUpTo, own_key}
 use Rattle.zeb_register.specs.declared.registers.RegisterOf.{RegisterOf}
 use Rattle.zeb_register.specs.PrivateKeyColumns.{register_columns}
@@ -18,10 +17,10 @@ use Rattle.zeb_register.specs.Store.{IsRest, blocks_tree}
 
 -- ---- what statements show: a row by the columns behind its register
 
--- a query inside a transaction tells the last of the rows that it shows, and changes nothing
-pub record ShowsLast (sql : List ℕ) (params : Row) (old new : State) (result : Result (Option Row) Error) : Type 0 where
-  pub call : Inside old new result (λ _. OnlyReads)
-  pub last : HasCleanDisk new → IfOk result (λ found. (rows : List Row) × Shown sql params old new rows × IsLastOf rows found)
+-- a query inside a transaction changes nothing, and tells the last of the rows that it shows
+pub record ShowsLast (sql : List ℕ) (params : Row) (found : Option Row) (old new : State) : Type 0 where
+  pub reads : OnlyReads old new
+  pub last : (rows : List Row) × Shown sql params old new rows × IsLastOf rows found
 
 -- the one with the least own key
 abbrev pub IsLeast : (Row → Type 0) → Option Row → Type 0

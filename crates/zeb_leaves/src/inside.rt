@@ -8,9 +8,8 @@ ghost use Rattle.zeb_leaf_rows.specs.PrivateLeafRows.{IsCovering};
 ghost use Rattle.zeb_leaves.specs.PrivateLeafReads.{IsLeast, IsNextBehind, TellsKey};
 ghost use Rattle.zeb_leaves.specs.PrivateLeafWrites.{HidesEnd, IsEndAt};
 ghost use Rattle.zeb_leaves.specs.PrivateTermReads.{IsRowFrom};
-ghost use Rattle.zeb_register.specs.Answers.{Answers, IfDamaged};
-ghost use Rattle.zeb_register.specs.Calls.{OnlyReads};
-ghost use Rattle.zeb_register.specs.Connections.{InStoreOf, InsideOf, TellsInsideOf};
+ghost use Rattle.zeb_register.specs.Answers.{IfDamaged};
+ghost use Rattle.zeb_register.specs.Connections.{AsksInsideOf, LooksInsideOf};
 ghost use Rattle.zeb_register.specs.Covering.{IsUpTo, leaf_key};
 
 use crate::own_entries::is_below;
@@ -62,9 +61,8 @@ fn covering_by_term<S: Alter>(
     block: u64,
 ) -> Result<Option<Row>, Error>
     requires { block < 2 ^ 56 }
-    ensures call { InsideOf S.Store tx.old.conn tx.new.conn result (λ _. OnlyReads) }
-    ensures covers { TellsInsideOf S.Store tx.old.conn tx.new.conn result
-        (λ trees found. IsCovering (IsLeafIn trees at) (leaf_key term.now block) found) }
+    ensures { AsksInsideOf S.Store tx.old.conn tx.new.conn result
+        (λ trees. IsCovering (IsLeafIn trees at) (leaf_key term.now block)) }
 {
     let end = block as i64 + 1;
     match leaf_of_term_inside(tx, at, term, end)? {
@@ -82,9 +80,8 @@ fn covering_leaf<S: Alter>(
     block: u64,
 ) -> Result<Option<Row>, Error>
     requires { block < 2 ^ 56 }
-    ensures call { InsideOf S.Store tx.old.conn tx.new.conn result (λ _. OnlyReads) }
-    ensures covers { TellsInsideOf S.Store tx.old.conn tx.new.conn result
-        (λ trees found. IsCovering (IsLeafIn trees at) (leaf_key term.now block) found) }
+    ensures { AsksInsideOf S.Store tx.old.conn tx.new.conn result
+        (λ trees. IsCovering (IsLeafIn trees at) (leaf_key term.now block)) }
 {
     let end = text_above(alloc, term)?;
     let key = BlockKey {
@@ -101,10 +98,9 @@ fn covering_leaf<S: Alter>(
 
 /// No leaf. `Damaged` where the register has one.
 fn no_leaf<S: Alter>(tx: &mut Transaction<'_, S>, at: RegisterOf) -> Result<Option<Row>, RegFault>
-    ensures call { InsideOf S.Store tx.old.conn tx.new.conn result (λ _. OnlyReads) }
-    ensures none { InStoreOf S.Store tx.old.conn tx.new.conn (λ trees. Answers
-        (IfDamaged ((leaf : _) × IsLeafIn trees at leaf)) (λ found. (found ≡ None)
-        × ((leaf : _) → ¬ IsLeafIn trees at leaf)) result) }
+    ensures { LooksInsideOf S.Store tx.old.conn tx.new.conn result
+        (λ trees. IfDamaged ((leaf : _) × IsLeafIn trees at leaf))
+        (λ trees found. (found ≡ None) × ((leaf : _) → ¬ IsLeafIn trees at leaf)) }
 {
     match some_row_inside(tx, at)? {
         Some(_) => Err(RegFault::Damaged),
@@ -121,10 +117,9 @@ pub(crate) fn leaf_inside<S: Alter>(
     block: u64,
 ) -> Result<Option<Row>, RegFault>
     requires { block < 2 ^ 56 }
-    ensures call { InsideOf S.Store tx.old.conn tx.new.conn result (λ _. OnlyReads) }
-    ensures finds { InStoreOf S.Store tx.old.conn tx.new.conn
-        (λ trees. Answers (IfDamaged (IsUncovered (IsLeafIn trees at) (leaf_key term.now block)))
-        (λ found. IsLeafAt (IsLeafIn trees at) (leaf_key term.now block) found) result) }
+    ensures { LooksInsideOf S.Store tx.old.conn tx.new.conn result
+        (λ trees. IfDamaged (IsUncovered (IsLeafIn trees at) (leaf_key term.now block)))
+        (λ trees. IsLeafAt (IsLeafIn trees at) (leaf_key term.now block)) }
 {
     match covering_leaf(alloc, tx, at, term, block)? {
         Some(leaf) => Ok(Some(leaf)),
@@ -139,9 +134,8 @@ fn key_of_terms_above<S: Alter>(
     at: RegisterOf,
     term: &str,
 ) -> Result<Option<Row>, Error>
-    ensures call { InsideOf S.Store tx.old.conn tx.new.conn result (λ _. OnlyReads) }
-    ensures finds { TellsInsideOf S.Store tx.old.conn tx.new.conn result
-        (λ trees key. TellsKey (IsLeast (IsRowFrom at (term.now ++ 0 ∷ []) trees)) key) }
+    ensures { AsksInsideOf S.Store tx.old.conn tx.new.conn result
+        (λ trees. TellsKey (IsLeast (IsRowFrom at (term.now ++ 0 ∷ []) trees))) }
 {
     let first = text_above(alloc, term)?;
     key_of_terms_from(tx, at, first.as_str())
@@ -157,9 +151,8 @@ fn behind_by_term<S: Alter>(
     block: u64,
 ) -> Result<Option<Row>, Error>
     requires { block < 2 ^ 56 }
-    ensures call { InsideOf S.Store tx.old.conn tx.new.conn result (λ _. OnlyReads) }
-    ensures finds { TellsInsideOf S.Store tx.old.conn tx.new.conn result
-        (λ trees key. TellsKey (IsNextBehind (IsLeafIn trees at) (leaf_key term.now block)) key) }
+    ensures { AsksInsideOf S.Store tx.old.conn tx.new.conn result
+        (λ trees. TellsKey (IsNextBehind (IsLeafIn trees at) (leaf_key term.now block))) }
 {
     let first = block as i64 + 1;
     match key_of_term_from(tx, at, term, first)? {
@@ -177,9 +170,8 @@ pub(crate) fn key_behind<S: Alter>(
     block: u64,
 ) -> Result<Option<Row>, Error>
     requires { block < 2 ^ 56 }
-    ensures call { InsideOf S.Store tx.old.conn tx.new.conn result (λ _. OnlyReads) }
-    ensures finds { TellsInsideOf S.Store tx.old.conn tx.new.conn result
-        (λ trees key. TellsKey (IsNextBehind (IsLeafIn trees at) (leaf_key term.now block)) key) }
+    ensures { AsksInsideOf S.Store tx.old.conn tx.new.conn result
+        (λ trees. TellsKey (IsNextBehind (IsLeafIn trees at) (leaf_key term.now block))) }
 {
     let key = BlockKey {
         term: term.as_bytes(),

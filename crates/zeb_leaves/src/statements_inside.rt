@@ -1,14 +1,11 @@
 //! The statements that find a leaf inside a transaction, or its own key.
 
-ghost use Rattle.std.specs.Prelude.{◌≡◌};
-ghost use Rattle.sqlite.specs.Held.{state};
 ghost use Rattle.sqlite.specs.Values.{bound};
 ghost use Rattle.zeb_leaf_rows.specs.LeafRows.{IsLeafIn};
 ghost use Rattle.zeb_leaf_rows.specs.PrivateLeafRows.{IsGreatest, IsOfTermBelow, IsOfTermsBelow};
 ghost use Rattle.zeb_leaves.specs.PrivateLeafReads.{IsLeast, IsOfTermFrom, ShowsLast, TellsKey, TellsSome};
 ghost use Rattle.zeb_leaves.specs.PrivateTermReads.{IsRowFrom};
-ghost use Rattle.zeb_register.specs.Calls.{OnlyReads};
-ghost use Rattle.zeb_register.specs.Connections.{InsideOf, TellsInsideOf};
+ghost use Rattle.zeb_register.specs.Connections.{AsksInsideOf, InsideOf};
 ghost use Rattle.zeb_register.specs.Queries.{IsSilent};
 
 use sqlite::types::ValueRef;
@@ -31,9 +28,8 @@ fn last_shown<S: Alter>(
     params: &[ValueRef<'_>],
 ) -> Result<Option<Row>, Error>
     requires { IsSilent sql.now }
-    ensures same { tx.new.conn.ghost_name ≡ tx.old.conn.ghost_name }
-    ensures shows { ShowsLast sql.now (bound params.now) (state S.Store tx.old.conn.now)
-        (state S.Store tx.new.conn.now) result }
+    ensures { InsideOf S.Store tx.old.conn tx.new.conn result
+        (ShowsLast sql.now (bound params.now)) }
 {
     let rows = tx.query_all(sql, params)?;
     Ok(last_row(rows))
@@ -46,9 +42,8 @@ pub(crate) fn leaf_of_term_inside<S: Alter>(
     term: &str,
     end: i64,
 ) -> Result<Option<Row>, Error>
-    ensures call { InsideOf S.Store tx.old.conn tx.new.conn result (λ _. OnlyReads) }
-    ensures finds { TellsInsideOf S.Store tx.old.conn tx.new.conn result
-        (λ trees found. IsGreatest (IsOfTermBelow at term.now end trees) found) }
+    ensures { AsksInsideOf S.Store tx.old.conn tx.new.conn result
+        (λ trees. IsGreatest (IsOfTermBelow at term.now end trees)) }
 {
     let db = at.db.column();
     let reg = u32::from(at.register.code());
@@ -62,9 +57,8 @@ pub(crate) fn leaf_of_terms_below_inside<S: Alter>(
     at: RegisterOf,
     term: &str,
 ) -> Result<Option<Row>, Error>
-    ensures call { InsideOf S.Store tx.old.conn tx.new.conn result (λ _. OnlyReads) }
-    ensures finds { TellsInsideOf S.Store tx.old.conn tx.new.conn result
-        (λ trees found. IsGreatest (IsOfTermsBelow at term.now trees) found) }
+    ensures { AsksInsideOf S.Store tx.old.conn tx.new.conn result
+        (λ trees. IsGreatest (IsOfTermsBelow at term.now trees)) }
 {
     let db = at.db.column();
     let reg = u32::from(at.register.code());
@@ -77,9 +71,8 @@ pub(crate) fn some_row_inside<S: Alter>(
     tx: &mut Transaction<'_, S>,
     at: RegisterOf,
 ) -> Result<Option<Row>, Error>
-    ensures call { InsideOf S.Store tx.old.conn tx.new.conn result (λ _. OnlyReads) }
-    ensures finds { TellsInsideOf S.Store tx.old.conn tx.new.conn result
-        (λ trees found. TellsSome (IsLeafIn trees at) found) }
+    ensures { AsksInsideOf S.Store tx.old.conn tx.new.conn result
+        (λ trees. TellsSome (IsLeafIn trees at)) }
 {
     let db = at.db.column();
     let reg = u32::from(at.register.code());
@@ -94,9 +87,8 @@ pub(crate) fn key_of_term_from<S: Alter>(
     term: &str,
     first: i64,
 ) -> Result<Option<Row>, Error>
-    ensures call { InsideOf S.Store tx.old.conn tx.new.conn result (λ _. OnlyReads) }
-    ensures finds { TellsInsideOf S.Store tx.old.conn tx.new.conn result
-        (λ trees key. TellsKey (IsLeast (IsOfTermFrom at term.now first trees)) key) }
+    ensures { AsksInsideOf S.Store tx.old.conn tx.new.conn result
+        (λ trees. TellsKey (IsLeast (IsOfTermFrom at term.now first trees))) }
 {
     let db = at.db.column();
     let reg = u32::from(at.register.code());
@@ -109,9 +101,8 @@ pub(crate) fn key_of_terms_from<S: Alter>(
     at: RegisterOf,
     first: &str,
 ) -> Result<Option<Row>, Error>
-    ensures call { InsideOf S.Store tx.old.conn tx.new.conn result (λ _. OnlyReads) }
-    ensures finds { TellsInsideOf S.Store tx.old.conn tx.new.conn result
-        (λ trees key. TellsKey (IsLeast (IsRowFrom at first.now trees)) key) }
+    ensures { AsksInsideOf S.Store tx.old.conn tx.new.conn result
+        (λ trees. TellsKey (IsLeast (IsRowFrom at first.now trees))) }
 {
     let db = at.db.column();
     let reg = u32::from(at.register.code());

@@ -70,7 +70,7 @@ pub use Rattle.zeb_register.proofs.ContentTurns.{none_left, touched, turns_kept}
 pub use Rattle.zeb_register.proofs.CountLemmas.{count_upto, counted_none, one_count, count_none, count_so, has_end, less_is, term_total, is_less, rises_last, rises_then, comes_is, comes_not}
 pub use Rattle.zeb_register.proofs.KeyPlaces.{in_place, own_part, place_in, placed_at}
 pub use Rattle.zeb_register.proofs.ListChanges.{list_changed, content_changed, content_none, content_rises, one_content_changed, place_of, posting_is, place_is, no_change, run, run_first, run_long, run_within}
-pub use Rattle.zeb_packed.proofs.FirstRows.{none_is, first_is}
+pub use Rattle.zeb_packed.proofs.FirstRows.{none_is, first_got, first_is}
 pub use Rattle.zeb_register.proofs.Malformed.{key_begins, beside_same, malformed_same, table_same, row_same}
 pub use Rattle.zeb_register.proofs.OccurringLemmas.{key_posted, spot_total, one_terms}
 pub use Rattle.zeb_register.proofs.PackedLemmas.{not_empty, block_rows, dict_there, in_part, part_in_block, part_in_list, keys_as, blocks_have_terms, block_spells, block_there}

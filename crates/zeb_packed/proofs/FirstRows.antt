@@ -1,5 +1,9 @@
 -- What the first row of an answer says of the rows that are listed, and what it says that there is none.
-use Rattle.zeb_register.proofs.Cited.{Row, has_got, Has, ◌≡◌, List, [], ◌∷◌, slice_get, Some, None, IsListOf}
+use Rattle.zeb_register.proofs.Cited.{Row, has_got, Has, ◌≡◌, ◌∙◌, ap, sym, Option, List, [], ◌∷◌, slice_get, Some, None, IsListOf}
+
+-- the first of a slice of the rows
+pub first_got : {shown got : Option Row} {slice rows : List Row} → shown ≡ slice_get slice 0 → slice ≡ rows → shown ≡ got → slice_get rows 0 ≡ got
+first_got first same is = sym (first ∙ ap (λ l. slice_get l 0) same) ∙ is
 
 pub first_is : (P : Row → Type 0) (rows : List Row) (row : Row) → IsListOf P rows → slice_get rows 0 ≡ Some row → P row
 first_is P rows row list first = (list.each row).0 (has_got rows 0 row first)

@@ -1,5 +1,5 @@
 -- Rows that are put, some after others.
-use Rattle.zeb_packed.proofs.Cited.{◌≡◌, ◌≢◌, ◌∙◌, ◌++◌, ◌+◌, ◌-◌, ◌<◌, ◌≤◌, ℕ, ℤ, pos, false, List, [], ◌∷◌, drop, length, map, take, get_or, refl, sym, ap, subst, inl, inr, arith, Has, has_either, has_left, has_right, map-append, take-append-drop, take_all, take_rest, Row, State, Trees, Int, Database, IsStore, Changes, blocks_tree, dict_tree, Gains, LacksBlock, IsTold, IsOfNumbered, KeyOf, length-drop, AreApart, AreLacking, GainsAll, GainsRows, SomeStands, new_block_row, new_count_row, NewBlock, NewRows}
+use Rattle.zeb_packed.proofs.Cited.{◌≡◌, ◌≢◌, ◌∙◌, ◌++◌, ◌+◌, ◌-◌, ◌<◌, ◌≤◌, ℕ, ℤ, List, [], ◌∷◌, drop, length, map, take, get_or, refl, sym, ap, subst, inl, inr, arith, Has, has_either, has_left, has_right, map-append, take-append-drop, take_all, take_rest, Row, State, Trees, IsStore, Changes, blocks_tree, dict_tree, Gains, LacksBlock, length-drop, AreApart, AreLacking, GainsAll, GainsRows, SomeStands, new_block_row, new_count_row, NewBlock, NewRows}
 use Rattle.zeb_packed.proofs.HeldTables.{block_is, block_of}
 use Rattle.zeb_packed.proofs.PackedWrites.{has_as}
 use Rattle.std.proofs.Math.Seq.{take-add}
@@ -74,10 +74,6 @@ stands_all db blocks done old mid apart gains some =
     let behind = stands_behind db (take done blocks) (drop done blocks) old mid (subst AreApart (sym whole) apart) gains (subst (λ l. SomeStands db l mid) (take_rest blocks done) some) in
     subst (λ l. SomeStands db l old) whole behind
 
--- a block's number as it is stored
-pub lacks_stored : (db : ℤ) (at : KeyOf) (block : ℕ) (number : ℤ) (trees : Trees) → at.db.0 ≡ db → number ≡ pos block → LacksBlock db at.key.now block trees → IsTold false (IsOfNumbered at number) blocks_tree trees
-lacks_stored db at block number trees own is lacks row there in_it = lacks row there (in_it.0 ∙ ap Int own, in_it.1, in_it.2, in_it.3, in_it.4 ∙ ap Int is)
-
 pub all_taken : {X : Type 0} (xs : List X) (done : ℕ) → length xs ≤ done → take done xs ≡ xs
 all_taken xs done end = take_all done xs end
 
@@ -111,9 +107,6 @@ both_put db held old mid new one two = record {
 pub held_answers : (db : ℤ) (held : NewRows) (old mid new : State) → Changes blocks_tree (GainsAll (map (new_block_row db) held.blocks.items)) old mid → AreLacking db held.blocks.items old.now.trees
     → Changes dict_tree (GainsAll (map (new_count_row db) held.counts.items)) mid new → IsStore new × GainsRows db held old.now.trees new.now.trees × AreLacking db held.blocks.items old.now.trees
 held_answers db held old mid new one lacking two = (two.layout, both_put db held old mid new one two, lacking)
-
-pub stands_same : (db : ℤ) (blocks : List NewBlock) (a b : Database) → b ≡ a → SomeStands db blocks b.trees → SomeStands db blocks a.trees
-stands_same db blocks a b same some = subst (λ (d : Database). SomeStands db blocks d.trees) same some
 
 pub one_lacking : (db : ℤ) (one : NewBlock) (trees : Trees) → LacksBlock db one.key.now one.block trees → AreLacking db (one ∷ []) trees
 one_lacking db one trees lacks x here = elim here [ inl is ↦ subst (λ (z : NewBlock). LacksBlock db z.key.now z.block trees) (sym is) lacks | inr none ↦ absurd none ]

@@ -1,6 +1,6 @@
 -- Which row a key has for a block, and what it spells.
-use Rattle.zeb_packed.proofs.Cited.{◌≡◌, ◌==◌, ℕ, ℤ, pos, false, not, List, [], ◌∷◌, ◌++◌, length, slice_get, None, sym, subst, Int, Text, Database, Row, Trees, Posting, Key, register_code, KeyOf, IsOfNumbered, numbered_columns, IsNumberedRow, IsBlockIn, IsTold, block_key, HasRow, IsListOf, IsRest, blocks_tree, none_is}
-use Rattle.zeb_packed.proofs.PackedReads.{block_front}
+use Rattle.zeb_packed.proofs.Cited.{◌≡◌, ℕ, Result, RegFault, ℤ, pos, false, List, [], ◌∷◌, ◌++◌, slice_get, None, sym, subst, Int, Text, Row, Trees, Key, register_code, KeyOf, IsOfNumbered, numbered_columns, IsNumberedRow, IsBlockIn, IsTold, block_key, HasRow, IsListOf, IsRest, blocks_tree, none_is}
+use Rattle.zeb_packed.specs.PrivatePackedChanges.{TellsNone}
 
 -- ---- what a row of the key is
 
@@ -19,15 +19,6 @@ after_block db idx reg term block (a ∷ b ∷ c ∷ d ∷ e ∷ rest) is = (res
 -- ---- what is read
 
 -- where none is shown, none is there
-pub none_told : (db : ℤ) (key : Key) (block : ℕ) (rows : List Row) (list : List Posting) (trees : Trees) → list ≡ [] → IsListOf (IsRest blocks_tree (block_front db key block) trees) rows → slice_get rows 0 ≡ None
-    → IsTold (not (length list == 0)) (IsBlockIn db key block) blocks_tree trees
-none_told db key block rows list trees is listed none =
-    let front = block_front db key block in
-    let told : IsTold false (IsBlockIn db key block) blocks_tree trees = λ row here in_it.
-    let it = after_block db (pos key.index) (pos (register_code key.register)) key.term (pos block) row in_it in
-    none_is (IsRest blocks_tree front trees) rows it.0 listed none (subst (HasRow trees blocks_tree) it.1 here) in
-    subst (λ (l : List Posting). IsTold (not (length l == 0)) (IsBlockIn db key block) blocks_tree trees) (sym is) told
-
 pub absent_shown : (trees : Trees) (at : KeyOf) (stored number : ℤ) → stored ≡ number → (rows : List Row) → IsListOf (IsRest blocks_tree (numbered_columns at stored) trees) rows → slice_get rows 0 ≡ None
     → IsTold false (IsOfNumbered at number) blocks_tree trees
 absent_shown trees at stored number is rows listed none = λ row here in_it.
@@ -36,8 +27,7 @@ absent_shown trees at stored number is rows listed none = λ row here in_it.
     none_is (IsRest blocks_tree (numbered_columns at stored) trees) rows it.0 listed none
     (subst (λ n. HasRow trees blocks_tree (numbered_columns at n ++ it.0)) (sym is) (subst (HasRow trees blocks_tree) it.1 here))
 
-pub absent_told : (db : ℤ) (key : Key) (block : ℕ) (number : ℤ) (a b : Database) → number ≡ pos block → b ≡ a → IsTold false (IsNumberedRow db (pos key.index) (pos (register_code key.register)) key.term number) blocks_tree b.trees
-    → IsTold false (IsBlockIn db key block) blocks_tree a.trees
-absent_told db key block number a b is same told =
-    let P = λ (n : ℤ). IsNumberedRow db (pos key.index) (pos (register_code key.register)) key.term n in
-    subst (λ n. IsTold false (P n) blocks_tree a.trees) is (subst (λ (d : Database). IsTold false (P number) blocks_tree d.trees) same told)
+-- a block's number as it is stored
+pub none_told : {A : Type 0} (db : ℤ) (key : Key) (block : ℕ) (number : ℤ) (trees : Trees) (r : Result A RegFault) → number ≡ pos block → TellsNone (IsNumberedRow db (pos key.index) (pos (register_code key.register)) key.term number) trees r
+    → TellsNone (IsBlockIn db key block) trees r
+none_told db key block number trees r is told = subst (λ n. TellsNone (IsNumberedRow db (pos key.index) (pos (register_code key.register)) key.term n) trees r) is told

@@ -31,4 +31,5 @@ pub mod HeldRuns
 pub mod NewKeys
 pub mod HeldPuts
 pub mod OpenCalls
+pub mod OpenLooks
 pub mod Cited

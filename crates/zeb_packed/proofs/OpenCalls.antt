@@ -1,9 +1,9 @@
 -- Calls on a connection that a transaction borrows: what one has done, and one after the other.
-use Rattle.zeb_packed.proofs.Cited.{◌∙◌, Result, Ok, Err, IfOk, IfOk-weaker, IsTrue, arith, refl, State, state, HasCleanDisk, GoesOn, GoesOnOpenOf, OnlyReads, goes_keeps, goes_then, on_err, on_err_so, quiet_still, quiet_then, reads_goes}
+use Rattle.zeb_packed.proofs.Cited.{◌∙◌, Result, Ok, Err, IfOk, IfOk-weaker, IsTrue, arith, refl, Trees, State, state, HasCleanDisk, GoesOn, GoesOnOpenOf, OnlyReads, goes_keeps, goes_then, on_err, on_err_so, quiet_still, quiet_then, reads_goes}
 use Rattle.std.specs.Borrow.{MutBor}
 use Rattle.sqlite.specs.Held.{Held}
 use Rattle.sqlite_trees.specs.declared.store.Store.{Ghosts}
-use Rattle.zeb_register.specs.Connections.{InsideOf}
+use Rattle.zeb_register.specs.Connections.{InsideOf, LooksInsideOf}
 
 -- nothing is called
 pub open_still : {S A E : Type 0} {store : Ghosts S} (a : MutBor (Held S)) {x : A} → GoesOnOpenOf {E = E} store a a (Ok x)
@@ -75,8 +75,9 @@ module _ {S A E : Type 0} {store : Ghosts S} {a b : MutBor (Held S)} where
       }
 
   -- a look tells that the connection is open
-  pub reads_then : {B F : Type 0} {c : MutBor (Held S)} {x : A} {r : Result B F} → InsideOf {E = E} store a b (Ok x) (λ _. OnlyReads) → GoesOnOpenOf store b c r → InsideOf store a c r (λ _. GoesOn)
-  reads_then {B} {F} {c} {x} {r} one two =
+  pub reads_then : {B F : Type 0} {c : MutBor (Held S)} {x : A} {r : Result B F} {R : Trees → E → Type 0} {D : Trees → A → Type 0} → LooksInsideOf store a b (Ok x) R D → GoesOnOpenOf store b c r → InsideOf store a c r (λ _. GoesOn)
+  reads_then {B} {F} {c} {x} {r} look two =
+      let one : InsideOf store a b (Ok x) (λ _. OnlyReads) = record { same = look.same; does = look.looks.call } in
       let first = state store a.now in
       let mid = state store b.now in
       let both = open_then {x = x} (open_of one (λ y opened reads. reads_goes first mid reads)) two in

@@ -1,5 +1,5 @@
 -- The rows of a key, which spell a list, as its units.
-use Rattle.zeb_packed.proofs.Cited.{◌≡◌, ◌∙◌, ◌<◌, ◌/◌, ℕ, ℤ, pos, false, List, [], ◌∷◌, ◌++◌, map, length, drop, refl, sym, ap, ap₂, subst, inl, inr, Ordering, Less, Equal, Greater, nat_cmp, nat_eq, arith, ordering_then, Int, Row, column, row_cmp, State, Has, all_has, has_left, has_right, has_either, row_cmp_total, value_cmp-Int, Posting, Key, numbers_apart, Work, posting_cmp, SpellsPart, blocks_of, part_in, key_row, AreSpelled, IsListOf, IsRest, IsStore, blocks_tree, Works, posting_total, ints_order, some_posting, is_less, in_part, part_in_block, part_in_list, each_spelled, one_part, joined_rises, kept_rises, never_itself, same_list, BlockSpells, IsBlockMalformed, IsBlockIn, IsTold, SpellsIn, BlockReads, IsOfBlock, IsOfKey, ListsUnits, own_part, packed_blocks, begins, one_more_block, posting_lower}
+use Rattle.zeb_packed.proofs.Cited.{◌≡◌, ◌∙◌, ◌<◌, ◌/◌, ℕ, ℤ, pos, List, [], ◌∷◌, map, length, drop, refl, sym, ap, ap₂, subst, inl, inr, Ordering, Less, Equal, Greater, nat_cmp, nat_eq, arith, ordering_then, Int, Row, column, row_cmp, State, Has, all_has, has_left, has_right, has_either, row_cmp_total, value_cmp-Int, Posting, Key, numbers_apart, Work, posting_cmp, SpellsPart, blocks_of, part_in, AreSpelled, IsListOf, IsRest, IsStore, blocks_tree, Works, posting_total, ints_order, some_posting, is_less, in_part, part_in_block, part_in_list, each_spelled, one_part, joined_rises, kept_rises, never_itself, same_list, BlockSpells, IsBlockMalformed, SpellsIn, BlockReads, IsOfBlock, IsOfKey, ListsUnits, own_part, packed_blocks, begins, one_more_block, posting_lower}
 use Rattle.std.specs.List.Sorted.{IsStrictlySortedBy}
 use Rattle.zeb_packed.proofs.PackedReads.{block_front}
 use Rattle.zeb_packed.proofs.PackedSound.{one_block}
@@ -146,9 +146,3 @@ module _ (s : State) (store : IsStore s) (db : ℤ) (key : Key) where
           let same : spells.0 ≡ block = cc in
           bad part (spells.1, spells.3, subst (λ b. BlockSpells b part spells.1) same spells.4),
     )
-
-  pub none_reads : (block : ℕ) → IsTold false (IsBlockIn db key block) blocks_tree s.now.trees → BlockReads s.now.trees db key block []
-  none_reads block told = record {
-    spelled = λ row of. absurd (told (key_row db key ++ row) of.0 (refl, refl, refl, refl, of.1));
-    there = λ some. absurd (some refl);
-  }

@@ -2,10 +2,10 @@
 
 ghost use Rattle.std.specs.Prelude.{◌≡◌, ◌≢◌, ◌≤◌, [], ◌∷◌, length, map, take, IfOk, IsTrue};
 ghost use Rattle.sqlite.specs.Held.{state};
-ghost use Rattle.sqlite.specs.State.{HasCleanDisk, KeepsCommit, Survives};
 ghost use Rattle.zeb_packed.specs.PrivateNewRows.{AreApart, GainsAll, GoesOnOpenOf, PutsBlocks, PutsFront, PutsHeld, SomeStands, new_count_row};
-ghost use Rattle.zeb_register.specs.Calls.{GoesOn, OnlyReads};
-ghost use Rattle.zeb_register.specs.Connections.{ChangesTableOf, InStoreOf, InsideOf};
+ghost use Rattle.zeb_register.specs.Answers.{IfDamaged};
+ghost use Rattle.zeb_register.specs.Calls.{GoesOn};
+ghost use Rattle.zeb_register.specs.Connections.{ChangesTableOf, InsideOf, LooksInsideOf};
 ghost use Rattle.zeb_register.specs.Store.{dict_tree};
 ghost use Rattle.zeb_register.specs.UnitChanges.{LacksBlock};
 
@@ -24,10 +24,9 @@ fn one_absent<S: Alter>(
     db: DatabaseId,
     one: &NewBlock<'_>,
 ) -> Result<(), RegFault>
-    ensures call { InsideOf S.Store tx.old.conn tx.new.conn result (λ _. OnlyReads) }
-    ensures honest { InStoreOf S.Store tx.old.conn tx.new.conn
-        (λ trees. result ≡ Err RegFault.Damaged → ¬ LacksBlock db.0 one.now.key.now one.now.block
-        trees) }
+    ensures { LooksInsideOf S.Store tx.old.conn tx.new.conn result
+        (λ trees. IfDamaged (¬ LacksBlock db.0 one.now.key.now one.now.block trees))
+        (λ trees _. LacksBlock db.0 one.now.key.now one.now.block trees) }
 {
     let number = stored(one.block)?;
     block_absent(tx, KeyOf { db, key: one.key }, number)
@@ -39,14 +38,9 @@ fn all_absent<S: Alter>(
     db: DatabaseId,
     blocks: &[NewBlock<'_>],
 ) -> Result<(), RegFault>
-    ensures same { tx.new.conn.ghost_name ≡ tx.old.conn.ghost_name }
-    ensures keeps { HasCleanDisk (state S.Store tx.new.conn.now)
-        → IsTrue (state S.Store tx.old.conn.now).in_transaction
-        → KeepsCommit (state S.Store tx.old.conn.now) (state S.Store tx.new.conn.now) }
-    ensures crash { Survives (state S.Store tx.old.conn.now) (state S.Store tx.new.conn.now)
-        (λ _. ⊥) }
-    ensures honest { InStoreOf S.Store tx.old.conn tx.new.conn
-        (λ trees. result ≡ Err RegFault.Damaged → SomeStands db.0 blocks.now trees) }
+    requires { 1 ≤ length blocks.now }
+    ensures { LooksInsideOf S.Store tx.old.conn tx.new.conn result
+        (λ trees. IfDamaged (SomeStands db.0 blocks.now trees)) (λ _ _. Unit {0}) }
 {
     for one in blocks {
         one_absent(tx, db, one)?;

@@ -3,8 +3,7 @@
 ghost use Rattle.std.specs.Prelude.{IsUtf8, IsTrue};
 ghost use Rattle.std.specs.List.{AllByRecursion};
 ghost use Rattle.zeb_packed.specs.PrivateNewRows.{AreToldNew, IsOfRegister};
-ghost use Rattle.zeb_register.specs.Calls.{OnlyReads};
-ghost use Rattle.zeb_register.specs.Connections.{InsideOf, TellsInsideOf};
+ghost use Rattle.zeb_register.specs.Connections.{AsksInsideOf};
 ghost use Rattle.zeb_register.specs.RunChanges.{KeysRise};
 
 use crate::statements::packed_changes::dict_from;
@@ -53,8 +52,7 @@ pub(crate) fn run_known<S: Alter>(
     run: &[KeyChanges<'_>],
 ) -> Result<RunKnown, Error>
     requires { KeysRise run.now }
-    ensures call { InsideOf S.Store tx.old.conn tx.new.conn result (λ _. OnlyReads) }
-    ensures told { TellsInsideOf S.Store tx.old.conn tx.new.conn result
+    ensures { AsksInsideOf S.Store tx.old.conn tx.new.conn result
         (λ trees known. AreToldNew known.are_new db.0 run.now trees) }
 {
     if run.is_empty() {

@@ -7,15 +7,14 @@ ghost use Rattle.sqlite.specs.declared.types.Value.TheVariants.{Blob, Int};
 ghost use Rattle.sqlite.specs.Order.{column};
 ghost use Rattle.sqlite_schema.specs.declared.schema.Constraint.{Constraint};
 ghost use Rattle.zeb_blocks.specs.Blocks.{LiesIn};
-ghost use Rattle.zeb_register.specs.Calls.{OnlyReads};
 ghost use Rattle.zeb_register.specs.PrivateKeyColumns.{IsOfNumbered, IsDictIn, numbered_columns};
 ghost use Rattle.zeb_register.specs.PrivateRowStatements.{Gains};
 ghost use Rattle.zeb_register.specs.PackedBlocks.{IsRecordNumber};
 ghost use Rattle.zeb_register.specs.Store.{blocks_tree, dict_tree};
 ghost use Rattle.zeb_register.specs.UnitChanges.{IsBlockIn, IsTold, PutsCount};
-ghost use Rattle.zeb_register.specs.Answers.{Answers, IfDamaged};
-ghost use Rattle.zeb_packed.specs.PrivatePackedChanges.{IfTold, IsClearFrom, PutsBlock, SpellsIn};
-ghost use Rattle.zeb_register.specs.Connections.{InStoreOf, InsideOf, WritesOf};
+ghost use Rattle.zeb_register.specs.Answers.{IfDamaged};
+ghost use Rattle.zeb_packed.specs.PrivatePackedChanges.{IfTold, IsClearFrom, PutsBlock, SpellsIn, TellsNone};
+ghost use Rattle.zeb_register.specs.Connections.{InStoreOf, LooksInsideOf, WritesOf};
 ghost use Rattle.zeb_register.specs.PackedUnits.{BlockReads, CountsAs, IsBlockMalformed};
 
 use crate::packed::{add_spelled, records_at};
@@ -37,10 +36,9 @@ pub(crate) fn block_list<S: Alter>(
     block: u64,
 ) -> Result<Vec<Posting>, RegFault>
     requires { block < 2 ^ 63 }
-    ensures call { InsideOf S.Store tx.old.conn tx.new.conn result (λ _. OnlyReads) }
-    ensures reads { InStoreOf S.Store tx.old.conn tx.new.conn
-        (λ trees. Answers (IfDamaged (IsBlockMalformed trees db.0 key.now block))
-        (λ list. BlockReads trees db.0 key.now block list.items) result) }
+    ensures found { LooksInsideOf S.Store tx.old.conn tx.new.conn result
+        (λ trees. IfDamaged (IsBlockMalformed trees db.0 key.now block))
+        (λ trees list. BlockReads trees db.0 key.now block list.items) }
     ensures lies { IfOk result (λ list. LiesIn block list.items) }
 {
     let number = stored(block)?;
@@ -100,11 +98,10 @@ pub(crate) fn key_known<S: Alter>(
     db: DatabaseId,
     key: &Key,
 ) -> Result<Known, RegFault>
-    ensures call { InsideOf S.Store tx.old.conn tx.new.conn result (λ _. OnlyReads) }
+    ensures found { LooksInsideOf S.Store tx.old.conn tx.new.conn result
+        (λ trees. IfDamaged ((records : ℕ) → ¬ CountsAs trees db.0 key.now records))
+        (λ trees known. CountsAs trees db.0 key.now known.records) }
     ensures text { OnOk result (IsUtf8 key.now.term) }
-    ensures knows { InStoreOf S.Store tx.old.conn tx.new.conn
-        (λ trees. Answers (IfDamaged ((records : ℕ) → ¬ CountsAs trees db.0 key.now records))
-        (λ known. CountsAs trees db.0 key.now known.records) result) }
     ensures clear { IfOk result (λ known. (known.records ≤ 999999999) × IsClearFrom known) }
 {
     let rows = dict_records(tx, KeyOf { db, key })?;
@@ -181,11 +178,8 @@ pub(crate) fn block_begin<S: Alter>(
     ensures call { WritesOf S.Store tx.old.conn tx.new.conn blocks_tree
         (IfTold false (IsBlockIn db.0 key.now block) (PutsBlock db.0 key.now block list.now))
         result }
-    ensures honest { InStoreOf S.Store tx.old.conn tx.new.conn
-        (λ trees. result ≡ Err RegFault.Damaged → ¬ IsTold false (IsBlockIn db.0 key.now block)
-        blocks_tree trees) }
-    ensures absent { InStoreOf S.Store tx.old.conn tx.new.conn (λ trees. OnOk result
-        (IsTold false (IsBlockIn db.0 key.now block) blocks_tree trees)) }
+    ensures told { InStoreOf S.Store tx.old.conn tx.new.conn
+        (λ trees. TellsNone (IsBlockIn db.0 key.now block) trees result) }
 {
     let number = stored(block)?;
     let at = KeyOf { db, key };
@@ -205,11 +199,8 @@ pub(crate) fn block_put<S: Alter>(
 ) -> Result<(), RegFault>
     ensures call { WritesOf S.Store tx.old.conn tx.new.conn blocks_tree
         (Gains (numbered_columns at.entry number ++ Blob bytes.now ∷ [])) result }
-    ensures honest { InStoreOf S.Store tx.old.conn tx.new.conn
-        (λ trees. result ≡ Err RegFault.Damaged → ¬ IsTold false (IsOfNumbered at.entry number)
-        blocks_tree trees) }
-    ensures absent { InStoreOf S.Store tx.old.conn tx.new.conn (λ trees. OnOk result
-        (IsTold false (IsOfNumbered at.entry number) blocks_tree trees)) }
+    ensures told { InStoreOf S.Store tx.old.conn tx.new.conn
+        (λ trees. TellsNone (IsOfNumbered at.entry number) trees result) }
 {
     match block_add(tx, at, number, bytes) {
         Ok(_) => Ok(()),
@@ -242,12 +233,9 @@ pub(crate) fn block_absent<S: Alter>(
     at: KeyOf<'_>,
     number: i64,
 ) -> Result<(), RegFault>
-    ensures call { InsideOf S.Store tx.old.conn tx.new.conn result (λ _. OnlyReads) }
-    ensures honest { InStoreOf S.Store tx.old.conn tx.new.conn
-        (λ trees. result ≡ Err RegFault.Damaged → ¬ IsTold false (IsOfNumbered at.entry number)
-        blocks_tree trees) }
-    ensures absent { InStoreOf S.Store tx.old.conn tx.new.conn (λ trees. OnOk result
-        (IsTold false (IsOfNumbered at.entry number) blocks_tree trees)) }
+    ensures { LooksInsideOf S.Store tx.old.conn tx.new.conn result
+        (λ trees. IfDamaged (¬ IsTold false (IsOfNumbered at.entry number) blocks_tree trees))
+        (λ trees _. IsTold false (IsOfNumbered at.entry number) blocks_tree trees) }
 {
     let rows = block_bytes(tx, at, number)?;
     match rows.first() {

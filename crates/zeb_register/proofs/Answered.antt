@@ -1,7 +1,7 @@
 -- What a call that answers by one clause is known to answer.
-use Rattle.zeb_register.proofs.Cited.{State, Trees, ◌≡◌, ◌∙◌, err_from_is_err_and, ap, sym, subst, Result, Ok, Err, RegFault, Store, Content, IsReasoned, Tells, TellsHeld}
+use Rattle.zeb_register.proofs.Cited.{State, Trees, ◌≡◌, ◌∙◌, err_from_is_err_and, ap, sym, subst, Result, Ok, Err, RegFault, Damaged, Content, Tells, TellsHeld}
 use Rattle.std.specs.Result.{IsErrAnd}
-use Rattle.zeb_register.specs.Answers.{Answers, LooksInto, TellsOr}
+use Rattle.zeb_register.specs.Answers.{Answers, IfDamaged}
 
 -- a call that is refused so answers so
 pub refused_so : {A E : Type 0} (Refused : E → Type 0) (Done : A → Type 0) (result : Result A E) (fault : E) → result ≡ Err fault → Refused fault → Answers Refused Done result
@@ -11,14 +11,10 @@ refused_so Refused Done result fault is refused = subst (Answers Refused Done) (
 pub fault_met : {A E : Type 0} (result : Result A E) (fault : E) → IsErrAnd result (λ met. met ≡ fault) → result ≡ Err fault
 fault_met result fault met = let is = err_from_is_err_and result met in is.1 ∙ ap Err is.2
 
--- what a call that looked found is told, and a failed store has a reason
-pub looks_tell : {A : Type 0} (Damage : Trees → Type 0) (Told : Trees → A → Type 0) (old new : State) (result : Result A RegFault) → LooksInto Damage Told old new result → TellsOr Damage Told old new result
-looks_tell Damage Told old new (Ok answer) looks clean store = looks.finds clean store
-looks_tell Damage Told old new (Err fault) looks clean store = (looks.finds clean store, λ is. looks.refused clean store (ap Err is))
-
-pub or_reasoned : {A : Type 0} (Damage : Trees → Type 0) (Told : Trees → A → Type 0) (old new : State) (result : Result A RegFault) → TellsOr Damage Told old new result → IsReasoned old new result
-or_reasoned {A} Damage Told old new (Ok answer) tells clean store is = absurd (let e : ◌≡◌ {A = Result A RegFault} (Ok answer) (Err Store) = is in cc)
-or_reasoned {A} Damage Told old new (Err fault) tells clean store is = (tells clean store).1 (let e : ◌≡◌ {A = Result A RegFault} (Err fault) (Err Store) = is in cc)
+-- damage that a call told
+pub damage_of : {A : Type 0} (Damage : Type 0) (Done : A → Type 0) (result : Result A RegFault) → Answers (IfDamaged Damage) Done result → result ≡ Err Damaged → Damage
+damage_of Damage Done (Ok x) it is = absurd cc
+damage_of {A} Damage Done (Err fault) it is = it (let e : ◌≡◌ {A = Result A RegFault} (Err fault) (Err Damaged) = is in cc)
 
 -- what is told of any tables is told of those that hold a content
 pub told_held : {A : Type 0} (Holds : Trees → Content → Type 0) (Told : A → Type 0) (old new : State) (result : Result A RegFault) → Tells old new result (λ trees answer. Told answer) → TellsHeld Holds old new result (λ content answer. Told answer)

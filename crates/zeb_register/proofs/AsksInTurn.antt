@@ -3,7 +3,7 @@ use Rattle.zeb_register.proofs.Cited.{Database, Row, State, Trees, ◌≡◌, �
 use Rattle.std.specs.Result.{IsErrAnd}
 use Rattle.sqlite.specs.State.{Shown}
 use Rattle.zeb_register.proofs.Calls.{reading_behind, store_same}
-use Rattle.zeb_register.proofs.HandedOn.{clean_before, error_behind, error_reasoned, failed_behind, failed_reading, shows_none, told_reading}
+use Rattle.zeb_register.proofs.HandedOn.{clean_before, error_behind, failed_behind, failed_reading, handed_error, shows_none, told_reading}
 use Rattle.zeb_register.proofs.Refusals.{IsReasonedQuery, why_failed}
 
 -- ---- one statement
@@ -31,7 +31,7 @@ pub asks_handed : {A B : Type 0} (a b : State) (e : Error) (r : Result B Error) 
 asks_handed a b e r P Q it failed = record {
   call = failed_reading _ a b e r _ _ it.call failed;
   value = λ clean store. shows_none _ r _ failed;
-  refused = error_reasoned a b e r _ it.call it.refused failed;
+  refused = handed_error a b e r it.refused failed;
 }
 
 -- ---- one call behind another

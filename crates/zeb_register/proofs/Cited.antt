@@ -116,7 +116,7 @@ pub use Rattle.zeb_keys.specs.declared.keys.Occurrence.{Occurrence}
 pub use Rattle.zeb_leaf.specs.Order.{entry_cmp, IsEntry}
 pub use Rattle.zeb_leaf.specs.declared.entries.Entry.{Entry}
 pub use Rattle.zeb_register.specs.Agreeing.{Owns, HoldsUnder, HasNames, IsThere, BelongsThere, EachThere, HoldsThere, KeepsExpectedTexts, ListsAgree, listed_name, expected_name, AreBeside, AreEnds, IsLeastFrom, IsListedId, RecordsAgree, HasRecords, LacksPostingsAndDict}
-pub use Rattle.zeb_register.specs.Answers.{Asks, LooksInto, TellsOr}
+pub use Rattle.zeb_register.specs.Answers.{Asks, LooksInto}
 pub use Rattle.zeb_register.specs.Between.{AreKeysBetween, IsBetween, term_list, IsPostingBetween}
 pub use Rattle.zeb_register.specs.Calls.{GoesOn, OnlyReads, ChangesNothing, Alters, Inside, Reading, MayRefuse}
 pub use Rattle.zeb_register.specs.Catalog.{AreDatabases, AreReadableDatabases, listed_order, PutsDatabase, AreCountedDatabases, IsDatabaseOf}

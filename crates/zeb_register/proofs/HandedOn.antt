@@ -106,11 +106,8 @@ module _ {A : Type 0} (e : Error) (r : Result A RegFault) (failed : IsErrAnd r (
   never_damaged is = not_damaged e (told_as Damaged is)
 
 -- the same of a call that is refused as the statement is
-handed_error : {B : Type 0} (a b : State) (e : Error) (r : Result B Error) → HasReason a b e → IsErrAnd r (λ met. met ≡ e) → IsReasonedError a b r
+pub handed_error : {B : Type 0} (a b : State) (e : Error) (r : Result B Error) → HasReason a b e → IsErrAnd r (λ met. met ≡ e) → IsReasonedError a b r
 handed_error {B} a b e r why failed = subst (IsReasonedError {A = B} a b) (sym (fault_met r e failed)) why
-
-pub error_reasoned : {A B : Type 0} (a b : State) (e : Error) (r : Result B Error) (P : A → State → State → Type 0) → Reading {E = Error} a b (Err e) P → HasReason a b e → IsErrAnd r (λ met. met ≡ e) → IsReasonedError a b r
-error_reasoned a b e r P it why failed = handed_error a b e r why failed
 
 -- behind a call that changed nothing
 pub error_behind : {A B D : Type 0} (a b c : State) (x : A) (e : Error) (r : Result B Error) → Reading {E = D} a b (Ok x) (λ _. IsUnchanged) → Survives b c (λ _. ⊥) → HasReason b c e → IsErrAnd r (λ met. met ≡ e) → IsReasonedError a c r

@@ -75,6 +75,7 @@ pub mod Answered
 pub mod HandedOn
 pub mod AsksInTurn
 pub mod LooksInTurn
+pub mod LooksInside
 pub mod Wiped
 pub mod KeyPlaces
 pub mod BlockUnits

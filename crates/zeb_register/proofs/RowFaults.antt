@@ -31,8 +31,3 @@ module _ {A : Type 0} (rows : RowFault) (result : Result A RegFault) (refused : 
   -- it has the reason that the rows have
   pub refused_rows : (Damage : Type 0) (Done : A → Type 0) → IfRowDamaged Damage rows → Answers (IfDamaged Damage) Done result
   refused_rows Damage Done damage = refused_so (IfDamaged Damage) Done result (fault_of_rows rows) handed_on (λ is. damage (are_damaged rows is))
-
-  -- the same of a call that tells why the store failed
-  pub rows_told : (Damage Reason : Type 0) (Done : A → Type 0) → IfRowDamaged Damage rows → Answers (λ fault. IfDamaged Damage fault × (fault ≡ Store → Reason)) Done result
-  rows_told Damage Reason Done damage =
-      refused_so (λ fault. IfDamaged Damage fault × (fault ≡ Store → Reason)) Done result (fault_of_rows rows) handed_on (λ is. damage (are_damaged rows is), λ is. absurd (no_store rows is))

@@ -4,11 +4,11 @@ use Rattle.sqlite.specs.declared.error.Error.{Error}
 use Rattle.sqlite.specs.Tree.{Trees}
 use Rattle.sqlite.specs.State.{State, IsUnchanged}
 use Rattle.zeb_register.specs.declared.faults.RegFault.{RegFault}
-use Rattle.zeb_register.specs.declared.faults.RegFault.TheVariants.{Damaged, Store}
+use Rattle.zeb_register.specs.declared.faults.RegFault.TheVariants.{Damaged}
 use Rattle.zeb_register.specs.declared.faults.RowFault.{RowFault}
 use Rattle.zeb_register.specs.declared.faults.RowFault.TheVariants.{Damaged as DamagedRow}
-use Rattle.zeb_register.specs.Calls.{MayRefuse, Reading}
-use Rattle.zeb_register.specs.Clauses.{IsReasoned, IsReasonedError, OnStore, Tells}
+use Rattle.zeb_register.specs.Calls.{Inside, OnlyReads, Reading}
+use Rattle.zeb_register.specs.Clauses.{InStore, IsOpenDamage, IsReasoned, IsReasonedError, OnStore, Tells}
 
 -- what is said of an accepted call's value, or of a refused one's refusal
 abbrev pub Answers : {A E : Type 0} → (E → Type 0) → (A → Type 0) → Result A E → Type 0
@@ -23,14 +23,6 @@ IfDamaged Damage fault = fault ≡ Damaged → Damage
 abbrev pub IfRowDamaged : Type 0 → RowFault → Type 0
 IfRowDamaged Damage fault = fault ≡ DamagedRow → Damage
 
--- the same, and a failure of the store has a reason
-abbrev pub IfRefused : State → State → Type 0 → RegFault → Type 0
-IfRefused old new Damage fault = IfDamaged Damage fault × (fault ≡ Store → MayRefuse old new)
-
--- A call outside a transaction tells this of the tables of a store, whatever rows they have, or is refused.
-abbrev pub TellsOr : {A : Type 0} → (Damage : Trees → Type 0) → (Told : Trees → A → Type 0) → State → State → Result A RegFault → Type 0
-TellsOr Damage Told old new result = OnStore old new (λ trees. Answers (IfRefused old new (Damage trees)) (Told trees) result)
-
 -- A call outside a transaction asks a store's tables: nothing that is seen changes, its answer tells this of the tables, whatever rows they have,
 -- and it fails as the store only where the store may refuse. It never answers damage.
 pub record Asks {A : Type 0} (old new : State) (result : Result A Error) (Told : Trees → A → Type 0) : Type 0 where
@@ -43,8 +35,15 @@ abbrev pub AsksWhether : (old new : State) → (Trees → Type 0) → Type 0 →
 AsksWhether old new Holds Given result = Asks old new result (λ trees answer. Given → IsTrue answer ↔ Holds trees)
 
 -- A call outside a transaction looks into a store's tables: nothing that is seen changes, its answer tells this of the tables, whatever rows they
--- have, Damaged says that they have this damage, and it fails as the store only where the store may refuse.
+-- have, Damaged says that they have this damage and that the connection was open, and it fails as the store only where the store may refuse.
 pub record LooksInto {A : Type 0} (Damage : Trees → Type 0) (Found : Trees → A → Type 0) (old new : State) (result : Result A RegFault) : Type 0 where
   pub call : Reading old new result (λ _. IsUnchanged)
   pub finds : OnStore old new (λ trees. Answers (IfDamaged (Damage trees)) (Found trees) result)
   pub refused : IsReasoned old new result
+  pub opened : IsOpenDamage old new result
+
+-- A call inside a transaction looks into a store's tables: the transaction goes on, nothing that is seen changes, and its answer or its refusal
+-- tells this of the tables, whatever rows they have.
+pub record LooksInside {A E : Type 0} (Refused : Trees → E → Type 0) (Found : Trees → A → Type 0) (old new : State) (result : Result A E) : Type 0 where
+  pub call : Inside old new result (λ _. OnlyReads)
+  pub finds : InStore old new (λ trees. Answers (Refused trees) (Found trees) result)

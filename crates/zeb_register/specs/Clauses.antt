@@ -33,29 +33,16 @@ Tells old new result Told = OnStore old new (λ trees. IfOk result (Told trees))
 abbrev pub TellsInside : {A E : Type 0} → State → State → Result A E → (Trees → A → Type 0) → Type 0
 TellsInside old new result Told = InStore old new (λ trees. IfOk result (Told trees))
 
--- of a number that a column stores the answer of an accepted call tells this of a store's tables; of a greater one it tells that there is nothing
-pub record TellsByNumber {A : Type 0} (number : ℕ) (old new : State) (result : Result (Option A) RegFault) (Told : Trees → Option A → Type 0) : Type 0 where
-  pub small : OnStore old new (λ trees. number < 2 ^ 63 → IfOk result (Told trees))
-  pub large : 2 ^ 63 ≤ number → IfOk result (λ found. found ≡ None)
-
--- the same of a call inside a transaction
-pub record TellsByNumberInside {A : Type 0} (number : ℕ) (old new : State) (result : Result (Option A) RegFault) (Told : Trees → Option A → Type 0) : Type 0 where
-  pub small : InStore old new (λ trees. number < 2 ^ 63 → IfOk result (Told trees))
-  pub large : 2 ^ 63 ≤ number → IfOk result (λ found. found ≡ None)
+-- of a number that a column stores an answer tells this; of a greater one it tells that there is nothing
+pub record TellsByNumber {A : Type 0} (number : ℕ) (Told : Option A → Type 0) (found : Option A) : Type 0 where
+  pub small : number < 2 ^ 63 → Told found
+  pub large : 2 ^ 63 ≤ number → found ≡ None
 
 -- the one table is changed so by an accepted call inside a transaction
 abbrev pub ChangesTable : {A E : Type 0} → ℕ → State → State → Result A E → (A → ℕ → Trees → Trees → Type 0) → Type 0
 ChangesTable tree old new result Rows = InStore old new (λ _. IfOk result (λ answer. Changes tree (Rows answer) old new))
 
 -- ---- why a call is refused
-
--- Damaged is answered only where the tables are not so
-abbrev pub IsHonest : {A : Type 0} → State → State → Result A RegFault → (Trees → Type 0) → Type 0
-IsHonest old new result Sound = OnStore old new (λ trees. result ≡ Err Damaged → ¬ Sound trees)
-
--- a call inside a transaction answers Damaged only where the tables are not so
-abbrev pub IsHonestInside : {A : Type 0} → State → State → Result A RegFault → (Trees → Type 0) → Type 0
-IsHonestInside old new result Sound = InStore old new (λ trees. result ≡ Err Damaged → ¬ Sound trees)
 
 -- Damaged is answered only on a connection that was open
 abbrev pub IsOpenDamage : {A : Type 0} → State → State → Result A RegFault → Type 0
@@ -73,12 +60,8 @@ IsReasoned old new result = HasCleanDisk new → IsStore old → result ≡ Err 
 abbrev pub IsReasonedInside : {A : Type 0} → State → State → Result A RegFault → Type 0
 IsReasonedInside old new result = InStore old new (λ _. result ≡ Err Store → MayRefuse old new)
 
--- a call is refused as is due: with Damaged only on a connection that was open, with Store on a store's tables only where the store may refuse
-pub record IsDueRefusal {A : Type 0} (old new : State) (result : Result A RegFault) : Type 0 where
-  pub opened : IsOpenDamage old new result
-  pub reasoned : IsReasoned old new result
-
--- a call inside a transaction is refused as is due
+-- a call inside a transaction is refused as is due: with Damaged only on a connection that was open, with Store on a store's tables only where the
+-- store may refuse
 pub record IsDueRefusalInside {A : Type 0} (old new : State) (result : Result A RegFault) : Type 0 where
   pub opened : IsOpenDamageInside old new result
   pub reasoned : IsReasonedInside old new result

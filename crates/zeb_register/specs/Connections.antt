@@ -1,5 +1,5 @@
 -- What the clauses of many calls say, of a connection: the state that it had before the call, and the one that it has now. Each of these but
--- `InsideOf` unfolds by itself.
+-- `InsideOf` and `LooksInsideOf` unfolds by itself.
 use Rattle.std.specs.Prelude.{◌≡◌, ℕ, Bool, Result}
 use Rattle.std.specs.Borrow.{MutBor}
 use Rattle.sqlite.specs.declared.error.Error.{Error}
@@ -8,9 +8,9 @@ use Rattle.sqlite.specs.State.{State}
 use Rattle.sqlite.specs.Tree.{Trees}
 use Rattle.sqlite_trees.specs.declared.store.Store.{Ghosts}
 use Rattle.zeb_register.specs.declared.faults.RegFault.{RegFault}
-use Rattle.zeb_register.specs.Answers.{Asks, AsksWhether, LooksInto}
+use Rattle.zeb_register.specs.Answers.{Asks, AsksWhether, LooksInside, LooksInto}
 use Rattle.zeb_register.specs.Calls.{Alters, Inside, Reading}
-use Rattle.zeb_register.specs.Clauses.{ChangesTable, InStore, IsDueRefusal, IsDueRefusalInside, IsHonest, IsHonestInside, IsReasoned, IsReasonedError, IsReasonedErrorInside, OnStore, Tells, TellsInside}
+use Rattle.zeb_register.specs.Clauses.{ChangesTable, InStore, IsDueRefusalInside, IsReasoned, IsReasonedError, IsReasonedErrorInside, OnStore, Tells, TellsInside}
 
 -- ---- of a connection outside a transaction
 
@@ -27,17 +27,9 @@ module _ {S : Type 0} (store : Ghosts S) (old new : Held S) where
   abbrev pub TellsOf : {A E : Type 0} → Result A E → (Trees → A → Type 0) → Type 0
   TellsOf result Told = Tells (state store old) (state store new) result Told
 
-  -- Damaged is answered only where the tables are not so
-  abbrev pub IsHonestOf : {A : Type 0} → Result A RegFault → (Trees → Type 0) → Type 0
-  IsHonestOf result Sound = IsHonest (state store old) (state store new) result Sound
-
   -- Store is answered on a store's tables only where the store may refuse
   abbrev pub IsReasonedOf : {A : Type 0} → Result A RegFault → Type 0
   IsReasonedOf result = IsReasoned (state store old) (state store new) result
-
-  -- a call is refused as is due
-  abbrev pub IsDueRefusalOf : {A : Type 0} → Result A RegFault → Type 0
-  IsDueRefusalOf result = IsDueRefusal (state store old) (state store new) result
 
   -- a statement on a store's tables fails with an error that is told as Store only where the store may refuse
   abbrev pub IsReasonedErrorOf : {A : Type 0} → Result A Error → Type 0
@@ -62,7 +54,16 @@ pub record InsideOf {S A E : Type 0} (store : Ghosts S) (old new : MutBor (Held 
   pub same : new.ghost_name ≡ old.ghost_name
   pub does : Inside (state store old.now) (state store new.now) result Done
 
+-- a call looks into a store's tables, and its answer or its refusal tells this of them; the transaction borrows the same connection
+pub record LooksInsideOf {S A E : Type 0} (store : Ghosts S) (old new : MutBor (Held S)) (result : Result A E) (Refused : Trees → E → Type 0) (Found : Trees → A → Type 0) : Type 0 where
+  pub same : new.ghost_name ≡ old.ghost_name
+  pub looks : LooksInside Refused Found (state store old.now) (state store new.now) result
+
 module _ {S : Type 0} (store : Ghosts S) (old new : MutBor (Held S)) where
+  -- a call asks a store's tables, and an accepted answer tells this of them
+  abbrev pub AsksInsideOf : {A : Type 0} → Result A Error → (Trees → A → Type 0) → Type 0
+  AsksInsideOf result Told = LooksInsideOf store old new result (λ _ _. Unit {0}) Told
+
   -- this is said of a store's tables as they were before a call
   abbrev pub InStoreOf : (Trees → Type 0) → Type 0
   InStoreOf Said = InStore (state store old.now) (state store new.now) Said
@@ -78,10 +79,6 @@ module _ {S : Type 0} (store : Ghosts S) (old new : MutBor (Held S)) where
   -- the one table is changed so by an accepted call
   abbrev pub ChangesTableOf : {A E : Type 0} → ℕ → Result A E → (A → ℕ → Trees → Trees → Type 0) → Type 0
   ChangesTableOf tree result Rows = ChangesTable tree (state store old.now) (state store new.now) result Rows
-
-  -- Damaged is answered only where the tables are not so
-  abbrev pub IsHonestInsideOf : {A : Type 0} → Result A RegFault → (Trees → Type 0) → Type 0
-  IsHonestInsideOf result Sound = IsHonestInside (state store old.now) (state store new.now) result Sound
 
   -- a call is refused as is due
   abbrev pub IsDueRefusalInsideOf : {A : Type 0} → Result A RegFault → Type 0

@@ -3,7 +3,6 @@
 ghost use Rattle.std.specs.Prelude.{◌≡◌, ◌≢◌, pos, map, IfOk, FitsSigned};
 ghost use Rattle.std.specs.Int.{w64};
 ghost use Rattle.sqlite.specs.Held.{state};
-ghost use Rattle.sqlite.specs.State.{IsUnchanged};
 ghost use Rattle.zeb_register.specs.Store.{databases_tree, TakesDatabase};
 ghost use Rattle.zeb_register.specs.Catalog.{IsDatabaseOf, AreCountedDatabases, PutsDatabase};
 ghost use Rattle.zeb_register.specs.Catalog.{AreDatabases, AreReadableDatabases};
@@ -12,9 +11,10 @@ ghost use Rattle.zeb_register.specs.PrivateRowPlaces.{first_three};
 ghost use Rattle.zeb_register.specs.PrivateFirstRows.{AreShown, BeginsWithId, IsCountedRow, ShowsDatabase, ShowsFound, ShowsId};
 ghost use Rattle.zeb_register.specs.PrivateRowStatements.{IsDatabaseShown};
 ghost use Rattle.sqlite_rules.specs.Lists.{Has};
-ghost use Rattle.zeb_register.specs.Calls.{GoesOn, OnlyReads};
+ghost use Rattle.zeb_register.specs.Calls.{GoesOn};
+ghost use Rattle.zeb_register.specs.Answers.{IfDamaged};
 ghost use Rattle.zeb_register.specs.Clauses.{IsOpenDamageInside};
-ghost use Rattle.zeb_register.specs.Connections.{ChangesTableOf, InStoreOf, InsideOf, IsDueRefusalInsideOf, IsDueRefusalOf, IsHonestInsideOf, IsHonestOf, ReadingOf, TellsInsideOf, TellsOf, WritesOf};
+ghost use Rattle.zeb_register.specs.Connections.{ChangesTableOf, InStoreOf, InsideOf, IsDueRefusalInsideOf, LooksInsideOf, LooksIntoOf, WritesOf};
 
 use crate::statements::databases::{
     database_add, database_rows, database_rows_inside, last_set, listed_rows, listed_rows_inside,
@@ -63,12 +63,8 @@ pub fn database_of<S: Alter>(
     conn: &mut Connection<S>,
     name: &str,
 ) -> Result<Option<Database>, RegFault>
-    ensures call { ReadingOf S.Store conn.old conn.new result (λ _. IsUnchanged) }
-    ensures value { TellsOf S.Store conn.old conn.new result
-        (λ trees. IsDatabaseOf trees name.now) }
-    ensures honest { IsHonestOf S.Store conn.old conn.new result
-        (λ trees. AreCountedDatabases trees name.now) }
-    ensures refused { IsDueRefusalOf S.Store conn.old conn.new result }
+    ensures { LooksIntoOf S.Store conn.old conn.new result
+        (λ trees. ¬ AreCountedDatabases trees name.now) (λ trees. IsDatabaseOf trees name.now) }
 {
     let rows = database_rows(conn, name)?;
     Ok(first_database(&rows)?)
@@ -103,11 +99,8 @@ pub fn databases<S: Alter>(
     alloc: Global,
     conn: &mut Connection<S>,
 ) -> Result<Vec<ListedDatabase>, RegFault>
-    ensures call { ReadingOf S.Store conn.old conn.new result (λ _. IsUnchanged) }
-    ensures value { TellsOf S.Store conn.old conn.new result
-        (λ trees list. AreDatabases trees list.items) }
-    ensures honest { IsHonestOf S.Store conn.old conn.new result AreReadableDatabases }
-    ensures refused { IsDueRefusalOf S.Store conn.old conn.new result }
+    ensures { LooksIntoOf S.Store conn.old conn.new result
+        (λ trees. ¬ AreReadableDatabases trees) (λ trees list. AreDatabases trees list.items) }
 {
     let rows = listed_rows(conn)?;
     Ok(databases_in(alloc, &rows)?)
@@ -118,10 +111,9 @@ pub fn databases_inside<S: Alter>(
     alloc: Global,
     tx: &mut Transaction<'_, S>,
 ) -> Result<Vec<ListedDatabase>, RegFault>
-    ensures call { InsideOf S.Store tx.old.conn tx.new.conn result (λ _. OnlyReads) }
-    ensures value { TellsInsideOf S.Store tx.old.conn tx.new.conn result
+    ensures found { LooksInsideOf S.Store tx.old.conn tx.new.conn result
+        (λ trees. IfDamaged (¬ AreReadableDatabases trees))
         (λ trees list. AreDatabases trees list.items) }
-    ensures honest { IsHonestInsideOf S.Store tx.old.conn tx.new.conn result AreReadableDatabases }
     ensures refused { IsDueRefusalInsideOf S.Store tx.old.conn tx.new.conn result }
 {
     let rows = listed_rows_inside(tx)?;
@@ -187,11 +179,8 @@ fn id_inside<S: Alter>(
     tx: &mut Transaction<'_, S>,
     name: &str,
 ) -> Result<Option<DatabaseId>, RegFault>
-    ensures call { InsideOf S.Store tx.old.conn tx.new.conn result (λ _. OnlyReads) }
-    ensures value { TellsInsideOf S.Store tx.old.conn tx.new.conn result
-        (λ trees. IsIdOf trees name.now) }
-    ensures honest { InStoreOf S.Store tx.old.conn tx.new.conn
-        (λ _. result ≢ Err RegFault.Damaged) }
+    ensures found { LooksInsideOf S.Store tx.old.conn tx.new.conn result
+        (λ _. IfDamaged ⊥) (λ trees. IsIdOf trees name.now) }
     ensures opened { IsOpenDamageInside (state S.Store tx.old.conn.now)
         (state S.Store tx.new.conn.now) result }
 {

@@ -1,8 +1,6 @@
 //! The records that a database keeps.
 
-ghost use Rattle.std.specs.Prelude.{◌≡◌, ◌≢◌, [], ◌∷◌, pos, map, IfOk};
-ghost use Rattle.sqlite.specs.Held.{state};
-ghost use Rattle.sqlite.specs.State.{IsUnchanged};
+ghost use Rattle.std.specs.Prelude.{◌≡◌, [], ◌∷◌, pos, map, IfOk};
 ghost use Rattle.sqlite.specs.declared.types.Value.TheVariants.{Int};
 ghost use Rattle.zeb_register.specs.Sql.{Loses, Replaces, IsListOf};
 ghost use Rattle.zeb_register.specs.Store.{records_tree, record_row, HasNumber, SharesRecord, IsRest};
@@ -12,9 +10,9 @@ ghost use Rattle.zeb_register.specs.PrivateFirstRows.{AreShown, IsElderShown, Sh
 ghost use Rattle.zeb_register.specs.Kept.{IsElderOf, IsIdentOf, AreNumbered, AreReadableIdents, AreReadable, record_shown};
 ghost use Rattle.zeb_register.specs.Kept.{IsFirstFrom, IsRecordCount};
 ghost use Rattle.zeb_register.specs.PrivateRowStatements.{IsRecordShown};
-ghost use Rattle.zeb_register.specs.Calls.{OnlyReads};
-ghost use Rattle.zeb_register.specs.Clauses.{TellsByNumber, TellsByNumberInside};
-ghost use Rattle.zeb_register.specs.Connections.{InsideOf, IsDueRefusalInsideOf, IsDueRefusalOf, IsHonestInsideOf, IsHonestOf, OnStoreOf, ReadingOf, TellsInsideOf, TellsOf, WritesOf};
+ghost use Rattle.zeb_register.specs.Answers.{IfDamaged};
+ghost use Rattle.zeb_register.specs.Clauses.{TellsByNumber};
+ghost use Rattle.zeb_register.specs.Connections.{IsDueRefusalInsideOf, LooksInsideOf, LooksIntoOf, WritesOf};
 
 use crate::meta::first_text;
 use crate::statements::inside::{nothing_inside, rows_from_inside};
@@ -88,11 +86,9 @@ pub fn record_of_ident<S: Alter>(
     db: DatabaseId,
     ident: &str,
 ) -> Result<Option<Elder>, RegFault>
-    ensures call { InsideOf S.Store tx.old.conn tx.new.conn result (λ _. OnlyReads) }
-    ensures value { TellsInsideOf S.Store tx.old.conn tx.new.conn result
+    ensures found { LooksInsideOf S.Store tx.old.conn tx.new.conn result
+        (λ trees. IfDamaged (¬ AreNumbered trees db.0 ident.now))
         (λ trees. IsElderOf trees db.0 ident.now) }
-    ensures honest { IsHonestInsideOf S.Store tx.old.conn tx.new.conn result
-        (λ trees. AreNumbered trees db.0 ident.now) }
     ensures refused { IsDueRefusalInsideOf S.Store tx.old.conn tx.new.conn result }
 {
     let rows = elder_rows(tx, db.column(), ident)?;
@@ -129,12 +125,9 @@ pub fn ident_of<S: Alter>(
     db: DatabaseId,
     sysno: u64,
 ) -> Result<Option<String>, RegFault>
-    ensures call { ReadingOf S.Store conn.old conn.new result (λ _. IsUnchanged) }
-    ensures value { TellsByNumber sysno (state S.Store conn.old) (state S.Store conn.new) result
-        (λ trees. IsIdentOf trees db.0 (pos sysno)) }
-    ensures honest { IsHonestOf S.Store conn.old conn.new result
-        (λ trees. AreReadableIdents trees db.0 (pos sysno)) }
-    ensures refused { IsDueRefusalOf S.Store conn.old conn.new result }
+    ensures { LooksIntoOf S.Store conn.old conn.new result
+        (λ trees. ¬ AreReadableIdents trees db.0 (pos sysno))
+        (λ trees. TellsByNumber sysno (IsIdentOf trees db.0 (pos sysno))) }
 {
     let Ok(sysno) = stored(sysno) else {
         // A closed connection is refused for such a number too.
@@ -149,10 +142,8 @@ pub fn ident_of<S: Alter>(
 ///
 /// It takes the memory of one row, however many records there are. On a store's tables it is never `Damaged`. It changes nothing.
 pub fn record_count<S: Alter>(conn: &mut Connection<S>, db: DatabaseId) -> Result<u64, RegFault>
-    ensures call { ReadingOf S.Store conn.old conn.new result (λ _. IsUnchanged) }
-    ensures value { TellsOf S.Store conn.old conn.new result (λ trees. IsRecordCount trees db.0) }
-    ensures honest { OnStoreOf S.Store conn.old conn.new (λ trees. result ≢ Err RegFault.Damaged) }
-    ensures refused { IsDueRefusalOf S.Store conn.old conn.new result }
+    ensures { LooksIntoOf S.Store conn.old conn.new result (λ _. ⊥)
+        (λ trees. IsRecordCount trees db.0) }
 {
     let rows = count_rows(conn, db.column())?;
     match rows.first() {
@@ -171,11 +162,8 @@ pub fn record_from<S: Alter>(
     db: DatabaseId,
     start: u64,
 ) -> Result<Option<Record>, RegFault>
-    ensures call { ReadingOf S.Store conn.old conn.new result (λ _. IsUnchanged) }
-    ensures value { TellsByNumber start (state S.Store conn.old) (state S.Store conn.new) result
-        (λ trees. IsFirstFrom trees db.0 start) }
-    ensures honest { IsHonestOf S.Store conn.old conn.new result (λ trees. AreReadable trees db.0) }
-    ensures refused { IsDueRefusalOf S.Store conn.old conn.new result }
+    ensures { LooksIntoOf S.Store conn.old conn.new result (λ trees. ¬ AreReadable trees db.0)
+        (λ trees. TellsByNumber start (IsFirstFrom trees db.0 start)) }
 {
     let Ok(start) = stored(start) else {
         // A closed connection is refused for such a number too.
@@ -192,11 +180,9 @@ pub fn record_from_inside<S: Alter>(
     db: DatabaseId,
     start: u64,
 ) -> Result<Option<Record>, RegFault>
-    ensures call { InsideOf S.Store tx.old.conn tx.new.conn result (λ _. OnlyReads) }
-    ensures value { TellsByNumberInside start (state S.Store tx.old.conn.now)
-        (state S.Store tx.new.conn.now) result (λ trees. IsFirstFrom trees db.0 start) }
-    ensures honest { IsHonestInsideOf S.Store tx.old.conn tx.new.conn result
-        (λ trees. AreReadable trees db.0) }
+    ensures found { LooksInsideOf S.Store tx.old.conn tx.new.conn result
+        (λ trees. IfDamaged (¬ AreReadable trees db.0))
+        (λ trees. TellsByNumber start (IsFirstFrom trees db.0 start)) }
     ensures refused { IsDueRefusalInsideOf S.Store tx.old.conn tx.new.conn result }
 {
     let Ok(start) = stored(start) else {
@@ -216,12 +202,9 @@ pub fn records<S: Alter>(
     conn: &mut Connection<S>,
     db: DatabaseId,
 ) -> Result<Vec<Record>, RegFault>
-    ensures call { ReadingOf S.Store conn.old conn.new result (λ _. IsUnchanged) }
-    ensures value { TellsOf S.Store conn.old conn.new result
+    ensures { LooksIntoOf S.Store conn.old conn.new result (λ trees. ¬ AreReadable trees db.0)
         (λ trees list. IsListOf (IsRest records_tree (Int db.0 ∷ []) trees)
         (map record_shown list.items)) }
-    ensures honest { IsHonestOf S.Store conn.old conn.new result (λ trees. AreReadable trees db.0) }
-    ensures refused { IsDueRefusalOf S.Store conn.old conn.new result }
 {
     let rows = record_rows(conn, db.column())?;
     Ok(records_of(alloc, &rows)?)

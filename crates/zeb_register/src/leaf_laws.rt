@@ -53,7 +53,7 @@ pub fn damage_stays_in_its_leaf()
 {}
 
 /// The definitions, tried on a register of two leaves. The first has a in record 1 and b in record 1; the second, from block 1 of b
-/// on, b in record 256 and c in records 1 and 255. Then on leaves that no writer makes.
+/// on, b in record 256 and c in records 1 and 255. Then on one with an entry that no writer puts where it stands.
 pub fn worked_registers()
     ensures covered { AllByRecursion
         (λ key. Covers (Has (first_leaf ∷ second_leaf ∷ [])) key first_leaf)
@@ -78,6 +78,10 @@ pub fn worked_registers()
         (at 1 2 2 ∷ at 255 1 1 ∷ [])
         × SumsRecords (Has (stray_leaf ∷ second_leaf ∷ [])) (codes "c") 2
         × ¬ IsLeafAlone (Has (stray_leaf ∷ second_leaf ∷ [])) stray_leaf }
+{}
+
+/// The definitions of damage, tried on registers that no writer leaves.
+pub fn worked_damage()
     // A leaf whose bytes are cut damages what it covers, and nothing else.
     ensures cut { IsPartMalformed (Has (first_leaf ∷ cut_leaf ∷ [])) (codes "b") 1
         × IsPartMalformed (Has (first_leaf ∷ cut_leaf ∷ [])) (codes "c") 0

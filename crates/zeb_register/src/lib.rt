@@ -49,7 +49,7 @@ pub use kept::{
 pub use laws::calls_tell_of_the_content;
 pub use leaf_laws::{
     damage_stays_in_its_leaf, held_registers_begin_at_the_least_key, units_tell_held_leaves,
-    worked_registers,
+    worked_damage, worked_registers,
 };
 pub use lists::{each_unit_reads_or_is_malformed, rows_are_lists};
 pub use meta::{meta_of, meta_put};

@@ -1,11 +1,10 @@
 //! Texts that the store keeps of itself, each under a name.
 
 ghost use Rattle.std.specs.Prelude.{◌≡◌, IfOk};
-ghost use Rattle.sqlite.specs.State.{IsUnchanged};
 ghost use Rattle.zeb_register.specs.Sql.{Replaces};
 ghost use Rattle.zeb_register.specs.Store.{meta_tree, entry, IsEntryOf, IsValueOf, AreReadableTexts};
 ghost use Rattle.zeb_register.specs.PrivateFirstRows.{AreShown, IsTextShown, ShowsFound, ShowsText};
-ghost use Rattle.zeb_register.specs.Connections.{IsDueRefusalOf, IsHonestOf, ReadingOf, TellsOf, WritesOf};
+ghost use Rattle.zeb_register.specs.Connections.{LooksIntoOf, WritesOf};
 
 use crate::statements::texts::text_rows;
 use crate::statements::writing::write;
@@ -19,11 +18,8 @@ const PUT: &str = "INSERT OR REPLACE INTO meta VALUES (?1, ?2)";
 ///
 /// `Damaged` where it is no UTF-8. It changes nothing.
 pub fn meta_of<S: Alter>(conn: &mut Connection<S>, name: &str) -> Result<Option<String>, RegFault>
-    ensures call { ReadingOf S.Store conn.old conn.new result (λ _. IsUnchanged) }
-    ensures value { TellsOf S.Store conn.old conn.new result (λ trees. IsValueOf trees name.now) }
-    ensures honest { IsHonestOf S.Store conn.old conn.new result
-        (λ trees. AreReadableTexts trees name.now) }
-    ensures refused { IsDueRefusalOf S.Store conn.old conn.new result }
+    ensures { LooksIntoOf S.Store conn.old conn.new result
+        (λ trees. ¬ AreReadableTexts trees name.now) (λ trees. IsValueOf trees name.now) }
 {
     let rows = text_rows(conn, name)?;
     Ok(first_text(&rows)?)

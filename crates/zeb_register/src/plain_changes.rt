@@ -4,9 +4,9 @@ ghost use Rattle.std.specs.Prelude.{IsUtf8, ◌≡◌, ◌≢◌, ◌↔◌, map
 ghost use Rattle.std.specs.List.Sorted.{IsStrictlySortedBy};
 ghost use Rattle.sqlite_rules.specs.Lists.{Has};
 ghost use Rattle.sqlite.specs.Held.{state};
-ghost use Rattle.zeb_register.specs.Answers.{Answers, IfDamaged};
-ghost use Rattle.zeb_register.specs.Calls.{GoesOn, OnlyReads};
-ghost use Rattle.zeb_register.specs.Connections.{InStoreOf, InsideOf, WritesOf};
+ghost use Rattle.zeb_register.specs.Answers.{IfDamaged};
+ghost use Rattle.zeb_register.specs.Calls.{GoesOn};
+ghost use Rattle.zeb_register.specs.Connections.{InStoreOf, InsideOf, LooksInsideOf, WritesOf};
 ghost use Rattle.zeb_register.specs.Content.{place_cmp};
 ghost use Rattle.zeb_register.specs.Formats.{plain_rows};
 ghost use Rattle.zeb_register.specs.PlainUnits.{RowsRead};
@@ -111,10 +111,9 @@ fn holds_places<S: Alter>(
     sysno: u64,
     places: &[Place],
 ) -> Result<bool, RegFault>
-    ensures call { InsideOf S.Store tx.old.conn tx.new.conn result (λ _. OnlyReads) }
-    ensures told { InStoreOf S.Store tx.old.conn tx.new.conn
-        (λ trees. Answers (IfDamaged (¬ RowsRead trees db.0 key.now sysno places.now))
-        (λ same. IsTrue same ↔ RowsRead trees db.0 key.now sysno places.now) result) }
+    ensures found { LooksInsideOf S.Store tx.old.conn tx.new.conn result
+        (λ trees. IfDamaged (¬ RowsRead trees db.0 key.now sysno places.now))
+        (λ trees same. IsTrue same ↔ RowsRead trees db.0 key.now sysno places.now) }
     ensures text { OnOk result (IsUtf8 key.now.term) }
 {
     let number = stored(sysno)?;

@@ -1,7 +1,6 @@
 -- What a term asks for holds on the records that the rows of its attributes say.
 use Rattle.zeb_search.proofs.Cited.{◌≡◌, ◌≢◌, ◌↔◌, ◌∙◌, ℕ, false, cond, List, [], ◌∷◌, Option, refl, sym, ap, subst, inl, inr, Ok, Symbol, Register, Relation, Occurrence, TermPlanValue, PlanValue, TermOf, NumberOf, OrderedOf, CompleteOf, PhraseOf, AllWordsOf, AnyWordOf, Has, TermHolds, TreeHolds, chars, Profile, Always, Compared, Complete, Incomplete, FreeForm, Numeric, Phrase, WordList, Entries, Record, HeadValue, TermValue, heads, no_head, HoldingValue, asks_number, holding_of, is_equality, is_first, joined_words, patterns_asked, register_of, values_held, find_checks, first_that_applies, asked_with, entries_asked, plan_of, subject_asked, texts_asked, words_asked, answered_ok, HasRow, HoldsByAttributes}
 use Rattle.std.specs.Str.Parse.{digits_value}
-use Rattle.zeb_keys.specs.declared.Register.TheVariants as register
 use Rattle.zeb_text.specs.Truncation.{joined_patterns}
 use Rattle.zeb_text.specs.Words.{words_of}
 use Rattle.zeb_query.specs.declared.attributes.Asked.{Asked}

@@ -16,7 +16,7 @@ pub use Rattle.std.proofs.lemmas.Bool.{cases_lt}
 pub use Rattle.std.proofs.lemmas.Bool.Decides.{nat_tests}
 pub use Rattle.std.proofs.lemmas.Cmp.{tied_itself}
 pub use Rattle.std.proofs.lemmas.Grind.{get_or_default_zero}
-pub use Rattle.std.proofs.lemmas.List.{length-map, get_or_default, append-nil, take_more, append_assoc, take-append-drop, map-append, get_or-map, take_all, nil_from_length, append_cancel_left}
+pub use Rattle.std.proofs.lemmas.List.{length-map, get_or_default, append-nil, take_more, append_assoc, take-append-drop, map-append, get_or-map, take_all, nil_from_length}
 pub use Rattle.std.proofs.lemmas.List.Kept.{IsStrictlySortedBy-filter}
 pub use Rattle.std.proofs.lemmas.List.Sorted.{IsPermutation-refl, answers_always}
 pub use Rattle.std.proofs.lemmas.List.Sums.{sum_by-append}
@@ -54,30 +54,30 @@ pub use Rattle.zeb_query.specs.declared.plans.PairPlan.{PairPlan}
 pub use Rattle.zeb_query.specs.declared.plans.Relation.{Relation}
 pub use Rattle.zeb_query.specs.declared.plans.Separation.{Separation}
 pub use Rattle.zeb_query.specs.declared.values.Subject.TheVariants.{Entries, Record}
-pub use Rattle.zeb_register.proofs.Answered.{looks_tell, or_reasoned, told_held}
+pub use Rattle.zeb_register.proofs.Answered.{told_held}
 pub use Rattle.zeb_register.proofs.Calls.{nothing_still, nothing_then, store_same}
 pub use Rattle.zeb_register.proofs.CallsInTurn.{quiet_still, quiet_then}
 pub use Rattle.zeb_register.proofs.Causes.{may_after}
 pub use Rattle.zeb_register.proofs.ContentChanges.{posting_total, postings_apart}
-pub use Rattle.zeb_register.proofs.CountLemmas.{is_less, less_is, counted_none, some_count}
-pub use Rattle.zeb_register.proofs.CountLists.{held_shows, asked_shown, all_told}
-pub use Rattle.zeb_register.proofs.KeyLists.{count_held, held_listing, held_whole, whole_list, whole_sound, one_places, list_told}
+pub use Rattle.zeb_register.proofs.CountLemmas.{is_less, less_is, some_count}
+pub use Rattle.zeb_register.proofs.CountLists.{asked_shown, all_told}
+pub use Rattle.zeb_register.proofs.KeyLists.{count_held, one_places, list_told}
 pub use Rattle.zeb_register.proofs.RisingLists.{never_back, never_itself, no_longer, pushed_rises, before_last, front_rises, joined_rises}
 pub use Rattle.zeb_register.proofs.RowLemmas.{same_bytes}
 pub use Rattle.zeb_register.proofs.TermLists.{above_least, least_above}
 pub use Rattle.zeb_register.proofs.TermRows.{taken_below, taken_more, last_view}
-pub use Rattle.zeb_register.specs.Answers.{TellsOr}
+pub use Rattle.zeb_register.specs.Answers.{LooksInto}
 pub use Rattle.zeb_register.specs.Between.{AreKeysBetween, IsBetween}
 pub use Rattle.zeb_register.specs.Calls.{ChangesNothing, Reading}
 pub use Rattle.zeb_register.specs.Clauses.{OnStore, TellsHeld, IsReasoned}
 pub use Rattle.zeb_register.specs.Content.{Content, posted, posting_cmp, Posting, IsStorable, places_in}
 pub use Rattle.zeb_register.specs.Formats.{Format, holds_in, plain_rows, packed_blocks, packed_leaves}
 pub use Rattle.zeb_register.specs.Kept.{IsIdentOf, AreReadableIdents}
-pub use Rattle.zeb_register.specs.Occurring.{AreTermsOf, TermIn, key_in, term_cmp, HasKey}
+pub use Rattle.zeb_register.specs.Occurring.{AreTermsOf, TermIn, key_in, term_cmp}
 pub use Rattle.zeb_register.specs.PlainRows.{register_front}
-pub use Rattle.zeb_register.specs.Store.{IsStore, HasRecord, IsRest, dict_tree}
+pub use Rattle.zeb_register.specs.Store.{IsStore, HasRecord}
 pub use Rattle.zeb_register.specs.Tallies.{Works, Rises}
-pub use Rattle.zeb_register.specs.Terms.{shows_count, Comes, IsNearest, ListsAll, ListsFrom, HidesSome, HidesFrom}
+pub use Rattle.zeb_register.specs.Terms.{shows_count, Comes, IsNearest, ListsAll, ListsFrom, HidesSome, HidesFrom, TellsFrom}
 pub use Rattle.zeb_register.specs.Units.{HasMalformedBetween, ListsBetween, ListsUnits, has_malformed, counts_as}
 pub use Rattle.zeb_register.specs.declared.RegFault.{RegFault}
 pub use Rattle.zeb_register.specs.declared.registers.RegisterOf.{RegisterOf}
@@ -86,19 +86,19 @@ pub use Rattle.zeb_register.specs.declared.registers.Work.{Work}
 pub use Rattle.zeb_search.specs.ByAttributes.{HasRow, HoldsByAttributes, AreKept, IsNamed, occurs_in}
 pub use Rattle.zeb_search.specs.Comparing.{Precedes, StandsInOrder, Stands, AreApart, IsDistant}
 pub use Rattle.zeb_search.specs.DictRows.{EntryDict, PlanDict, RegisterDict, TermDict, WordDict}
-pub use Rattle.zeb_search.specs.Finds.{FindsEntries, FindsPlan, FindsWords, Follow, HasAll, HasEach, HasPosting, HasRun, HasSome, HidesEntries, HidesWord, HidesWords, IsCounted, IsNear, IsReached, IsShown, IsStray, Occurs, PlanFinds, PlanHides, ReadsEntries, ReadsWord, ReadsWords, TermFinds, TermHides}
+pub use Rattle.zeb_search.specs.Finds.{FindsEntries, FindsWords, Follow, HasAll, HasEach, HasPosting, HasRun, HasSome, HidesEntries, HidesWords, IsCounted, IsNear, IsReached, IsShown, IsStray, Occurs, PlanFinds, PlanHides, ReadsEntries, ReadsWord, ReadsWords, TermFinds, TermHides}
 pub use Rattle.zeb_search.specs.Holds.{AreJoined, HasEntry, HasWord, HasWords, HasNear, TermHolds, TreeHolds, Fits, HasMatch, HasPhrase, IsNumberAt}
 pub use Rattle.zeb_search.specs.ListRows.{AreKeysOf, EntryRows, rows_under, WordRows, PlanRows}
 pub use Rattle.zeb_search.specs.Lists.{AreNumbers, AreJust, Rise}
-pub use Rattle.zeb_search.specs.PrivateFinds.{FindsTerm, HidesKeys, IsReachedBy, ListsKeys, PlacesFound}
+pub use Rattle.zeb_search.specs.PrivateFinds.{HidesKeys, IsReachedBy, ListsKeys, PlacesFound}
 pub use Rattle.zeb_search.specs.PrivateLists.{ArePostings}
 pub use Rattle.zeb_search.specs.PrivateMet.{IsShownAmong, IsShownWith, AreKeysIn, AreMet, HasMet, MeetsCounts}
-pub use Rattle.zeb_search.specs.PrivateSearchCounts.{NoRows}
+pub use Rattle.zeb_search.specs.PrivateSearching.{NoRows, SearchesPhrases, SearchesSome, SearchesTerm}
 pub use Rattle.zeb_search.specs.PrivateTerms.{TermsRise, BeginsAt, IsAmong, LeadsTo, AreTaken, IsWanted, NamesEntry, AreFound, AreRun, StandTogether, StandsWithin, EndsAt}
 pub use Rattle.zeb_search.specs.PrivateWalks.{HasWithin, IsBefore, IsBehind, IsUpTo, IsWithin, IsFollowed, IsNearBy, IsWithinSome, words_between}
-pub use Rattle.zeb_search.specs.PrivateWordCounts.{CountedMatches, CountedWords}
 pub use Rattle.zeb_search.specs.Registers.{HoldsIn, is_kept_in, NamesReadable, TermNamesReadable}
-pub use Rattle.zeb_search.specs.SearchCounts.{CountsByContent, HasNoStar, AreWithoutStars, IsOneKey, NamesEntries, TermNamesEntries, CountsAtMost}
+pub use Rattle.zeb_search.specs.SearchCounts.{CountsRows, HasNoStar, AreWithoutStars, IsOneKey, NamesEntries, TermNamesEntries, CountsAtMost}
+pub use Rattle.zeb_search.specs.Searching.{Searches, SearchesPlan}
 pub use Rattle.zeb_search.specs.SearchRows.{AreEntriesSound, AreWordsSound, ArePlanRowsSound, AreTermRowsSound}
 pub use Rattle.zeb_search.specs.Untouched.{IsUntouched}
 pub use Rattle.zeb_search.specs.declared.keys.FoundKeys.{FoundKeys}

@@ -1,8 +1,7 @@
 -- How many rows of `dict` calls read, one after the other.
-use Rattle.zeb_search.proofs.Cited.{◌≡◌, ◌∙◌, ◌++◌, ◌∷◌, ◌+◌, ◌*◌, ◌≤◌, [], ℕ, ℤ, List, arith, ap, refl, sym, subst, inl, inr, length, map, length-append, length-map, mul-add, mul-le-mul_left, nat_list_cmp_total, State, Survives, Has, has_mapped, mapped_has, Symbol, Register, PlanValue, TermOf, PairOf, NearOf, TermPlanValue, RecordNumberOf, NoWordsOf, AlwaysOf, NumberOf, OrderedOf, CompleteOf, PhraseOf, AllWordsOf, AnyWordOf, Occurrence, TermCount, Work, Content, posted, Format, AreTermsOf, TermIn, Works, no_longer, CountsByContent, HasNoStar, AreWithoutStars, IsOneKey, NamesEntries, TermNamesEntries, NoRows, EntryDict, PlanDict, RegisterDict, TermDict, WordDict, TermsRise}
+use Rattle.zeb_search.proofs.Cited.{◌≡◌, ◌∙◌, ◌++◌, ◌∷◌, ◌+◌, ◌*◌, ◌≤◌, [], ℕ, ℤ, List, arith, ap, refl, sym, subst, inl, inr, length, map, length-append, length-map, mul-add, mul-le-mul_left, nat_list_cmp_total, Has, has_mapped, mapped_has, Symbol, Register, PlanValue, TermOf, PairOf, NearOf, TermPlanValue, RecordNumberOf, NoWordsOf, AlwaysOf, NumberOf, OrderedOf, CompleteOf, PhraseOf, AllWordsOf, AnyWordOf, Occurrence, TermCount, Work, Content, posted, AreTermsOf, TermIn, no_longer, CountsRows, HasNoStar, AreWithoutStars, IsOneKey, NamesEntries, TermNamesEntries, NoRows, EntryDict, PlanDict, RegisterDict, TermDict, WordDict, TermsRise}
 use Rattle.zeb_keys.specs.declared.Register.TheVariants as register
-use Rattle.zeb_search.proofs.SearchCountLemmas.{counted_then, no_rows_then, terms_count}
-use Rattle.zeb_search.proofs.ReadLemmas.{IsRead}
+use Rattle.zeb_search.proofs.SearchCountLemmas.{rows_then}
 use Rattle.zeb_search.proofs.RisingTexts.{terms_rise}
 
 -- terms of a register, each once, are no more than all of its terms
@@ -20,17 +19,17 @@ no_more_terms O index register terms all up of are =
 
 -- ---- rows of `dict`
 
+-- so many terms that are gone through
+abbrev pub CountsTerms : (row_work : ℕ) → List TermCount → Work → Work → Type 0
+CountsTerms row_work terms = CountsRows (λ n. n ≡ row_work * length terms) NoRows
+
 -- the first pages, and one page more
-pub pages_counted : (format : Format) (row_work : ℕ) (terms page all : List TermCount) → all ≡ terms ++ page → (s0 s1 s2 : State) (a b c : Work) → IsRead s0 s1 → Survives s1 s2 (λ _. ⊥)
-    → CountsByContent format (λ content n. n ≡ row_work * length terms) NoRows s0 s1 a b
-    → Works (row_work * length page) 0 0 0 b c
-    → CountsByContent format (λ content n. n ≡ row_work * length all) NoRows s0 s2 a c
-pages_counted format row_work terms page all joined s0 s1 s2 a b c read crash before works =
-    counted_then format (λ content n. n ≡ row_work * length terms) (λ content n. n ≡ row_work * length page) (λ content n. n ≡ row_work * length all) NoRows NoRows NoRows s0 s1 s2 a b c
-    (λ content m n first second.
+pub pages_counted : (row_work : ℕ) (terms page all : List TermCount) → all ≡ terms ++ page → (a b c : Work) → CountsTerms row_work terms a b → CountsTerms row_work page b c → CountsTerms row_work all a c
+pages_counted row_work terms page all joined a b c =
+    rows_then (λ n. n ≡ row_work * length terms) (λ n. n ≡ row_work * length page) (λ n. n ≡ row_work * length all) NoRows NoRows NoRows a b c
+    (λ m n first second.
     let long : length all ≡ length terms + length page = ap length joined ∙ length-append terms page in
-    omega (arith, first, second, ap (λ k. row_work * k) long, mul-add row_work (length terms) (length page))) no_rows_then read crash before
-    (λ clean store content has. (row_work * length page, 0, refl, refl, terms_count (row_work * length page) b c works))
+    omega (arith, first, second, ap (λ k. row_work * k) long, mul-add row_work (length terms) (length page))) (λ m n first second. omega (arith, first, second))
 
 module _ (row_work : ℕ) (content : Content) (db : ℤ) where
   -- terms of a register, each once, add no more than all of its terms

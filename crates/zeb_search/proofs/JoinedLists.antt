@@ -1,5 +1,5 @@
 -- Two lists of numbers that rise, joined under an operator in one walk.
-use Rattle.zeb_search.proofs.Cited.{◌≡◌, ◌∙◌, ◌↔◌, ◌⊎◌, ◌≤◌, ◌<◌, ℕ, ◌+◌, Bool, true, false, cond, length, get_or, take, List, [], ◌∷◌, ◌++◌, IsTrue, Less, refl, sym, ap, subst, inl, inr, arith, bool_byte, nat_cmp_total, nat_cmp, is_less, less_is, cases_lt, get_or_default_zero, below_from_sorted, Has, has_left, has_right, has_either, Operator, And, Or, Not, pushed_rises, taken_below, taken_more, AreJoined, AreNumbers}
+use Rattle.zeb_search.proofs.Cited.{◌≡◌, ◌∙◌, ◌↔◌, ◌⊎◌, ◌≤◌, ◌<◌, ℕ, ◌+◌, Bool, true, false, cond, length, get_or, take, List, [], ◌∷◌, ◌++◌, IsTrue, refl, sym, ap, subst, inl, inr, arith, bool_byte, nat_cmp_total, nat_cmp, is_less, less_is, cases_lt, get_or_default_zero, below_from_sorted, Has, has_left, has_right, has_either, Operator, And, Or, Not, pushed_rises, taken_below, taken_more, AreJoined, AreNumbers}
 use Rattle.std.specs.List.Sorted.{IsStrictlySortedBy}
 
 -- ---- one number more

@@ -10,7 +10,7 @@ pub mod JustLemmas
 pub mod KnownHolders
 pub mod MetPages
 pub mod MetTerms
-pub mod MetRows
+pub mod PageCalls
 pub mod NeighbourLemmas
 pub mod OneKey
 pub mod OrderedLists
@@ -18,6 +18,7 @@ pub mod PlainWords
 pub mod PlanLemmas
 pub mod RangeLemmas
 pub mod ReadLemmas
+pub mod SearchesInTurn
 pub mod ReadableNames
 pub mod RisingTexts
 pub mod RowCounts
@@ -25,16 +26,13 @@ pub mod RunLemmas
 pub mod SeparatedPostings
 pub mod TermLemmas
 pub mod WordCounts
-pub mod ToldLemmas
 pub mod UnitLemmas
 pub mod KeptValues
 pub mod KeyReads
 pub mod EntryReads
 pub mod EntryLaws
 pub mod WordReads
-pub mod WordCalls
 pub mod WordLaws
 pub mod FoundLaws
 pub mod PlanLaws
-pub mod FindCalls
 pub mod Cited

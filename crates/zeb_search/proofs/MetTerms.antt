@@ -1,23 +1,6 @@
 -- What a step of a search has met: the counts of a register's terms, and the keys of those that are asked for.
-use Rattle.zeb_search.proofs.Cited.{◌≡◌, ◌↔◌, ◌∙◌, ◌++◌, ◌∷◌, [], ℕ, ℤ, List, ap, inl, inr, subst, subst₂, sym, IsTrue, State, Survives, Trees, Has, has_left, has_right, Register, Key, RegisterOf, TermCount, OnStore, Format, key_in, Rise, Wanted, AreKeysIn, AreMet, HasMet, AreTaken, FoundKeys, IsAmong, IsWanted, NamesEntry, StandTogether, StandsWithin, ListsFrom, counts_as}
-use Rattle.zeb_search.proofs.MetPages.{MetUpTo}
-use Rattle.zeb_search.proofs.MetRows.{met_later}
-use Rattle.zeb_search.proofs.ReadLemmas.{IsRead, clean_before}
+use Rattle.zeb_search.proofs.Cited.{◌≡◌, ◌↔◌, ◌∙◌, ◌++◌, ◌∷◌, [], ℕ, List, ap, inl, inr, subst, subst₂, sym, IsTrue, Trees, Has, has_left, has_right, Key, RegisterOf, TermCount, Format, key_in, Rise, Wanted, AreKeysIn, AreMet, HasMet, AreTaken, FoundKeys, IsAmong, IsWanted, NamesEntry, StandTogether, StandsWithin, counts_as}
 use Rattle.zeb_search.proofs.RisingTexts.{back_rise, front_rise, one_rises}
-
--- ---- terms
-
--- what is met before a page, and what the page tells, of the tables before the first; `text` is the start as the call is given it
-pub page_told : (format : Format) (db : ℤ) (index : ℕ) (register : Register) (wanted : Wanted) (a b c : State) → IsRead a b → Survives b c (λ _. ⊥)
-    → (terms : List TermCount) (text start : List ℕ) → text ≡ start → (n : ℕ) (page : List TermCount)
-    → OnStore a b (λ trees. MetUpTo format trees db index register wanted terms start)
-    → OnStore b c (λ trees. ListsFrom format trees db index register text n page)
-    → OnStore a c (λ trees. ListsFrom format trees db index register start n page × MetUpTo format trees db index register wanted terms start)
-page_told format db index register wanted a b c read crash terms text start same n page met told clean store = (
-  subst (λ (t : List ℕ). ListsFrom format a.now.trees db index register t n page) same
-      (met_later a b c (λ trees. ListsFrom format trees db index register text n page) crash read told clean store),
-  met (clean_before b c crash clean) store,
-)
 
 -- ---- keys
 

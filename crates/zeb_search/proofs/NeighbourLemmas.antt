@@ -1,9 +1,8 @@
 -- Terms that stand next to each other in a register, and the postings of such a run.
-use Rattle.zeb_search.proofs.Cited.{◌≡◌, ◌⊎◌, ◌∙◌, ◌+◌, ◌-◌, ◌≤◌, ℕ, ℤ, suc, Bool, true, false, List, [], ◌∷◌, ◌++◌, Result, Ok, Err, Vec, OnOk, drop, get_or, length, map, take, refl, sym, ap, subst, subst₂, inl, inr, Ordering, Less, arith, nat_cmp, is_lt, slice_cmp, take-append-drop, Global, State, HasCleanDisk, Survives, Has, all_has, has_either, has_right, mapped_has, Key, RegisterOf, TermCount, Work, AreKeysBetween, OnStore, TellsHeld, Content, Posting, posted, Format, holds_in, IsStore, Works, RegFault, Precedes, CountsByContent, CountsAtMost, NoRows, FoundKeys, Wanted, AreKeysOf, EntryRows, rows_under, Rise, AreFound, AreRun, IsWanted, StandTogether, TermsRise, last_view}
+use Rattle.zeb_search.proofs.Cited.{◌≡◌, ◌⊎◌, ◌∙◌, ◌+◌, ◌-◌, ◌≤◌, ℕ, suc, Bool, true, false, List, [], ◌∷◌, ◌++◌, Result, Ok, Err, Vec, OnOk, drop, get_or, length, map, take, refl, sym, ap, subst, subst₂, inl, inr, Ordering, Less, arith, nat_cmp, is_lt, slice_cmp, take-append-drop, Global, State, Has, all_has, has_either, has_right, mapped_has, Key, RegisterOf, TermCount, Work, AreKeysBetween, OnStore, TellsHeld, Content, Posting, posted, Format, holds_in, Works, RegFault, Precedes, CountsAtMost, CountsRows, NoRows, FoundKeys, Wanted, AreKeysOf, EntryRows, rows_under, Rise, AreRun, IsWanted, StandTogether, TermsRise, last_view}
 use Rattle.std.specs.List.Sorted.{IsStrictlySortedBy}
 use Rattle.zeb_search.proofs.Comparisons.{never_after, never_before_itself}
 use Rattle.zeb_search.proofs.SearchCountLemmas.{counts_then, list_counts}
-use Rattle.zeb_search.proofs.ReadLemmas.{IsRead, clean_before, still_store, still_trees}
 use Rattle.zeb_search.proofs.RisingTexts.{before_last_text, front_rise}
 
 -- ---- a walk over terms
@@ -151,26 +150,11 @@ module _ (format : Format) (of : RegisterOf) (keys : List Key) (many : 2 ≤ len
 counts_so : (k l m n : ℕ) (a b : Work) → k ≡ l → m ≡ n → CountsAtMost k m a b → CountsAtMost l n a b
 counts_so k l m n a b one two = subst₂ (λ x y. CountsAtMost x y a b) one two
 
--- the lists of keys that are read one by one, whatever else is given
-pub each_counted : (format : Format) (rows : List Posting → ℕ) (db : ℤ) (Given : Content → Type 0) (keys : List Key) (s0 s1 : State) (a b : Work)
-    → CountsByContent format NoRows (λ content n. n ≡ rows_under rows content db keys) s0 s1 a b
-    → OnStore s0 s1 (λ trees. (content : Content) → holds_in format trees content → Given content → CountsAtMost 0 (rows_under rows content db keys) a b)
-each_counted format rows db Given keys s0 s1 a b counted clean store content has given =
-    let x = counted clean store content has in
-    counts_so x.0 0 x.1 (rows_under rows content db keys) a b x.2 x.3 x.4
-
 -- keys, and then their lists
-pub found_counted : (format : Format) (D : Content → ℕ → Type 0) (rows : List Posting → ℕ) (of : RegisterOf) (P : List ℕ → Type 0) (found : FoundKeys) (s0 s1 s2 : State) (a b c : Work) → IsRead s0 s1 → Survives s1 s2 (λ _. ⊥)
-    → CountsByContent format D NoRows s0 s1 a b
-    → (HasCleanDisk s1 → IsStore s0 → (content : Content) → holds_in format s0.now.trees content → AreKeysOf (posted content of.db.0) of.index of.register P found.keys.items × AreFound content of found)
-    → OnStore s1 s2 (λ trees. (content : Content) → holds_in format trees content → AreFound content of found → CountsAtMost 0 (rows_under rows content of.db.0 found.keys.items) b c)
-    → CountsByContent format D (λ content. EntryRows rows content of.db.0 of.index of.register P) s0 s2 a c
-found_counted format D rows of P found s0 s1 s2 a b c read crash none are lists clean store content has =
-    let before = clean_before s1 s2 crash clean in
-    let x = none before store content has in
-    let known = are before store content has in
+pub found_counted : (D : ℕ → Type 0) (rows : List Posting → ℕ) (of : RegisterOf) (P : List ℕ → Type 0) (found : FoundKeys) (content : Content) (a b c : Work) → AreKeysOf (posted content of.db.0) of.index of.register P found.keys.items
+    → CountsRows D NoRows a b → CountsAtMost 0 (rows_under rows content of.db.0 found.keys.items) b c → CountsRows D (EntryRows rows content of.db.0 of.index of.register P) a c
+found_counted D rows of P found content a b c are x y =
     let n = rows_under rows content of.db.0 found.keys.items in
-    let y = lists clean (still_store s0 s1 read before store) content (subst (λ t. holds_in format t content) (sym (still_trees s0 s1 read before)) has) known.1 in
     let terms : x.0 + 0 ≡ x.0 = omega arith in
     let blocks : x.1 + n ≡ n = omega (arith, x.3) in
-    (x.0, n, x.2, (found.keys.items, known.0, refl), counts_so (x.0 + 0) x.0 (x.1 + n) n a c terms blocks (counts_then x.0 0 x.1 n a b c x.4 y))
+    (x.0, n, x.2, (found.keys.items, are, refl), counts_so (x.0 + 0) x.0 (x.1 + n) n a c terms blocks (counts_then x.0 0 x.1 n a b c x.4 y))

@@ -1,5 +1,5 @@
 -- The list of a key that is the only one.
-use Rattle.zeb_search.proofs.Cited.{◌≡◌, ◌∙◌, ◌∷◌, [], ℕ, ℤ, List, Result, Ok, Err, Vec, OnOk, arith, ap, get_or, length, refl, sym, Global, State, Key, TellsHeld, Content, Posting, Format, holds_in, Works, RegFault, Work, CountsByContent, NoRows, rows_under}
+use Rattle.zeb_search.proofs.Cited.{◌≡◌, ◌∙◌, ◌∷◌, [], ℕ, ℤ, List, Result, Ok, Err, Vec, OnOk, arith, ap, get_or, length, sym, Global, State, Key, TellsHeld, Content, Posting, Format, holds_in, Works, RegFault, Work, CountsAtMost, OnStore, rows_under, subst}
 use Rattle.zeb_search.proofs.SearchCountLemmas.{list_counts}
 
 pub one_alone : {X : Type 0} (keys : List X) (key : X) → length keys ≡ 1 → key ≡ get_or keys 0 key → keys ≡ key ∷ []
@@ -14,7 +14,7 @@ module _ (format : Format) (db : ℤ) (keys : List Key) (key : Key) (one : lengt
 
     pub one_counted : (old new : State) (result : Result (Vec Posting Global) RegFault) (before after : Work) → TellsHeld (holds_in format) old new result (λ content list. list.items ≡ content db key)
         → TellsHeld (holds_in format) old new result (λ _ list. Works 0 0 (rows list.items) 0 before after)
-        → OnOk result (CountsByContent format NoRows (λ content n. n ≡ rows_under rows content db keys) old new before after)
+        → OnOk result (OnStore old new (λ trees. (content : Content) → holds_in format trees content → CountsAtMost 0 (rows_under rows content db keys) before after))
     one_counted old new (Err why) before after told works = tt
     one_counted old new (Ok list) before after told works = λ clean store content has.
-        (0, rows list.items, refl, ap rows (told clean store content has) ∙ rows_of_one content, list_counts (rows list.items) before after (works clean store content has))
+        subst (λ n. CountsAtMost 0 n before after) (ap rows (told clean store content has) ∙ rows_of_one content) (list_counts (rows list.items) before after (works clean store content has))

@@ -56,10 +56,6 @@ pub accepted : {A E : Type 0} (a b : State) (r : Result A E) → IsRead a b → 
 accepted a b (Ok x) read = record { idle = read.idle; ok = read.untouched; same = read.same; crash = read.crash }
 accepted a b (Err e) read = record { idle = read.idle; ok = λ _. tt; same = read.same; crash = read.crash }
 
--- the last of them is accepted too
-pub accepted_then : {A B E F : Type 0} (a b c : State) (x : A) (r : Result B F) → IsRead a b → Reading {E = E} b c (Ok x) (λ _. IsUntouched) → Reading a c r (λ _. IsUntouched)
-accepted_then a b c x r read last = accepted a c r (read_then a b c read (as_read b c x last))
-
 -- the last of them is refused
 pub refused : {A B E F : Type 0} (a b c : State) (P : A → State → State → Type 0) (e : E) (f : F) (r : Result B F) → r ≡ Err f → IsRead a b → Reading b c (Err e) P → Reading a c r (λ _. IsUntouched)
 refused {B = B} {F = F} a b c P e f r is read last =

@@ -1,6 +1,5 @@
 -- What calls count, one after the other.
-use Rattle.zeb_search.proofs.Cited.{◌≡◌, ◌+◌, ◌*◌, ◌≤◌, ℕ, ℤ, Result, Ok, Err, Vec, IfOk, OnOk, arith, inl, length, refl, sym, subst, Global, State, HasCleanDisk, Survives, Register, TermCount, Work, Content, posted, Format, holds_in, AreTermsOf, IsStore, Rises, Works, CountsByContent, CountsAtMost, NoRows, RegisterDict}
-use Rattle.zeb_search.proofs.ReadLemmas.{IsRead, clean_before, still_store, still_trees}
+use Rattle.zeb_search.proofs.Cited.{◌≡◌, ◌+◌, ◌*◌, ◌≤◌, ℕ, ℤ, Result, Ok, Err, Vec, IfOk, OnOk, arith, inl, length, refl, Global, State, HasCleanDisk, Register, TermCount, Work, Content, posted, Format, holds_in, AreTermsOf, IsStore, OnStore, Rises, Works, CountsAtMost, CountsRows, NoRows, RegisterDict}
 
 same_count : (a b : ℕ) → b ≡ a → Rises 0 a b
 same_count a b is = inl (omega (arith, is))
@@ -50,53 +49,34 @@ terms_count terms a b works = record {
   blocks = at_most 0 a.block_read b.block_read works.reads_blocks;
 }
 
--- ---- calls one after the other
+-- ---- by bounds that are told
 
-module _ (format : Format) where
-  pub counted_then : (D E T F G H : Content → ℕ → Type 0) (s0 s1 s2 : State) (a b c : Work) → ((content : Content) (m n : ℕ) → D content m → E content n → T content (m + n))
-      → ((content : Content) (m n : ℕ) → F content m → G content n → H content (m + n))
-      → IsRead s0 s1 → Survives s1 s2 (λ _. ⊥) → CountsByContent format D F s0 s1 a b → CountsByContent format E G s1 s2 b c → CountsByContent format T H s0 s2 a c
-  counted_then D E T F G H s0 s1 s2 a b c joins_terms joins read crash one two clean store content has =
-      let before = clean_before s1 s2 crash clean in
-      let x = one before store content has in
-      let y = two clean (still_store s0 s1 read before store) content (subst (λ t. holds_in format t content) (sym (still_trees s0 s1 read before)) has) in
-      (x.0 + y.0, x.1 + y.1, joins_terms content x.0 y.0 x.2 y.2, joins content x.1 y.1 x.3 y.3, counts_then x.0 y.0 x.1 y.1 a b c x.4 y.4)
+-- one call, and then another
+pub rows_then : (D E T F G H : ℕ → Type 0) (a b c : Work) → ((m n : ℕ) → D m → E n → T (m + n)) → ((m n : ℕ) → F m → G n → H (m + n)) → CountsRows D F a b → CountsRows E G b c → CountsRows T H a c
+rows_then D E T F G H a b c joins_terms joins x y = (x.0 + y.0, x.1 + y.1, joins_terms x.0 y.0 x.2 y.2, joins x.1 y.1 x.3 y.3, counts_then x.0 y.0 x.1 y.1 a b c x.4 y.4)
 
-  -- the same calls as other definitions say it
-  pub counted_for : (D E F G : Content → ℕ → Type 0) (s0 s1 : State) (a b : Work) → ((content : Content) (n : ℕ) → D content n → E content n) → ((content : Content) (n : ℕ) → F content n → G content n)
-      → CountsByContent format D F s0 s1 a b → CountsByContent format E G s0 s1 a b
-  counted_for D E F G s0 s1 a b told_terms told counted clean store content has =
-      let x = counted clean store content has in
-      (x.0, x.1, told_terms content x.0 x.2, told content x.1 x.3, x.4)
+-- the same rows as another definition says it
+pub rows_for : (D E F : ℕ → Type 0) (a b : Work) → ((n : ℕ) → D n → E n) → CountsRows D F a b → CountsRows E F a b
+rows_for D E F a b told x = (x.0, x.1, told x.0 x.2, x.3, x.4)
 
-  -- no more rows of `dict` than so many
-  pub counted_within : (D E F : Content → ℕ → Type 0) (s0 s1 : State) (a b : Work)
-      → (HasCleanDisk s1 → IsStore s0 → (content : Content) → holds_in format s0.now.trees content → (n : ℕ) → D content n → (most : ℕ) × (n ≤ most) × E content most)
-      → CountsByContent format D F s0 s1 a b → CountsByContent format E F s0 s1 a b
-  counted_within D E F s0 s1 a b within counted clean store content has =
-      let x = counted clean store content has in
-      let y = within clean store content has x.0 x.2 in
-      (y.0, x.1, y.2, x.3, counts_within x.0 y.0 x.1 a b y.1 x.4)
+-- no more rows of `dict` than so many
+pub rows_within : (D E F : ℕ → Type 0) (a b : Work) → ((n : ℕ) → D n → (most : ℕ) × (n ≤ most) × E most) → CountsRows D F a b → CountsRows E F a b
+rows_within D E F a b within x = let y = within x.0 x.2 in (y.0, x.1, y.2, x.3, counts_within x.0 y.0 x.1 a b y.1 x.4)
 
-  -- nothing is read yet
-  pub counted_still : (D F : Content → ℕ → Type 0) (s : State) (w : Work) → ((content : Content) → D content 0) → ((content : Content) → F content 0) → CountsByContent format D F s s w w
-  counted_still D F s w no_terms none clean store content has = (0, 0, no_terms content, none content, counts_still w)
+-- nothing is read
+pub rows_still : (D F : ℕ → Type 0) (w : Work) → D 0 → F 0 → CountsRows D F w w
+rows_still D F w no_terms none = (0, 0, no_terms, none, counts_still w)
 
--- a call that counts nothing
-pub idle_counted : {T E : Type 0} (r : Result T E) (format : Format) (D F : Content → ℕ → Type 0) (s0 s1 : State) (w : Work) → ((content : Content) → D content 0) → ((content : Content) → F content 0)
-    → OnOk r (CountsByContent format D F s0 s1 w w)
-idle_counted (Ok x) format D F s0 s1 w no_terms none = λ clean store content has. (0, 0, no_terms content, none content, counts_still w)
-idle_counted (Err e) format D F s0 s1 w no_terms none = tt
-
--- two calls that read no list
-pub no_rows_then : (content : Content) (m n : ℕ) → NoRows content m → NoRows content n → NoRows content (m + n)
-no_rows_then content m n one two = omega (arith, one, two)
+-- whatever is answered
+pub always_counted : {A E : Type 0} (r : Result A E) {Counted : Type 0} → Counted → OnOk r Counted
+always_counted (Ok x) counted = counted
+always_counted (Err e) counted = tt
 
 -- all terms of a register
 pub if_ok_counted : {E : Type 0} (r : Result (Vec TermCount Global) E) (format : Format) (row_work : ℕ) (db : ℤ) (index : ℕ) (register : Register) (s0 s1 : State) (a b : Work)
     → (HasCleanDisk s1 → IsStore s0 → IfOk r (λ list. (content : Content) → holds_in format s0.now.trees content → AreTermsOf (posted content db) index register list.items))
     → IfOk r (λ list. Works (row_work * length list.items) 0 0 0 a b)
-    → OnOk r (CountsByContent format (λ content. RegisterDict row_work content db index register) NoRows s0 s1 a b)
+    → OnOk r (OnStore s0 s1 (λ trees. (content : Content) → holds_in format trees content → CountsRows (RegisterDict row_work content db index register) NoRows a b))
 if_ok_counted (Ok x) format row_work db index register s0 s1 a b are told =
     λ clean store content has. (row_work * length x.items, 0, (x.items, are clean store content has, refl), refl, terms_count (row_work * length x.items) a b told)
 if_ok_counted (Err e) format row_work db index register s0 s1 a b are told = tt

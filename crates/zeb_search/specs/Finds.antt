@@ -1,8 +1,6 @@
 -- What a search answers and when it is refused, whatever rows the tables have: step by step, by the units and the counts of the entries
 -- that a step asks for. Where the tables hold a content, this is what `Holds` says of its postings.
-use Rattle.std.specs.Prelude.{◌≡◌, ◌≢◌, ◌⊎◌, ◌+◌, ◌≤◌, ℕ, ℤ, Bool, true, pos, List, [], ◌∷◌, Result, Vec}
-use Rattle.std.specs.declared.alloc.Global.{Global}
-use Rattle.sqlite.specs.State.{State}
+use Rattle.std.specs.Prelude.{◌≡◌, ◌≢◌, ◌⊎◌, ◌+◌, ◌≤◌, ℕ, ℤ, Bool, true, pos, List, [], ◌∷◌}
 use Rattle.sqlite.specs.Tree.{Trees}
 use Rattle.sqlite_rules.specs.Lists.{Has}
 use Rattle.zeb_text.specs.Symbols.{Symbol}
@@ -11,9 +9,7 @@ use Rattle.zeb_keys.specs.declared.Register.TheVariants as register
 use Rattle.zeb_keys.specs.declared.keys.Key.{Key}
 use Rattle.zeb_query.specs.Plans.{PlanValue, TermOf, PairOf, NearOf, TermPlanValue, RecordNumberOf, NoWordsOf, AlwaysOf, NumberOf, OrderedOf, CompleteOf, PhraseOf, AllWordsOf, AnyWordOf}
 use Rattle.zeb_query.specs.declared.plans.Separation.{Separation}
-use Rattle.zeb_register.specs.declared.faults.RegFault.{RegFault}
 use Rattle.zeb_register.specs.declared.registers.Place.{Place}
-use Rattle.zeb_register.specs.Answers.{TellsOr}
 use Rattle.zeb_register.specs.Between.{IsBetween}
 use Rattle.zeb_register.specs.Content.{Posting}
 use Rattle.zeb_register.specs.Formats.{Format}
@@ -175,10 +171,3 @@ module _ (format : Format) (trees : Trees) (db : ℤ) where
   PlanHides (TermOf plan) = TermHides plan
   PlanHides (PairOf operator left right) = PlanHides left ⊎ PlanHides right
   PlanHides (NearOf index left right separation) = HidesWords index (left ∷ right ∷ [])
-
--- ---- a call that reads finds such numbers, or is refused
-
--- a call finds what a plan does on the tables of a store, or is refused, as damage only where a row or a count that the plan may read is malformed,
--- or the identifier of a record that it asks for by number isn't UTF-8
-abbrev pub FindsPlan : Format → ℤ → PlanValue → State → State → Result (Vec ℕ Global) RegFault → Type 0
-FindsPlan format db plan = TellsOr (λ trees. PlanHides format trees db plan) (λ (trees : Trees) (hits : Vec ℕ Global). PlanFinds format trees db plan hits.items)

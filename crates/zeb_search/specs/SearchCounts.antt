@@ -1,16 +1,12 @@
 -- What a search counts of the rows of the packed tables.
 use Rattle.std.specs.Prelude.{◌≡◌, ◌+◌, ◌<◌, ◌≤◌, ◌^◌, ℕ, List}
 use Rattle.std.specs.List.{Contains}
-use Rattle.sqlite.specs.State.{State, HasCleanDisk}
 use Rattle.sqlite_rules.specs.Lists.{Has}
 use Rattle.zeb_text.specs.Symbols.{Symbol, Star}
 use Rattle.zeb_query.specs.declared.plans.Relation.{Relation}
 use Rattle.zeb_query.specs.declared.plans.Relation.TheVariants as relation
 use Rattle.zeb_query.specs.Plans.{PlanValue, TermOf, PairOf, NearOf, TermPlanValue, RecordNumberOf, NoWordsOf, AlwaysOf, NumberOf, OrderedOf, CompleteOf, PhraseOf, AllWordsOf, AnyWordOf}
 use Rattle.zeb_register.specs.declared.registers.Work.{Work}
-use Rattle.zeb_register.specs.Content.{Content}
-use Rattle.zeb_register.specs.Formats.{Format, holds_in}
-use Rattle.zeb_register.specs.Store.{IsStore}
 use Rattle.zeb_register.specs.Tallies.{Rises}
 
 -- ---- plans that name each entry that they ask for
@@ -54,9 +50,7 @@ pub record CountsAtMost (most_terms most_blocks : ℕ) (old new : Work) : Type 0
   pub terms : new.dict_read ≤ old.dict_read + most_terms
   pub blocks : new.block_read ≤ old.block_read + most_blocks
 
--- The same of a call, where the disk is clean and the tables of a store hold a content. `Terms` says how many rows of `dict` the terms have
--- that it goes through, `Rows` how many rows of `blocks` its lists have.
-abbrev pub CountsByContent : Format → (Terms Rows : Content → ℕ → Type 0) → (old new : State) → (before after : Work) → Type 0
-CountsByContent format Terms Rows old new before after =
-    HasCleanDisk new → IsStore old → (content : Content) → holds_in format old.now.trees content
-    → (most_terms : ℕ) × (most_blocks : ℕ) × Terms content most_terms × Rows content most_blocks × CountsAtMost most_terms most_blocks before after
+-- The same by bounds that are told: `Terms` says how many rows of `dict` the terms have that are gone through, `Rows` how many rows of `blocks` the
+-- lists have.
+abbrev pub CountsRows : (Terms Rows : ℕ → Type 0) → (before after : Work) → Type 0
+CountsRows Terms Rows before after = (most_terms : ℕ) × (most_blocks : ℕ) × Terms most_terms × Rows most_blocks × CountsAtMost most_terms most_blocks before after

@@ -1,14 +1,9 @@
 //! The keys of a register's terms that a step of a search asks for.
 
-ghost use Rattle.std.specs.Prelude.{◌≡◌, IfOk, IsTrue, OnOk};
+ghost use Rattle.std.specs.Prelude.{IfOk, IsTrue};
 ghost use Rattle.sqlite.specs.Held.{state};
-ghost use Rattle.zeb_register.specs.Connections.{ReadingOf};
-ghost use Rattle.zeb_search.specs.SearchCounts.{CountsByContent};
-ghost use Rattle.zeb_search.specs.PrivateSearchCounts.{NoRows};
-ghost use Rattle.zeb_search.specs.DictRows.{EntryDict, RegisterDict};
-ghost use Rattle.zeb_search.specs.PrivateTerms.{AreTaken, LeadsTo, NamesEntry, StandTogether, TermsRise};
-ghost use Rattle.zeb_search.specs.Untouched.{IsUntouched};
-ghost use Rattle.zeb_search.specs.PrivateFinds.{FindsKeys, MeetsTerms};
+ghost use Rattle.zeb_search.specs.PrivateTerms.{AreTaken, LeadsTo, StandTogether, TermsRise};
+ghost use Rattle.zeb_search.specs.PrivateSearching.{SearchesKeys, SearchesTerms};
 
 use crate::terms::Wanted;
 use sqlite::{Alter, Connection};
@@ -101,13 +96,8 @@ fn terms_wanted<S: Alter, L: Layout>(
     of: RegisterOf,
     wanted: Wanted<'_>,
 ) -> Result<Vec<TermCount>, RegFault>
-    ensures call { ReadingOf S.Store connection.old connection.new result (λ _. IsUntouched) }
-    ensures units { MeetsTerms L.format of wanted.entry
-        (state S.Store connection.old) (state S.Store connection.new) result }
-    ensures work { OnOk result (CountsByContent L.format
-        (λ content. RegisterDict L.row_work content of.db.0 of.index of.register) NoRows
-        (state S.Store connection.old) (state S.Store connection.new) work.old work.new) }
-    ensures no_work { L.row_work ≡ 0 → work.new ≡ work.old }
+    ensures { SearchesTerms L.format L.row_work of wanted.entry
+        (state S.Store connection.old) (state S.Store connection.new) work.old work.new result }
 {
     if wanted.spans_register() {
         return L::terms_of(alloc, connection, work, of);
@@ -138,14 +128,8 @@ pub(crate) fn keys_wanted<S: Alter, L: Layout>(
     of: RegisterOf,
     wanted: Wanted<'_>,
 ) -> Result<FoundKeys, RegFault>
-    ensures call { ReadingOf S.Store connection.old connection.new result (λ _. IsUntouched) }
-    ensures units { FindsKeys L.format of wanted.entry
-        (state S.Store connection.old) (state S.Store connection.new) result }
-    ensures work { OnOk result (CountsByContent L.format
-        (λ content. EntryDict L.row_work content of.db.0 (NamesEntry wanted.entry) of.index
-        of.register) NoRows
-        (state S.Store connection.old) (state S.Store connection.new) work.old work.new) }
-    ensures no_work { L.row_work ≡ 0 → work.new ≡ work.old }
+    ensures { SearchesKeys L.format L.row_work of wanted.entry
+        (state S.Store connection.old) (state S.Store connection.new) work.old work.new result }
 {
     if let Some(term) = wanted.only_text(alloc)? {
         let mut keys = Vec::new(alloc);

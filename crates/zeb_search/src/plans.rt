@@ -1,17 +1,13 @@
 //! The records on which a plan holds.
 
-ghost use Rattle.std.specs.Prelude.{◌≡◌, ◌<◌, ◌^◌, ℕ, ℤ, [], ◌∷◌, OnOk};
+ghost use Rattle.std.specs.Prelude.{◌≡◌, ◌<◌, ◌^◌, ℕ, ℤ};
 ghost use Rattle.sqlite.specs.Held.{state};
 ghost use Rattle.zeb_query.specs.Plans.{HasSmallNumber, HasSmallNumbers, NearOf, PlanValue, plan_value, term_plan_value};
-ghost use Rattle.zeb_register.specs.Connections.{ReadingOf};
 ghost use Rattle.zeb_register.specs.Content.{Content};
-ghost use Rattle.zeb_search.specs.SearchCounts.{CountsByContent, NamesEntries};
-ghost use Rattle.zeb_search.specs.DictRows.{PlanDict, TermDict};
-ghost use Rattle.zeb_search.specs.ListRows.{PlanRows, TermRows};
-ghost use Rattle.zeb_search.specs.PrivateWordCounts.{CountedWords};
-ghost use Rattle.zeb_search.specs.Untouched.{IsUntouched};
-ghost use Rattle.zeb_search.specs.PrivateFinds.{FindsRecord, FindsTerm};
-ghost use Rattle.zeb_search.specs.Finds.{FindsPlan};
+ghost use Rattle.zeb_search.specs.SearchCounts.{NamesEntries};
+ghost use Rattle.zeb_search.specs.DictRows.{PlanDict};
+ghost use Rattle.zeb_search.specs.PrivateSearching.{LooksForRecord, SearchesTerm};
+ghost use Rattle.zeb_search.specs.Searching.{SearchesPlan};
 
 use crate::distances::near;
 use crate::lists::joined;
@@ -40,14 +36,8 @@ pub fn hits<S: Alter, L: Layout>(
     plan: &Plan,
 ) -> Result<Vec<u64>, RegFault>
     requires { HasSmallNumbers (plan_value plan.now) }
-    ensures call { ReadingOf S.Store connection.old connection.new result (λ _. IsUntouched) }
-    ensures units { FindsPlan L.format database.0 (plan_value plan.now)
-        (state S.Store connection.old) (state S.Store connection.new) result }
-    ensures work { OnOk result (CountsByContent L.format
-        (λ content. PlanDict L.row_work content database.0 (plan_value plan.now))
-        (λ content. PlanRows L.block_rows content database.0 (plan_value plan.now))
-        (state S.Store connection.old) (state S.Store connection.new) work.old work.new) }
-    ensures no_work { L.row_work ≡ 0 → work.new ≡ work.old }
+    ensures { SearchesPlan L.format L.row_work L.block_rows database.0 (plan_value plan.now)
+        (state S.Store connection.old) (state S.Store connection.new) work.old work.new result }
 {
     match plan {
         Plan::Term(term) => term_hits::<S, L>(alloc, connection, work, database, term),
@@ -69,14 +59,8 @@ fn term_hits<S: Alter, L: Layout>(
     term: &TermPlan,
 ) -> Result<Vec<u64>, RegFault>
     requires { HasSmallNumber (term_plan_value term.now) }
-    ensures call { ReadingOf S.Store connection.old connection.new result (λ _. IsUntouched) }
-    ensures units { FindsTerm L.format db.0 (term_plan_value term.now)
-        (state S.Store connection.old) (state S.Store connection.new) result }
-    ensures work { OnOk result (CountsByContent L.format
-        (λ content. TermDict L.row_work content db.0 (term_plan_value term.now))
-        (λ content. TermRows L.block_rows content db.0 (term_plan_value term.now))
-        (state S.Store connection.old) (state S.Store connection.new) work.old work.new) }
-    ensures no_work { L.row_work ≡ 0 → work.new ≡ work.old }
+    ensures { SearchesTerm L.format L.row_work L.block_rows db.0 (term_plan_value term.now)
+        (state S.Store connection.old) (state S.Store connection.new) work.old work.new result }
 {
     match term {
         TermPlan::RecordNumber(number) => record_hits(alloc, connection, db, *number as u64),
@@ -132,9 +116,8 @@ fn record_hits<S: Alter>(
     number: u64,
 ) -> Result<Vec<u64>, RegFault>
     requires { number < 10 ^ 9 }
-    ensures call { ReadingOf S.Store connection.old connection.new result (λ _. IsUntouched) }
-    ensures units { FindsRecord database.0 number
-        (state S.Store connection.old) (state S.Store connection.new) result }
+    ensures { LooksForRecord database.0 number (state S.Store connection.old)
+        (state S.Store connection.new) result }
 {
     let Some(_ident) = ident_of(connection, database, number)? else {
         return Ok(Vec::new(alloc));
@@ -151,15 +134,9 @@ fn near_hits<S: Alter, L: Layout>(
     plan: &NearPlan,
 ) -> Result<Vec<u64>, RegFault>
     requires { plan.now.separation.distance < 10 ^ 9 }
-    ensures call { ReadingOf S.Store connection.old connection.new result (λ _. IsUntouched) }
-    ensures units { FindsPlan L.format database.0
+    ensures { SearchesPlan L.format L.row_work L.block_rows database.0
         (NearOf plan.now.index plan.now.left plan.now.right plan.now.separation)
-        (state S.Store connection.old) (state S.Store connection.new) result }
-    ensures work { OnOk result (CountedWords L.format L.row_work L.block_rows database.0
-        plan.now.index
-        (plan.now.left ∷ plan.now.right ∷ []) (state S.Store connection.old)
-        (state S.Store connection.new) work.old work.new) }
-    ensures no_work { L.row_work ≡ 0 → work.new ≡ work.old }
+        (state S.Store connection.old) (state S.Store connection.new) work.old work.new result }
 {
     let of = IndexOf {
         db: database,

@@ -1,17 +1,9 @@
 //! The postings of several keys.
 
-ghost use Rattle.std.specs.Prelude.{◌≡◌, ◌≤◌, ◌+◌, ◌++◌, IsTrue, OnOk, length};
+ghost use Rattle.std.specs.Prelude.{◌≡◌, ◌≤◌, ◌+◌, ◌++◌, IsTrue, length};
 ghost use Rattle.sqlite.specs.Held.{state};
-ghost use Rattle.zeb_register.specs.Connections.{OnStoreOf, ReadingOf};
-ghost use Rattle.zeb_register.specs.Content.{Content};
-ghost use Rattle.zeb_register.specs.Formats.{holds_in};
-ghost use Rattle.zeb_search.specs.SearchCounts.{CountsByContent, CountsAtMost};
-ghost use Rattle.zeb_search.specs.DictRows.{EntryDict};
-ghost use Rattle.zeb_search.specs.ListRows.{EntryRows, rows_under};
-ghost use Rattle.zeb_search.specs.PrivateWordCounts.{CountedMatches};
-ghost use Rattle.zeb_search.specs.PrivateTerms.{AreFound, AreRun, IsWanted, NamesEntry};
-ghost use Rattle.zeb_search.specs.Untouched.{IsUntouched};
-ghost use Rattle.zeb_search.specs.PrivateFinds.{FindsEntry, FindsRuns, ReadsPlaces, ReadsRun};
+ghost use Rattle.zeb_search.specs.PrivateTerms.{IsWanted, NamesEntry};
+ghost use Rattle.zeb_search.specs.PrivateSearching.{SearchesEntry, SearchesFound, SearchesPlaces, SearchesRun};
 
 use crate::keys::{FoundKeys, keys_wanted};
 use crate::lists::{numbers_among, postings_in_order, postings_joined};
@@ -57,13 +49,8 @@ fn list_of_run<S: Alter, L: Layout>(
     run: &[Key],
 ) -> Result<Vec<Posting>, RegFault>
     requires { 1 ≤ length run.now }
-    ensures call { ReadingOf S.Store connection.old connection.new result (λ _. IsUntouched) }
-    ensures units { ReadsRun L.format of run.now
-        (state S.Store connection.old) (state S.Store connection.new) result }
-    ensures work { OnOk result (OnStoreOf S.Store connection.old connection.new
-        (λ trees. (content : Content) → holds_in L.format trees content → AreRun content of run.now
-        → CountsAtMost 0 (rows_under L.block_rows content of.db.0 run.now) work.old work.new)) }
-    ensures no_work { L.row_work ≡ 0 → work.new ≡ work.old }
+    ensures { SearchesRun L.format L.row_work L.block_rows of run.now
+        (state S.Store connection.old) (state S.Store connection.new) work.old work.new result }
 {
     if run.len() == 1 {
         return L::key_list(alloc, connection, work, of.db, &run[0]);
@@ -88,14 +75,8 @@ fn list_found<S: Alter, L: Layout>(
     of: RegisterOf,
     found: &FoundKeys,
 ) -> Result<Vec<Posting>, RegFault>
-    ensures call { ReadingOf S.Store connection.old connection.new result (λ _. IsUntouched) }
-    ensures units { FindsRuns L.format of found.now
-        (state S.Store connection.old) (state S.Store connection.new) result }
-    ensures work { OnOk result (OnStoreOf S.Store connection.old connection.new
-        (λ trees. (content : Content) → holds_in L.format trees content
-        → AreFound content of found.now → CountsAtMost 0
-        (rows_under L.block_rows content of.db.0 found.now.keys.items) work.old work.new)) }
-    ensures no_work { L.row_work ≡ 0 → work.new ≡ work.old }
+    ensures { SearchesFound L.format L.row_work L.block_rows of found.now
+        (state S.Store connection.old) (state S.Store connection.new) work.old work.new result }
 {
     let most = run_of(found);
     let mut postings = Vec::new(alloc);
@@ -117,17 +98,9 @@ pub(crate) fn numbers_wanted<S: Alter, L: Layout>(
     of: RegisterOf,
     wanted: Wanted<'_>,
 ) -> Result<Vec<u64>, RegFault>
-    ensures call { ReadingOf S.Store connection.old connection.new result (λ _. IsUntouched) }
-    ensures units { FindsEntry L.format of.db.0 (NamesEntry wanted.entry) of.index of.register
-        (IsWanted wanted.entry)
-        (state S.Store connection.old) (state S.Store connection.new) result }
-    ensures work { OnOk result (CountsByContent L.format
-        (λ content. EntryDict L.row_work content of.db.0 (NamesEntry wanted.entry) of.index
-        of.register)
-        (λ content. EntryRows L.block_rows content of.db.0 of.index of.register
-        (IsWanted wanted.entry))
-        (state S.Store connection.old) (state S.Store connection.new) work.old work.new) }
-    ensures no_work { L.row_work ≡ 0 → work.new ≡ work.old }
+    ensures { SearchesEntry L.format L.row_work L.block_rows of.db.0 (NamesEntry wanted.entry)
+        of.index of.register (IsWanted wanted.entry)
+        (state S.Store connection.old) (state S.Store connection.new) work.old work.new result }
 {
     let found = keys_wanted::<S, L>(alloc, connection, work, of, wanted)?;
     let list = list_found::<S, L>(alloc, connection, work, of, &found)?;
@@ -142,13 +115,8 @@ pub(crate) fn places_of_words<S: Alter, L: Layout>(
     of: IndexOf,
     pattern: &Pattern,
 ) -> Result<Vec<Posting>, RegFault>
-    ensures call { ReadingOf S.Store connection.old connection.new result (λ _. IsUntouched) }
-    ensures units { ReadsPlaces L.format of.db.0 of.index pattern.now
-        (state S.Store connection.old) (state S.Store connection.new) result }
-    ensures work { OnOk result (CountedMatches L.format L.row_work L.block_rows of.db.0 of.index
-        pattern.now
-        (state S.Store connection.old) (state S.Store connection.new) work.old work.new) }
-    ensures no_work { L.row_work ≡ 0 → work.new ≡ work.old }
+    ensures { SearchesPlaces L.format L.row_work L.block_rows of.db.0 of.index pattern.now
+        (state S.Store connection.old) (state S.Store connection.new) work.old work.new result }
 {
     let words = RegisterOf {
         db: of.db,

@@ -1,14 +1,9 @@
 //! The records in which words match patterns.
 
-ghost use Rattle.std.specs.Prelude.{◌≡◌, ◌==◌, IfOk, filter, OnOk};
+ghost use Rattle.std.specs.Prelude.{◌≡◌, ◌==◌, IfOk, filter};
 ghost use Rattle.sqlite.specs.Held.{state};
 ghost use Rattle.zeb_query.specs.Plans.{AllWordsOf, AnyWordOf, PhraseOf};
-ghost use Rattle.zeb_register.specs.Connections.{ReadingOf};
-ghost use Rattle.zeb_search.specs.Holds.{Fits};
-ghost use Rattle.zeb_search.specs.PrivateWordCounts.{CountedMatches, CountedWords};
-ghost use Rattle.zeb_search.specs.SearchCounts.{HasNoStar};
-ghost use Rattle.zeb_search.specs.Untouched.{IsUntouched};
-ghost use Rattle.zeb_search.specs.PrivateFinds.{FindsEntry, FindsTerm, ReadsPhrases};
+ghost use Rattle.zeb_search.specs.PrivateSearching.{SearchesPhrases, SearchesTerm, SearchesWord};
 
 use crate::lists::{Words, joined, numbers_of, with_one_within};
 use crate::postings::{numbers_wanted, places_of_words};
@@ -29,14 +24,8 @@ fn word_hits<S: Alter, L: Layout>(
     of: IndexOf,
     pattern: &Pattern,
 ) -> Result<Vec<u64>, RegFault>
-    ensures call { ReadingOf S.Store connection.old connection.new result (λ _. IsUntouched) }
-    ensures units { FindsEntry L.format of.db.0 (HasNoStar pattern.now) of.index Register.Word
-        (Fits pattern.now)
-        (state S.Store connection.old) (state S.Store connection.new) result }
-    ensures work { OnOk result (CountedMatches L.format L.row_work L.block_rows of.db.0 of.index
-        pattern.now
-        (state S.Store connection.old) (state S.Store connection.new) work.old work.new) }
-    ensures no_work { L.row_work ≡ 0 → work.new ≡ work.old }
+    ensures { SearchesWord L.format L.row_work L.block_rows of.db.0 of.index pattern.now
+        (state S.Store connection.old) (state S.Store connection.new) work.old work.new result }
 {
     let words = of.register(Register::Word);
     numbers_wanted::<S, L>(alloc, connection, work, words, Wanted::Matching(pattern))
@@ -50,13 +39,9 @@ pub(crate) fn any_word_hits<S: Alter, L: Layout>(
     of: IndexOf,
     patterns: &[Pattern],
 ) -> Result<Vec<u64>, RegFault>
-    ensures call { ReadingOf S.Store connection.old connection.new result (λ _. IsUntouched) }
-    ensures units { FindsTerm L.format of.db.0 (AnyWordOf of.index patterns.now)
-        (state S.Store connection.old) (state S.Store connection.new) result }
-    ensures work { OnOk result (CountedWords L.format L.row_work L.block_rows of.db.0 of.index
-        patterns.now
-        (state S.Store connection.old) (state S.Store connection.new) work.old work.new) }
-    ensures no_work { L.row_work ≡ 0 → work.new ≡ work.old }
+    ensures { SearchesTerm L.format L.row_work L.block_rows of.db.0
+        (AnyWordOf of.index patterns.now)
+        (state S.Store connection.old) (state S.Store connection.new) work.old work.new result }
 {
     let mut hits = Vec::new(alloc);
     for pattern in patterns {
@@ -74,13 +59,9 @@ pub(crate) fn all_words_hits<S: Alter, L: Layout>(
     of: IndexOf,
     patterns: &[Pattern],
 ) -> Result<Vec<u64>, RegFault>
-    ensures call { ReadingOf S.Store connection.old connection.new result (λ _. IsUntouched) }
-    ensures units { FindsTerm L.format of.db.0 (AllWordsOf of.index patterns.now)
-        (state S.Store connection.old) (state S.Store connection.new) result }
-    ensures work { OnOk result (CountedWords L.format L.row_work L.block_rows of.db.0 of.index
-        patterns.now
-        (state S.Store connection.old) (state S.Store connection.new) work.old work.new) }
-    ensures no_work { L.row_work ≡ 0 → work.new ≡ work.old }
+    ensures { SearchesTerm L.format L.row_work L.block_rows of.db.0
+        (AllWordsOf of.index patterns.now)
+        (state S.Store connection.old) (state S.Store connection.new) work.old work.new result }
 {
     let Some((pattern, others)) = patterns.split_first() else {
         return Ok(Vec::new(alloc));
@@ -103,13 +84,9 @@ pub(crate) fn phrase_hits<S: Alter, L: Layout>(
     patterns: &[Pattern],
     first: bool,
 ) -> Result<Vec<u64>, RegFault>
-    ensures call { ReadingOf S.Store connection.old connection.new result (λ _. IsUntouched) }
-    ensures units { FindsTerm L.format of.db.0 (PhraseOf of.index patterns.now first)
-        (state S.Store connection.old) (state S.Store connection.new) result }
-    ensures work { OnOk result (CountedWords L.format L.row_work L.block_rows of.db.0 of.index
-        patterns.now
-        (state S.Store connection.old) (state S.Store connection.new) work.old work.new) }
-    ensures no_work { L.row_work ≡ 0 → work.new ≡ work.old }
+    ensures { SearchesTerm L.format L.row_work L.block_rows of.db.0
+        (PhraseOf of.index patterns.now first)
+        (state S.Store connection.old) (state S.Store connection.new) work.old work.new result }
 {
     // Of one word no place is asked for, unless it has to be a unit's first.
     if let ([pattern], false) = (patterns, first) {
@@ -143,13 +120,8 @@ fn places_of_phrase<S: Alter, L: Layout>(
     of: IndexOf,
     patterns: &[Pattern],
 ) -> Result<Vec<Posting>, RegFault>
-    ensures call { ReadingOf S.Store connection.old connection.new result (λ _. IsUntouched) }
-    ensures units { ReadsPhrases L.format of.db.0 of.index patterns.now
-        (state S.Store connection.old) (state S.Store connection.new) result }
-    ensures work { OnOk result (CountedWords L.format L.row_work L.block_rows of.db.0 of.index
-        patterns.now
-        (state S.Store connection.old) (state S.Store connection.new) work.old work.new) }
-    ensures no_work { L.row_work ≡ 0 → work.new ≡ work.old }
+    ensures { SearchesPhrases L.format L.row_work L.block_rows of.db.0 of.index patterns.now
+        (state S.Store connection.old) (state S.Store connection.new) work.old work.new result }
 {
     let Some((last, mut others)) = patterns.split_last() else {
         return Ok(Vec::new(alloc));

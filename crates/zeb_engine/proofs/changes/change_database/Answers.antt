@@ -4,6 +4,7 @@ use Rattle.zeb_change.specs.declared.refusals.Refusal.TheVariants.{Memory}
 use Rattle.zeb_engine.proofs.CommandedConnections.{commanded_then, reads_command}
 use Rattle.zeb_engine.proofs.CommandsDone.{unread_as}
 use Rattle.zeb_engine.proofs.Readers.{untouched}
+use Rattle.zeb_engine.proofs.ReadsInTurn.{asked_unread}
 use Rattle.zeb_engine.proofs.TransactedRows.{behind, looked}
 use Rattle.zeb_engine.proofs.changes.change_database.Goals as goal
 
@@ -17,7 +18,7 @@ pub returns-in_err-found-clause-transacts : goal.returns-in_err-found-clause-tra
 returns-in_err-found-clause-transacts g c =
     let refusal = c.in_err-found.field-0.0 in
     let told : c.from_residual.result ≡ Err refusal = search rules in
-    rw told (looked _ (state g.S.Store c.args.connection.now) (state g.S.Store c.found_for.new.connection) refusal c.found_for.ensures.reads.crash (λ clean store new. inl (c.in_err-found.ensures.finds clean store)))
+    rw told (looked _ (state g.S.Store c.args.connection.now) (state g.S.Store c.found_for.new.connection) refusal c.found_for.ensures.reads.crash (λ clean store new. inl (c.in_err-found.ensures.tables clean store)))
 
 pub returns-in_err-buffer-clause-transacts : goal.returns-in_err-buffer-clause-transacts
 returns-in_err-buffer-clause-transacts g c =
@@ -28,24 +29,27 @@ pub returns-clause-transacts : goal.returns-clause-transacts
 returns-clause-transacts g c =
     behind _ _ (state g.S.Store c.args.connection.now) (state g.S.Store c.found_for.new.connection) (state g.S.Store c.transact.new.connection) c.transact.result
     c.found_for.ensures.reads.crash c.found_for.ensures.reads.same c.in_ok-found.ensures.reads.opened
-    (λ clean store next told does. of_found _ _ _ _ c.in_ok-found.found _ next told (c.in_ok-found.ensures.finds clean store) does) c.transact.ensures.transacts
+    (λ clean store next told does. of_found _ _ _ _ c.in_ok-found.found _ next told (c.in_ok-found.ensures.tables clean store) does) c.transact.ensures.transacts
 
 -- ---- what it does to the connection
 
-pub returns-in_err-found-clause-call : goal.returns-in_err-found-clause-call
-returns-in_err-found-clause-call g c =
+pub returns-in_err-found-clause-commanded : goal.returns-in_err-found-clause-commanded
+returns-in_err-found-clause-commanded g c =
     let told : c.from_residual.result ≡ Err c.in_err-found.field-0.0 = search rules in
-    rw told (reads_command _ _ (Err c.in_err-found.field-0.0) (λ clean. tt) c.found_for.ensures.reads.same c.found_for.ensures.reads.crash)
+    rw told (record { idle = c.found_for.ensures.reads.idle; call = reads_command _ _ (Err c.in_err-found.field-0.0) (λ clean. tt) c.found_for.ensures.reads.same c.found_for.ensures.reads.crash })
 
-pub returns-in_err-buffer-clause-call : goal.returns-in_err-buffer-clause-call
-returns-in_err-buffer-clause-call g c =
+pub returns-in_err-buffer-clause-commanded : goal.returns-in_err-buffer-clause-commanded
+returns-in_err-buffer-clause-commanded g c =
     let told : c.from_residual-in_err-buffer.result ≡ Err Memory = search rules in
-    rw told (reads_command _ _ (Err Memory) (λ clean. tt) c.found_for.ensures.reads.same c.found_for.ensures.reads.crash)
+    rw told (record { idle = c.found_for.ensures.reads.idle; call = reads_command _ _ (Err Memory) (λ clean. tt) c.found_for.ensures.reads.same c.found_for.ensures.reads.crash })
 
-pub returns-clause-call : goal.returns-clause-call
-returns-clause-call g c =
-    commanded_then _ _ _ c.transact.result (λ clean. omega (arith, clean, c.transact.ensures.transacts.survives.clean))
-    c.found_for.ensures.reads.crash c.in_ok-found.ensures.reads.opened c.found_for.ensures.reads.same c.transact.ensures.call
+pub returns-clause-commanded : goal.returns-clause-commanded
+returns-clause-commanded g c =
+    record {
+      idle = c.transact.ensures.commanded.idle;
+      call = commanded_then _ _ _ c.transact.result (λ clean. omega (arith, clean, c.transact.ensures.transacts.survives.clean))
+          c.found_for.ensures.reads.crash c.in_ok-found.ensures.reads.opened c.found_for.ensures.reads.same c.transact.ensures.commanded.call;
+    }
 
 -- ---- readers that fail
 
@@ -53,7 +57,7 @@ pub returns-in_err-found-clause-faults : goal.returns-in_err-found-clause-faults
 returns-in_err-found-clause-faults g c =
     let refusal = c.in_err-found.field-0.0 in
     let told : c.from_residual.result ≡ Err refusal = search rules in
-    untouched g.R.Source.may_fail g.R.Source.has_failed c.args.readers.now refusal c.from_residual.result told (unread_as {A = Option Database} {T = Reply} refusal c.in_err-found.ensures.unread)
+    untouched g.R.Source.may_fail g.R.Source.has_failed c.args.readers.now refusal c.from_residual.result told (unread_as {A = Option Database} {T = Reply} refusal (asked_unread {T = Option Database} (Err refusal) c.in_err-found.ensures.few))
 
 pub returns-in_err-buffer-clause-faults : goal.returns-in_err-buffer-clause-faults
 returns-in_err-buffer-clause-faults g c =

@@ -13,10 +13,10 @@ returns g c =
     record {
       looks = record {
         settled = λ is_open. sym (c.is_autocommit-settled.ensures.settled idle is_open);
-        reads = record { idle = done.idle; same = λ clean. (done.look clean).same; opened = λ clean. (done.look clean).found; crash = done.crash; caused = λ clean. (done.look clean).caused };
-        texts = λ clean. texts_told version profile old result (done.look clean).told;
-        held = λ clean limits before keeps. look_held version profile limits old (state g.S.Store c.check_texts.new.connection) before keeps result (done.look clean);
+        reads = record { idle = done.looks.idle; same = λ clean. (done.looks.look clean).same; opened = λ clean. (done.looks.look clean).found; crash = done.looks.crash; caused = λ clean. (done.looks.look clean).caused };
+        texts = λ clean. texts_told version profile old result (done.looks.look clean).told;
+        held = λ clean limits before keeps. look_held version profile limits old (state g.S.Store c.check_texts.new.connection) before keeps result (done.looks.look clean);
         few = done.few;
-        whole = λ clean. texts_whole version profile old result (done.look clean).told (subst IsUtf8 c.version-version.ensures c.version-version.utf8) (subst IsUtf8 c.text-text.ensures c.text-text.utf8);
+        whole = λ clean. texts_whole version profile old result (done.looks.look clean).told (subst IsUtf8 c.version-version.ensures c.version-version.utf8) (subst IsUtf8 c.text-text.ensures c.text-text.utf8);
       };
     }

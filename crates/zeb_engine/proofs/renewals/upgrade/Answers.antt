@@ -25,9 +25,9 @@ returns-in_err-standing-clause-done g c limits =
     let begun = c.args.connection.now in
     let old = state g.S.Store begun in
     let mid = state g.S.Store c.check_layout.new.connection in
-    let quiet = c.check_layout.ensures.crash in
+    let quiet = c.check_layout.ensures.looks.crash in
     let why = c.in_err-standing.field-0.0 in
-    let look = c.in_err-standing.ensures.look in
+    let look = c.in_err-standing.ensures.looks.look in
     let told : c.from_residual.result ≡ Err why = search rules in
     rw told (upgrade_done g.S.Store g.L.Layout.format g.L.Layout.row_work g.L.Layout.block_rows k begun c.check_layout.new.connection (Err why) (reads_command old mid (Err why) (λ clean. tt) (λ clean. (look clean).same) quiet) (nothing_commits old mid _ quiet)
     (λ clean. layout_unserved k old mid why (look clean)) (λ clean. record {
@@ -44,8 +44,8 @@ returns-in-Upgraded-clause-done g c limits =
     let begun = c.args.connection.now in
     let old = state g.S.Store begun in
     let mid = state g.S.Store c.check_layout.new.connection in
-    let quiet = c.check_layout.ensures.crash in
-    let look = λ (clean : HasCleanDisk mid). subst (λ (s : Standing). IsLook (FindsStanding own profile) (RefusesUpgrade own profile) old mid (Ok s)) c.in-Upgraded.is (c.in_ok-standing.ensures.look clean) in
+    let quiet = c.check_layout.ensures.looks.crash in
+    let look = λ (clean : HasCleanDisk mid). subst (λ (s : Standing). IsLook (FindsStanding own profile) (RefusesUpgrade own profile) old mid (Ok s)) c.in-Upgraded.is (c.in_ok-standing.ensures.looks.look clean) in
     upgrade_done g.S.Store g.L.Layout.format g.L.Layout.row_work g.L.Layout.block_rows k begun c.check_layout.new.connection (Ok Done) (reads_command old mid (Ok Done) (λ clean. (look clean).found) (λ clean. (look clean).same) quiet) (nothing_commits old mid _ quiet)
     (λ clean. own_serves k old mid (look clean)) (λ clean. record {
       told = λ store. inr (inl ((look clean).told store, refl));
@@ -63,12 +63,12 @@ returns-in_err-is_earlier_image-in-Before-clause-done g c limits =
     let begun = c.args.connection.now in
     let old = state g.S.Store begun in
     let mid = state g.S.Store c.check_layout.new.connection in
-    let quiet = c.check_layout.ensures.crash in
+    let quiet = c.check_layout.ensures.looks.crash in
     let late = state g.S.Store c.is_earlier_image.new.connection in
     let image = c.in_err-is_earlier_image-in-Before.ensures in
     let first = clean_before mid late image.call.crash in
-    let look = λ (clean : HasCleanDisk late). subst (λ (s : Standing). IsLook (FindsStanding own profile) (RefusesUpgrade own profile) old mid (Ok s)) c.in-Before.is (c.in_ok-standing.ensures.look (first clean)) in
-    let same = λ (clean : HasCleanDisk late). nothing_then old mid late (look clean).same (image.call.same clean c.check_layout.ensures.idle) in
+    let look = λ (clean : HasCleanDisk late). subst (λ (s : Standing). IsLook (FindsStanding own profile) (RefusesUpgrade own profile) old mid (Ok s)) c.in-Before.is (c.in_ok-standing.ensures.looks.look (first clean)) in
+    let same = λ (clean : HasCleanDisk late). nothing_then old mid late (look clean).same (image.call.same clean c.check_layout.ensures.looks.idle) in
     let fault = c.in_err-is_earlier_image-in-Before.field-0.0 in
     let answer : Result Reply Refusal = Err (register_refusal fault) in
     let told : c.from_residual-in_err-is_earlier_image-in-Before.result ≡ answer = search rules in
@@ -89,12 +89,12 @@ returns-then-branch-clause-done g c limits =
     let begun = c.args.connection.now in
     let old = state g.S.Store begun in
     let mid = state g.S.Store c.check_layout.new.connection in
-    let quiet = c.check_layout.ensures.crash in
+    let quiet = c.check_layout.ensures.looks.crash in
     let late = state g.S.Store c.is_earlier_image.new.connection in
     let image = c.in_ok-is_earlier_image-in-Before.ensures in
     let first = clean_before mid late image.call.crash in
-    let look = λ (clean : HasCleanDisk late). subst (λ (s : Standing). IsLook (FindsStanding own profile) (RefusesUpgrade own profile) old mid (Ok s)) c.in-Before.is (c.in_ok-standing.ensures.look (first clean)) in
-    let same = λ (clean : HasCleanDisk late). nothing_then old mid late (look clean).same (image.call.same clean c.check_layout.ensures.idle) in
+    let look = λ (clean : HasCleanDisk late). subst (λ (s : Standing). IsLook (FindsStanding own profile) (RefusesUpgrade own profile) old mid (Ok s)) c.in-Before.is (c.in_ok-standing.ensures.looks.look (first clean)) in
+    let same = λ (clean : HasCleanDisk late). nothing_then old mid late (look clean).same (image.call.same clean c.check_layout.ensures.looks.idle) in
     let end = c.transact.new.connection in
     let new = state g.S.Store end in
     let answer = c.transact.result in
@@ -114,15 +114,15 @@ returns-then-branch-clause-done g c limits =
     let of : HasCleanDisk late → (before : Holdings) → Keeps old before → (bases : List Base) × (upgradable k before ≡ Ok bases) = λ seen before keeps.
     let met = earlier_met k old mid c.in-Before.earlier (look seen) before keeps in (met.0, met.2) in
     let serves = λ (clean : HasCleanDisk new) (before : Holdings) (fits : IsTrue old.is_open → Always old.now.trees before) (keeps : Keeps old before).
-    let seen = second clean in rows_serve Does Fit (upgraded k) late leads (opened seen) refuses new answer c.transact.ensures.call did clean before (λ _. of seen before keeps) (keeps_still before old late (same seen) keeps) in
+    let seen = second clean in rows_serve Does Fit (upgraded k) late leads (opened seen) refuses new answer c.transact.ensures.commanded.call did clean before (λ _. of seen before keeps) (keeps_still before old late (same seen) keeps) in
     let told = λ (clean : HasCleanDisk late) (store : IsStore old). let still = ((look clean).same (look clean).found.1).1 in told_image k (earlier_version c.in-Before.earlier) old mid still it (image.value clean (store_same old mid still store)) yes in
     let settled : IsSettled old = λ is_open. sym (c.is_autocommit-settled.ensures.settled idle is_open) in
-    upgrade_done g.S.Store g.L.Layout.format g.L.Layout.row_work g.L.Layout.block_rows k begun end answer (commanded_then old late new answer second (quiet_then old mid late quiet image.call.crash) (λ clean. ((look clean).found.0, opened clean)) same c.transact.ensures.call)
+    upgrade_done g.S.Store g.L.Layout.format g.L.Layout.row_work g.L.Layout.block_rows k begun end answer (commanded_then old late new answer second (quiet_then old mid late quiet image.call.crash) (λ clean. ((look clean).found.0, opened clean)) same c.transact.ensures.commanded.call)
     (survives_after old late new _ _ (quiet_then old mid late quiet image.call.crash) did.survives (λ clean db made before fits keeps. let seen = second clean in rows_commit Does Fit (upgraded k) late leads (opened seen) db made before (λ _. of seen before keeps) (keeps_still before old late (same seen) keeps)))
     serves (λ clean. record {
       told = λ store. let texts = (look (second clean)).told store in inr (inr (earlier_version c.in-Before.earlier, texts.1, texts.0, earlier_tells k old store (earlier_version c.in-Before.earlier) (earlier_taken (earlier_version c.in-Before.earlier) own texts.1) settled (told (second clean) store) new answer (serves clean)));
       stays = λ store texts. absurd (own_not_earlier own profile old store texts c.in-Before.earlier ((look (second clean)).told store));
-      leaves = on_ok answer (StaysOpen late new) (UpgradeLeaves old new) (λ stays store. let texts = (look (second clean)).told store in earlier_leaves k old store (earlier_version c.in-Before.earlier) (earlier_taken (earlier_version c.in-Before.earlier) own texts.1) settled (told (second clean) store) new answer stays.1 (serves clean)) (c.transact.ensures.call.accepted clean);
+      leaves = on_ok answer (StaysOpen late new) (UpgradeLeaves old new) (λ stays store. let texts = (look (second clean)).told store in earlier_leaves k old store (earlier_version c.in-Before.earlier) (earlier_taken (earlier_version c.in-Before.earlier) own texts.1) settled (told (second clean) store) new answer stays.1 (serves clean)) (c.transact.ensures.commanded.call.accepted clean);
     }) (asked_unread answer c.transact.ensures.few)
 
 pub returns-else-branch-clause-done : goal.returns-else-branch-clause-done
@@ -133,12 +133,12 @@ returns-else-branch-clause-done g c limits =
     let begun = c.args.connection.now in
     let old = state g.S.Store begun in
     let mid = state g.S.Store c.check_layout.new.connection in
-    let quiet = c.check_layout.ensures.crash in
+    let quiet = c.check_layout.ensures.looks.crash in
     let late = state g.S.Store c.is_earlier_image.new.connection in
     let image = c.in_ok-is_earlier_image-in-Before.ensures in
     let first = clean_before mid late image.call.crash in
-    let look = λ (clean : HasCleanDisk late). subst (λ (s : Standing). IsLook (FindsStanding own profile) (RefusesUpgrade own profile) old mid (Ok s)) c.in-Before.is (c.in_ok-standing.ensures.look (first clean)) in
-    let same = λ (clean : HasCleanDisk late). nothing_then old mid late (look clean).same (image.call.same clean c.check_layout.ensures.idle) in
+    let look = λ (clean : HasCleanDisk late). subst (λ (s : Standing). IsLook (FindsStanding own profile) (RefusesUpgrade own profile) old mid (Ok s)) c.in-Before.is (c.in_ok-standing.ensures.looks.look (first clean)) in
+    let same = λ (clean : HasCleanDisk late). nothing_then old mid late (look clean).same (image.call.same clean c.check_layout.ensures.looks.idle) in
     let it = c.in_ok-is_earlier_image-in-Before.field-0 in
     let no : it ≡ false = search rules in
     let answer : Result Reply Refusal = Err refusal.Damaged in

@@ -39,7 +39,7 @@ returns-in_default-clause-value g c clean store sound =
     let begun : into_iter_items c.into_iter-listed-iterator.result ≡ list = search rules in
     let all = sym begun ∙ inv.items ∙ ap (λ rest. c.loop-listed.yielded ++ rest) c.in-Some.ensures.steps.0 in
     let there = subst (λ l. Has l listed) (sym all) (has_right c.loop-listed.yielded (listed ∷ into_iter_items c.next.new.self) listed (inl refl)) in
-    let row = ((c.in-Ok.ensures.value (inv.clean first) store).each listed.id.0 (string_bytes listed.name) (pos listed.last)).1 (listed, there, refl, refl, refl) in
+    let row = ((c.in-Ok.ensures.finds (inv.clean first) store).each listed.id.0 (string_bytes listed.name) (pos listed.last)).1 (listed, there, refl, refl, refl) in
     subst (λ (d : Database). CanBeHeld c.args.profile.now d.trees listed.id.0 (string_bytes listed.name) listed.last → ⊥) at none (sound.each listed.id.0 (string_bytes listed.name) listed.last row)
 
 pub returns-in_err-made-clause-refused : goal.returns-in_err-made-clause-refused

@@ -64,7 +64,7 @@ asked_next g c clean mode =
     let now = state g.S.Store c.loop-turn.tx.conn.now in
     let mid = state g.S.Store c.record_from_inside.new.tx.conn.now in
     let clean_mid : HasCleanDisk mid = omega (arith, c.write_where_full.ensures.call.does.crash.clean) in
-    asked (state g.S.Store c.args.tx.now.conn.now) now mid clean_mid c.record_from_inside.ensures.call.does.crash (λ clean_now. c.loop-turn.invariant.stays clean_now mode) c.in_ok-record.ensures.call.does.ok
+    asked (state g.S.Store c.args.tx.now.conn.now) now mid clean_mid c.record_from_inside.ensures.found.looks.call.crash (λ clean_now. c.loop-turn.invariant.stays clean_now mode) c.in_ok-record.ensures.found.looks.call.ok
 
 -- it is the first from a number on that the lists keep
 record IsNext (id : ℤ) (next : ℕ) (found : Record) (old now mid : State) : Type 0 where
@@ -82,7 +82,7 @@ next_read g c clean mode store =
     let clean_mid : HasCleanDisk mid = omega (arith, c.write_where_full.ensures.call.does.crash.clean) in
     let at = asked_next g c clean mode in
     let kept = c.loop-turn.invariant.kept at.clean mode store in
-    let value = subst (IsFirstFrom now.now.trees c.args.db.0 c.loop-turn.next) c.in-Some.is (c.in_ok-record.ensures.value.small clean_mid at.was.mode kept.0 (omega (arith, c.loop-turn.invariant.small))) in
+    let value = subst (IsFirstFrom now.now.trees c.args.db.0 c.loop-turn.next) c.in-Some.is ((c.in_ok-record.ensures.found.looks.finds clean_mid at.was.mode kept.0).small (omega (arith, c.loop-turn.invariant.small))) in
     record {
       at = at;
       kept = kept;
@@ -150,7 +150,7 @@ returns-in_default-clause-inside g c = record {
         let old = state g.S.Store c.args.tx.now.conn.now in
         let now = state g.S.Store c.loop-turn.tx.conn.now in
         let mid = state g.S.Store c.record_from_inside.new.tx.conn.now in
-        let at = asked old now mid (omega (arith, c.write_pending.ensures.call.does.crash.clean)) c.record_from_inside.ensures.call.does.crash (λ clean_now. c.loop-turn.invariant.stays clean_now mode) c.in_ok-record.ensures.call.does.ok in
+        let at = asked old now mid (omega (arith, c.write_pending.ensures.call.does.crash.clean)) c.record_from_inside.ensures.found.looks.call.crash (λ clean_now. c.loop-turn.invariant.stays clean_now mode) c.in_ok-record.ensures.found.looks.call.ok in
         stays_then old mid (state g.S.Store c.write_pending.new.tx.conn.now) c.write_pending.result at.goes (c.write_pending.ensures.call.does.stays clean at.goes.mode);
     crash = search rules;
   };
@@ -166,10 +166,10 @@ returns-in_default-clause-posts g c clean mode store =
     let format = g.L.Layout.format in
     let id = c.args.db.0 in
     let clean_mid : HasCleanDisk mid = omega (arith, c.write_pending.ensures.call.does.crash.clean) in
-    let at = asked old now mid clean_mid c.record_from_inside.ensures.call.does.crash (λ clean_now. c.loop-turn.invariant.stays clean_now mode) c.in_ok-record.ensures.call.does.ok in
+    let at = asked old now mid clean_mid c.record_from_inside.ensures.found.looks.call.crash (λ clean_now. c.loop-turn.invariant.stays clean_now mode) c.in_ok-record.ensures.found.looks.call.ok in
     let kept = c.loop-turn.invariant.kept at.clean mode store in
     let there = store_same now mid at.on.now_is kept.0 in
-    let value = subst (IsFirstFrom now.now.trees id c.loop-turn.next) c.in_default.is (c.in_ok-record.ensures.value.small clean_mid at.was.mode kept.0 (omega (arith, c.loop-turn.invariant.small))) in
+    let value = subst (IsFirstFrom now.now.trees id c.loop-turn.next) c.in_default.is ((c.in_ok-record.ensures.found.looks.finds clean_mid at.was.mode kept.0).small (omega (arith, c.loop-turn.invariant.small))) in
     let none = first_still old.now.trees now.now.trees kept.1 id c.loop-turn.next None value in
     let sound = all_sound c.args.profile.now old.now.trees id c.loop-turn.next (c.loop-turn.invariant.checked at.clean mode store) none in
     posts_by format c.args.profile.now id old new c.write_pending.result
@@ -199,21 +199,21 @@ pub returns-in_err-record-clause-posts : goal.returns-in_err-record-clause-posts
 returns-in_err-record-clause-posts g c clean mode store =
     let old = state g.S.Store c.args.tx.now.conn.now in
     let now = state g.S.Store c.loop-turn.tx.conn.now in
-    let clean_now : HasCleanDisk now = omega (arith, c.record_from_inside.ensures.call.does.crash.clean) in
+    let clean_now : HasCleanDisk now = omega (arith, c.record_from_inside.ensures.found.looks.call.crash.clean) in
     let was = c.loop-turn.invariant.stays clean_now mode in
     let kept = c.loop-turn.invariant.kept clean_now mode store in
     let told : c.from_residual.result ≡ Err c.in_err-record.field-0.0 = search rules in
-    rw told (λ is before had storable lacks fine. c.in_err-record.ensures.honest clean was.mode kept.0 (ap Err is) (readable_still old.now.trees now.now.trees kept.1 c.args.db.0 fine.0))
+    rw told (λ is before had storable lacks fine. c.in_err-record.ensures.found.looks.finds clean was.mode kept.0 is (readable_still old.now.trees now.now.trees kept.1 c.args.db.0 fine.0))
 
 -- a record that isn't sound
 pub returns-in_err-record_note-clause-posts : goal.returns-in_err-record_note-clause-posts
 returns-in_err-record_note-clause-posts g c clean mode store =
     let now = state g.S.Store c.loop-turn.tx.conn.now in
     let found = c.in-Some.record in
-    let clean_now : HasCleanDisk now = omega (arith, c.record_from_inside.ensures.call.does.crash.clean) in
+    let clean_now : HasCleanDisk now = omega (arith, c.record_from_inside.ensures.found.looks.call.crash.clean) in
     let was = c.loop-turn.invariant.stays clean_now mode in
     let kept = c.loop-turn.invariant.kept clean_now mode store in
-    let value = subst (IsFirstFrom now.now.trees c.args.db.0 c.loop-turn.next) c.in-Some.is (c.in_ok-record.ensures.value.small clean was.mode kept.0 (omega (arith, c.loop-turn.invariant.small))) in
+    let value = subst (IsFirstFrom now.now.trees c.args.db.0 c.loop-turn.next) c.in-Some.is ((c.in_ok-record.ensures.found.looks.finds clean was.mode kept.0).small (omega (arith, c.loop-turn.invariant.small))) in
     let first = first_still (state g.S.Store c.args.tx.now.conn.now).now.trees now.now.trees kept.1 c.args.db.0 c.loop-turn.next (Some found) value in
     let told : c.from_residual-in_err-record_note.result ≡ Err c.in_err-record_note.field-0.0 = search rules in
     rw told (λ is before had storable lacks fine. c.in_err-record_note.ensures.damaged (ap Err is) (fine.1 found.sysno (string_bytes found.ident) found.bytes.items first.0))

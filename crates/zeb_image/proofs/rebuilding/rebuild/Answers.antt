@@ -1,4 +1,5 @@
 use Rattle.zeb_image.proofs.Cited.{◌≡◌, ◌∙◌, ◌+◌, ◌++◌, ◌∷◌, ℤ, [], pos, IsTrue, List, Result, Err, map, take, drop, suc, inl, inr, refl, sym, ap, subst, arith, rules, string_bytes, map-append, take_more, take_all, split_at, Database, state, HasCleanDisk, State, Has, has_either, has_right, Directive, ListedDatabase, RegFault, Damaged, GoesOn, OnlyReads, AreDatabases, Format, holds_in, HasDatabase, IsStore, KeepsLists, store_same, registers_empty, Continues, keeps_then, goes_on, kept_then, HoldsSuch, LacksDatabase, AreReadableLists, AreSound, AreSoundIn, Rebuilds}
+use Rattle.zeb_register.proofs.Answered.{damage_of}
 use Rattle.zeb_image.proofs.RebuiltImages.{id_in, listed_id, listed_there, lists_readable, lists_sound, new_id, readable_databases, rebuilt, same_databases}
 use Rattle.zeb_image.proofs.RebuiltPostings.{ArePostedIn, more_posted, new_lacks, nothing_posted, posted_still, readable_still, sound_still, sound_then}
 use Rattle.zeb_image.proofs.rebuilding.rebuild.Given as given
@@ -21,24 +22,24 @@ loop-database-init g c =
     let old = state g.S.Store c.args.tx.now.conn.now in
     let wiped = state g.S.Store c.registers_wipe.new.tx.conn.now in
     let new = state g.S.Store c.databases_inside.new.tx.conn.now in
-    let clean_wiped = λ (clean : HasCleanDisk new). (let e : HasCleanDisk wiped = omega (arith, c.databases_inside.ensures.call.does.crash.clean) in e) in
+    let clean_wiped = λ (clean : HasCleanDisk new). (let e : HasCleanDisk wiped = omega (arith, c.databases_inside.ensures.found.looks.call.crash.clean) in e) in
     record {
       same = search rules;
       crash = search rules;
       goes_on = λ clean mode.
           let on = (c.in_ok-registers_wipe.ensures.call.does.ok (clean_wiped clean) mode).0 in
-          read_then old wiped new on (c.in_ok-databases.ensures.call.does.ok clean on.mode);
+          read_then old wiped new on (c.in_ok-databases.ensures.found.looks.call.ok clean on.mode);
       kept = λ clean mode store.
           let done = c.in_ok-registers_wipe.ensures.call.does.ok (clean_wiped clean) mode in
-          let read = c.in_ok-databases.ensures.call.does.ok clean done.0.mode in
+          let read = c.in_ok-databases.ensures.found.looks.call.ok clean done.0.mode in
           (store_same wiped new read.now_is (done.1 store).0, subst (λ (db : Database). KeepsLists old.now.trees db.trees) (sym read.now_is) (done.1 store).2);
       listed = λ clean mode store.
           let done = c.in_ok-registers_wipe.ensures.call.does.ok (clean_wiped clean) mode in
-          same_databases old.now.trees wiped.now.trees (done.1 store).2 _ (subst (AreDatabases wiped.now.trees) (sym c.deref-database-items.ensures.value) (c.in_ok-databases.ensures.value clean done.0.mode (done.1 store).0));
+          same_databases old.now.trees wiped.now.trees (done.1 store).2 _ (subst (AreDatabases wiped.now.trees) (sym c.deref-database-items.ensures.value) (c.in_ok-databases.ensures.found.looks.finds clean done.0.mode (done.1 store).0));
       checked = λ clean mode store d there. absurd there;
       posted = λ clean mode store.
           let done = c.in_ok-registers_wipe.ensures.call.does.ok (clean_wiped clean) mode in
-          let read = c.in_ok-databases.ensures.call.does.ok clean done.0.mode in
+          let read = c.in_ok-databases.ensures.found.looks.call.ok clean done.0.mode in
           record {
             content = λ _ _. [];
             held = subst (λ (db : Database). holds_in g.L.Layout.format db.trees (λ _ _. [])) (sym read.now_is) (registers_empty g.L.Layout.format wiped.now.trees (done.1 store).1);
@@ -170,11 +171,11 @@ returns-in_err-databases-clause-rebuilds g c clean mode store =
     let old = state g.S.Store c.args.tx.now.conn.now in
     let wiped = state g.S.Store c.registers_wipe.new.tx.conn.now in
     let new = state g.S.Store c.databases_inside.new.tx.conn.now in
-    let clean_wiped : HasCleanDisk wiped = omega (arith, c.databases_inside.ensures.call.does.crash.clean) in
+    let clean_wiped : HasCleanDisk wiped = omega (arith, c.databases_inside.ensures.found.looks.call.crash.clean) in
     let done = c.in_ok-registers_wipe.ensures.call.does.ok clean_wiped mode in
     refused_so g.L.Layout.format c.args.profile.now old new c.in_err-databases.field-0.0 c.from_residual-in_err-databases.result (search rules) (λ told readable sound.
     let fault : c.databases_inside.result ≡ Err Damaged = search rules in
-    c.databases_inside.ensures.honest clean done.0.mode (done.1 store).0 fault (readable_databases old.now.trees wiped.now.trees (done.1 store).2 readable.databases))
+    damage_of _ _ _ (c.databases_inside.ensures.found.looks.finds clean done.0.mode (done.1 store).0) fault (readable_databases old.now.trees wiped.now.trees (done.1 store).2 readable.databases))
 
 -- the database has no posting yet, and so one of its records isn't sound
 pub returns-in_err-database_post-clause-rebuilds : goal.returns-in_err-database_post-clause-rebuilds

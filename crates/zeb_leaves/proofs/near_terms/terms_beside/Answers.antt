@@ -19,4 +19,4 @@ pub returns-in-Some : goal.returns-in-Some
 returns-in-Some g c = looks_so _ _ _ _ _ _ _ _ (looks_still _ _ _ _ _ c.turns.invariant.still _ c.in_ok-counts.ensures) (λ store told. rw c.in-Some.is at told)
 
 pub returns : goal.returns
-returns g c = record { call = refused_still _ _ _ c.turns.invariant.still; finds = λ clean store. search rules; refused = λ clean store is. absurd (cc) }
+returns g c = record { call = refused_still _ _ _ c.turns.invariant.still; finds = λ clean store. search rules; refused = λ clean store is. absurd (cc); opened = λ clean is. absurd (cc) }

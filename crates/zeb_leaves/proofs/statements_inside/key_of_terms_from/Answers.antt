@@ -1,18 +1,18 @@
-use Rattle.zeb_leaves.proofs.Cited.{rules, ◌∙◌, refl, pos, register_code, IsLeast, TellsKey, IsRowFrom}
+use Rattle.zeb_leaves.proofs.Cited.{rules, ◌∙◌, refl, pos, register_code}
 use Rattle.zeb_register.proofs.BoundColumns.{none_bound, register_bound, value_bound}
 use Rattle.zeb_leaves.proofs.BehindStatements.{from_query, from_shown}
-use Rattle.zeb_leaves.proofs.InsideCalls.{finds, shows_last_so}
+use Rattle.zeb_leaves.proofs.InsideCalls.{tells_last}
 use Rattle.zeb_leaves.proofs.KeysTold.{key_shown}
 use Rattle.zeb_leaves.proofs.statements_inside.key_of_terms_from.Goals as goal
 
 pub last_shown-requires : goal.last_shown-requires
 last_shown-requires g c = (from_query c.args.at.db.0 (pos c.args.at.index) (pos (register_code c.args.at.register)) c.args.first.now).silent
 
-pub returns-clause-finds : goal.returns-clause-finds
-returns-clause-finds g c = finds (λ trees key. TellsKey (IsLeast (IsRowFrom c.args.at c.args.first.now trees)) key) _ _ c.last_shown.result
-    (λ rows found store shown last. key_shown _ rows found last (from_shown _ store c.args.at.db.0 (pos c.args.at.index) (pos (register_code c.args.at.register)) c.args.first.now _ rows shown))
-    (shows_last_so c.last_shown.ensures.shows (register_bound c.column-db.ensures.fits c.column-db.ensures.value (c.from-reg.ensures ∙ c.code.ensures) c.params-to_sql.ensures c.params-to_sql-2.ensures c.params-to_sql-3.ensures
-    (value_bound c.params-to_sql-4.ensures refl (value_bound c.params-to_sql-5.ensures refl none_bound))))
-
-pub returns-clause-call : goal.returns-clause-call
-returns-clause-call g c = record { same = search rules; does = c.last_shown.ensures.shows.call }
+pub returns : goal.returns
+returns g c = record {
+  same = search rules;
+  looks = tells_last _ _ _ c.last_shown.result c.last_shown.ensures.does
+      (register_bound c.column-db.ensures.fits c.column-db.ensures.value (c.from-reg.ensures ∙ c.code.ensures) c.params-to_sql.ensures c.params-to_sql-2.ensures c.params-to_sql-3.ensures
+      (value_bound c.params-to_sql-4.ensures refl (value_bound c.params-to_sql-5.ensures refl none_bound)))
+      (λ rows found store shown last. key_shown _ rows found last (from_shown _ store c.args.at.db.0 (pos c.args.at.index) (pos (register_code c.args.at.register)) c.args.first.now _ rows shown));
+}

@@ -1,19 +1,23 @@
-use Rattle.zeb_leaves.proofs.Cited.{◌∙◌, Err, ap, rules, err_from_is_err_and, alone_inside}
+use Rattle.zeb_leaves.proofs.Cited.{ℕ, Err, rules, alone_inside, on_err, query_keeps}
 use Rattle.sqlite.specs.Values.{bound}
-use Rattle.zeb_leaves.proofs.InsideCalls.{shows_none}
 use Rattle.zeb_leaves.proofs.statements_inside.last_shown.Goals as goal
 
-pub returns-in_err-rows-clause-shows : goal.returns-in_err-rows-clause-shows
-returns-in_err-rows-clause-shows g c =
-    let is = err_from_is_err_and c.from_residual.result c.from_residual.ensures.1 in
-    shows_none c.args.sql.now (bound c.args.params.now) _ _ _ c.from_residual.result (is.1 ∙ ap Err is.2) c.requires c.in_err-rows.ensures.err c.query_all.ensures.survives
-
-pub returns-clause-shows : goal.returns-clause-shows
-returns-clause-shows g c = record {
-  call = record {
-    ok = λ clean inside. alone_inside _ _ _ _ _ c.requires (c.in_ok-rows.ensures.ok clean) inside;
-    err = search rules;
+pub returns : goal.returns
+returns g c = record {
+  same = search rules;
+  does = record {
+    ok = λ clean inside. record { reads = alone_inside _ _ _ _ _ c.requires (c.in_ok-rows.ensures.ok clean) inside; last = (c.in_ok-rows.rows.items, c.in_ok-rows.ensures.ok clean, c.last_row.ensures) };
+    err = λ clean inside. tt;
     crash = c.query_all.ensures.survives;
   };
-  last = λ clean. (c.in_ok-rows.rows.items, c.in_ok-rows.ensures.ok clean, c.last_row.ensures);
+}
+
+pub returns-in_err-rows : goal.returns-in_err-rows
+returns-in_err-rows g c = record {
+  same = search rules;
+  does = record {
+    ok = search rules;
+    err = λ clean inside. on_err c.from_residual.result _ (query_keeps {A = ℕ} c.args.sql.now (bound c.args.params.now) _ _ (Err _) c.requires (c.in_err-rows.ensures.err clean));
+    crash = c.query_all.ensures.survives;
+  };
 }

@@ -1,7 +1,6 @@
 use Rattle.zeb_leaves.proofs.Cited.{rules, ◌∙◌, ◌+◌, ap, arith, blocks_tree, length, refl, state, sym, IsStore, Database, on_ok_so, leaves_still, more_leaves, KeyChanges}
 use Rattle.zeb_leaves.proofs.LastTold.{some_there}
 use Rattle.zeb_leaves.proofs.OneKey.{one_answered, one_run}
-use Rattle.zeb_leaves.proofs.HandedOn.{does_none, failed_inside, untouched_inside}
 use Rattle.zeb_leaves.proofs.TurningCalls.{read_goes_on}
 use Rattle.zeb_leaves.proofs.turning.key_changes.Goals as goal
 
@@ -28,18 +27,6 @@ returns-clause-work g c clean inside store =
     let s1 = state g.S.Store c.run_changes.new.tx.conn.now in
     let many = length c.args.changes.now in
     on_ok_so c.run_changes.result _ _ (more_leaves (many + 0) many s0.now.trees s1.now.trees c.args.work.now c.run_changes.new.work (omega arith)) (c.run_changes.ensures.work clean inside store)
-
-pub returns-in_err-check_changes-clause-call : goal.returns-in_err-check_changes-clause-call
-returns-in_err-check_changes-clause-call g c = record { same = search rules; does = untouched_inside _ (state g.S.Store c.args.tx.now.conn.now) c.from_residual.result _ c.from_residual.ensures.1 }
-
-pub returns-in_err-check_changes-clause-work : goal.returns-in_err-check_changes-clause-work
-returns-in_err-check_changes-clause-work g c clean inside store = does_none _ c.from_residual.result _ c.from_residual.ensures.1
-
-pub returns-in_err-nothing_inside-clause-call : goal.returns-in_err-nothing_inside-clause-call
-returns-in_err-nothing_inside-clause-call g c = record { same = search rules; does = failed_inside _ _ _ _ c.from_residual-in_err-nothing_inside.result _ _ c.in_err-nothing_inside.ensures.call.does c.from_residual-in_err-nothing_inside.ensures.1 }
-
-pub returns-in_err-nothing_inside-clause-work : goal.returns-in_err-nothing_inside-clause-work
-returns-in_err-nothing_inside-clause-work g c clean inside store = does_none _ c.from_residual-in_err-nothing_inside.result _ c.from_residual-in_err-nothing_inside.ensures.1
 
 pub returns-then-is_empty-clause-call : goal.returns-then-is_empty-clause-call
 returns-then-is_empty-clause-call g c = record { same = search rules; does = read_goes_on _ _ _ tt c.in_ok-nothing_inside.ensures.call.does }

@@ -2,7 +2,6 @@ use Rattle.zeb_leaves.proofs.Cited.{rules, arith, ℕ, List, Option, true, subst
 use Rattle.std.specs.List.Sorted.{IsStrictlySortedBy}
 use Rattle.zeb_leaves.proofs.CountedLeaves.{front_counted}
 use Rattle.zeb_leaves.proofs.FrontPieces.{all_within, at_front, below_front, front_of_one, key_shown, leaf_front_lacks, leaf_front_put}
-use Rattle.zeb_leaves.proofs.HandedOn.{does_none, failed_inside, shows_none, untouched_inside}
 use Rattle.zeb_leaves.proofs.turning.leaf_turned.Goals as goal
 
 abbrev end_of : Option KeyOfBlock → End
@@ -10,7 +9,7 @@ end_of end = option_map (λ (k : KeyOfBlock). (k.term.now, k.block)) end
 
 pub returns-in_err-own-clause-turned : goal.returns-in_err-own-clause-turned
 returns-in_err-own-clause-turned g c = record {
-  further = shows_none _ c.from_residual.result _ c.from_residual.ensures.1;
+  further = search rules;
   puts = λ clean inside store ends covers.
       absurd (key_shown _ store c.args.at c.args.pieces.now c.args.leaf.now c.requires.some covers c.in_err-own.ensures.refused.1);
 }
@@ -22,7 +21,7 @@ leaf_entries_turned-requires g c =
 
 pub returns-in_err-entries-clause-turned : goal.returns-in_err-entries-clause-turned
 returns-in_err-entries-clause-turned g c = record {
-  further = shows_none _ c.from_residual-in_err-entries.result _ c.from_residual-in_err-entries.ensures.1;
+  further = search rules;
   puts = λ clean inside store ends covers.
       let n = c.count_covered-count.result in
       let pieces = c.args.pieces.now in
@@ -60,24 +59,3 @@ returns-clause-work g c clean inside store =
     let old = (state g.S.Store c.args.tx.now.conn.now).now.trees in
     let new = (state g.S.Store c.entries_put.new.tx.conn.now).now.trees in
     (c.count_leaves.ensures.reads_leaves, front_counted true 1 c.in_ok-written.written old new c.args.work.now c.count_leaves.new.work (omega arith) (c.in_ok-written.ensures.rows clean inside store) c.count_leaves.ensures)
-
-pub returns-in_err-own-clause-call : goal.returns-in_err-own-clause-call
-returns-in_err-own-clause-call g c = record { same = search rules; does = untouched_inside _ (state g.S.Store c.args.tx.now.conn.now) c.from_residual.result _ c.from_residual.ensures.1 }
-
-pub returns-in_err-own-clause-work : goal.returns-in_err-own-clause-work
-returns-in_err-own-clause-work g c clean inside store = does_none _ c.from_residual.result _ c.from_residual.ensures.1
-
-pub returns-in_err-entries-clause-call : goal.returns-in_err-entries-clause-call
-returns-in_err-entries-clause-call g c = record { same = search rules; does = untouched_inside _ (state g.S.Store c.args.tx.now.conn.now) c.from_residual-in_err-entries.result _ c.from_residual-in_err-entries.ensures.1 }
-
-pub returns-in_err-entries-clause-work : goal.returns-in_err-entries-clause-work
-returns-in_err-entries-clause-work g c clean inside store = does_none _ c.from_residual-in_err-entries.result _ c.from_residual-in_err-entries.ensures.1
-
-pub returns-in_err-written-clause-turned : goal.returns-in_err-written-clause-turned
-returns-in_err-written-clause-turned g c = record { further = shows_none _ c.from_residual-in_err-written.result _ c.from_residual-in_err-written.ensures.1; puts = search rules }
-
-pub returns-in_err-written-clause-call : goal.returns-in_err-written-clause-call
-returns-in_err-written-clause-call g c = record { same = search rules; does = failed_inside _ _ _ _ c.from_residual-in_err-written.result _ _ c.in_err-written.ensures.call.does c.from_residual-in_err-written.ensures.1 }
-
-pub returns-in_err-written-clause-work : goal.returns-in_err-written-clause-work
-returns-in_err-written-clause-work g c clean inside store = does_none _ c.from_residual-in_err-written.result _ c.from_residual-in_err-written.ensures.1

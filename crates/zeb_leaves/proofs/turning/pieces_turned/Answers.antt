@@ -1,6 +1,6 @@
 use Rattle.zeb_leaves.proofs.Cited.{rules, HasCleanDisk, ◌∙◌, ◌+◌, arith, length, refl, state, stays_still, stays_then, quiet_still, quiet_then, both_leaves, leaves_still, more_leaves}
 use Rattle.zeb_leaves.proofs.PiecesLeft.{all_put, count_within, leads_more, left_are, left_refused, some_left}
-use Rattle.zeb_leaves.proofs.HandedOn.{does_none, refused_met}
+use Rattle.zeb_leaves.proofs.HandedOn.{refused_met}
 use Rattle.zeb_leaves.proofs.TurningCalls.{stays_failed, stays_on}
 use Rattle.zeb_leaves.proofs.turning.pieces_turned.Goals as goal
 
@@ -90,6 +90,3 @@ returns-in_err-done-clause-call g c = record {
       let so_far = c.loop-done.invariant in
       stays_failed _ _ so_far.crash so_far.stays _ _ _ c.from_residual.result _ _ c.in_err-done.ensures.call.does c.from_residual.ensures.1;
 }
-
-pub returns-in_err-done-clause-work : goal.returns-in_err-done-clause-work
-returns-in_err-done-clause-work g c clean inside store = does_none _ c.from_residual.result _ c.from_residual.ensures.1

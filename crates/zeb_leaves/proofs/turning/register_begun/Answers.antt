@@ -3,7 +3,6 @@ use Rattle.std.specs.List.Sorted.{IsStrictlySortedBy}
 use Rattle.zeb_leaves.proofs.FrontPieces.{all_within, at_front, first_front_lacks, first_front_put, front_of_one}
 use Rattle.zeb_leaves.proofs.CountedLeaves.{front_counted}
 use Rattle.zeb_leaves.specs.PrivateTurnedLeaves.{TurnsInto}
-use Rattle.zeb_leaves.proofs.HandedOn.{does_none, failed_inside, shows_none, untouched_inside}
 use Rattle.zeb_leaves.proofs.turning.register_begun.Goals as goal
 
 pub entries_turned-requires-clause-pieces : goal.entries_turned-requires-clause-pieces
@@ -20,7 +19,7 @@ entries_turned-requires-clause-each g c = subst (AllByRecursion IsEntry) (sym c.
 
 pub returns-in_err-entries-clause-turned : goal.returns-in_err-entries-clause-turned
 returns-in_err-entries-clause-turned g c = record {
-  further = shows_none _ c.from_residual.result _ c.from_residual.ensures.1;
+  further = search rules;
   puts = λ clean inside store none.
       let n = c.count_covered-count.result in
       let front = at_front c.args.at c.args.pieces.now n c.requires c.count_covered-count.ensures.register in
@@ -53,18 +52,3 @@ returns-clause-work g c clean inside store =
     let old = (state g.S.Store c.args.tx.now.conn.now).now.trees in
     let new = (state g.S.Store c.entries_put.new.tx.conn.now).now.trees in
     (c.count_leaves.ensures.reads_leaves, front_counted false 0 c.in_ok-written.written old new c.args.work.now c.count_leaves.new.work (omega arith) (c.in_ok-written.ensures.rows clean inside store) c.count_leaves.ensures)
-
-pub returns-in_err-entries-clause-call : goal.returns-in_err-entries-clause-call
-returns-in_err-entries-clause-call g c = record { same = search rules; does = untouched_inside _ (state g.S.Store c.args.tx.now.conn.now) c.from_residual.result _ c.from_residual.ensures.1 }
-
-pub returns-in_err-entries-clause-work : goal.returns-in_err-entries-clause-work
-returns-in_err-entries-clause-work g c clean inside store = does_none _ c.from_residual.result _ c.from_residual.ensures.1
-
-pub returns-in_err-written-clause-turned : goal.returns-in_err-written-clause-turned
-returns-in_err-written-clause-turned g c = record { further = shows_none _ c.from_residual-in_err-written.result _ c.from_residual-in_err-written.ensures.1; puts = search rules }
-
-pub returns-in_err-written-clause-call : goal.returns-in_err-written-clause-call
-returns-in_err-written-clause-call g c = record { same = search rules; does = failed_inside _ _ _ _ c.from_residual-in_err-written.result _ _ c.in_err-written.ensures.call.does c.from_residual-in_err-written.ensures.1 }
-
-pub returns-in_err-written-clause-work : goal.returns-in_err-written-clause-work
-returns-in_err-written-clause-work g c clean inside store = does_none _ c.from_residual-in_err-written.result _ c.from_residual-in_err-written.ensures.1

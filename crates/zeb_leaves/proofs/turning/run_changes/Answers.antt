@@ -2,7 +2,6 @@ use Rattle.zeb_leaves.proofs.Cited.{rules, HasCleanDisk, ◌≤◌, List, arith,
 use Rattle.zeb_leaves.proofs.CountedLeaves.{pieces_few}
 use Rattle.zeb_leaves.proofs.PiecesOfRuns.{run_answered}
 use Rattle.zeb_leaves.proofs.TurningCalls.{reads_then_goes}
-use Rattle.zeb_leaves.proofs.HandedOn.{does_none, failed_inside, later_inside}
 use Rattle.zeb_leaves.proofs.turning.run_changes.Goals as goal
 
 pub pieces_turned-requires : goal.pieces_turned-requires
@@ -39,21 +38,3 @@ returns-clause-work g c clean inside store =
     (λ works. more_leaves (length cut) (changes_in run) s0.now.trees s2.now.trees c.args.work.now c.pieces_turned.new.work few
     (subst (λ (d : Database). WorksOnLeaves (length cut) d.trees s2.now.trees c.args.work.now c.pieces_turned.new.work) read.now_is works))
     (c.pieces_turned.ensures.work clean read.mode (store_same s0 s1 read.now_is store))
-
-pub returns-in_err-alloc-clause-call : goal.returns-in_err-alloc-clause-call
-returns-in_err-alloc-clause-call g c = record { same = search rules; does = failed_inside _ _ _ _ c.from_residual.result _ _ c.in_err-alloc.ensures.call.does c.from_residual.ensures.1 }
-
-pub returns-in_err-alloc-clause-work : goal.returns-in_err-alloc-clause-work
-returns-in_err-alloc-clause-work g c clean inside store = does_none _ c.from_residual.result _ c.from_residual.ensures.1
-
-pub returns-in_err-check_run-clause-call : goal.returns-in_err-check_run-clause-call
-returns-in_err-check_run-clause-call g c = record { same = search rules; does = later_inside _ _ _ _ c.from_residual-in_err-check_run.result _ c.in_ok-alloc.ensures.call.does c.from_residual-in_err-check_run.ensures.1 }
-
-pub returns-in_err-check_run-clause-work : goal.returns-in_err-check_run-clause-work
-returns-in_err-check_run-clause-work g c clean inside store = does_none _ c.from_residual-in_err-check_run.result _ c.from_residual-in_err-check_run.ensures.1
-
-pub returns-in_err-pieces-clause-call : goal.returns-in_err-pieces-clause-call
-returns-in_err-pieces-clause-call g c = record { same = search rules; does = later_inside _ _ _ _ c.from_residual-in_err-pieces.result _ c.in_ok-alloc.ensures.call.does c.from_residual-in_err-pieces.ensures.1 }
-
-pub returns-in_err-pieces-clause-work : goal.returns-in_err-pieces-clause-work
-returns-in_err-pieces-clause-work g c clean inside store = does_none _ c.from_residual-in_err-pieces.result _ c.from_residual-in_err-pieces.ensures.1

@@ -1,7 +1,6 @@
 -- The row is renewed where it is there, or put where none is.
 use Rattle.zeb_leaves.proofs.Cited.{rules, [], pos, ℤ, subst, sym, state, blocks_tree, Bool, IfToldPuts, IsLeafWith, coming, leaf_columns, column_is, Alters, Gains, Renews, HasMoreLeaves}
 use Rattle.zeb_leaves.proofs.WrittenLeaves.{put_new, put_there}
-use Rattle.zeb_leaves.proofs.HandedOn.{does_none, failed_inside, untouched_inside}
 use Rattle.zeb_leaves.proofs.writes.leaf_put.Goals as goal
 
 pub returns-then-is_there-clause-call : goal.returns-then-is_there-clause-call
@@ -53,21 +52,3 @@ returns-clause-rows g c clean inside store =
     let first = state g.S.Store c.args.tx.now.conn.now in
     let second = state g.S.Store c.leaf_add.new.tx.conn.now in
     subst (λ (t : Bool). HasMoreLeaves (coming t) first.now.trees second.now.trees) (sym c.if-is_there.false) (c.in_ok-leaf_add.ensures.rows clean inside store)
-
-pub returns-in_err-number-clause-call : goal.returns-in_err-number-clause-call
-returns-in_err-number-clause-call g c = record { same = search rules; does = untouched_inside _ (state g.S.Store c.args.tx.now.conn.now) c.from_residual.result _ c.from_residual.ensures.1 }
-
-pub returns-in_err-number-clause-rows : goal.returns-in_err-number-clause-rows
-returns-in_err-number-clause-rows g c clean inside store = does_none _ c.from_residual.result _ c.from_residual.ensures.1
-
-pub returns-in_err-leaf_set-clause-call : goal.returns-in_err-leaf_set-clause-call
-returns-in_err-leaf_set-clause-call g c = record { same = search rules; does = failed_inside _ _ _ _ c.from_residual-in_err-leaf_set.result _ _ c.in_err-leaf_set.ensures.call.does c.from_residual-in_err-leaf_set.ensures.1 }
-
-pub returns-in_err-leaf_set-clause-rows : goal.returns-in_err-leaf_set-clause-rows
-returns-in_err-leaf_set-clause-rows g c clean inside store = does_none _ c.from_residual-in_err-leaf_set.result _ c.from_residual-in_err-leaf_set.ensures.1
-
-pub returns-in_err-leaf_add-clause-call : goal.returns-in_err-leaf_add-clause-call
-returns-in_err-leaf_add-clause-call g c = record { same = search rules; does = failed_inside _ _ _ _ c.from_residual-in_err-leaf_add.result _ _ c.in_err-leaf_add.ensures.call.does c.from_residual-in_err-leaf_add.ensures.1 }
-
-pub returns-in_err-leaf_add-clause-rows : goal.returns-in_err-leaf_add-clause-rows
-returns-in_err-leaf_add-clause-rows g c clean inside store = does_none _ c.from_residual-in_err-leaf_add.result _ c.from_residual-in_err-leaf_add.ensures.1

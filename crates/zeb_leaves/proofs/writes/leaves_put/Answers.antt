@@ -1,7 +1,7 @@
 -- The first leaf is put, and then those behind it.
 use Rattle.zeb_leaves.proofs.Cited.{rules, arith, length, refl, pos, state, HasCleanDisk, goes_keeps, goes_then, on_err, quiet_then}
 use Rattle.zeb_leaves.proofs.WrittenLeaves.{all_put}
-use Rattle.zeb_leaves.proofs.HandedOn.{failed_inside, shows_none}
+use Rattle.zeb_register.proofs.HandedOn.{shows_none}
 use Rattle.zeb_leaves.proofs.writes.leaves_put.Goals as goal
 
 pub returns-clause-call : goal.returns-clause-call
@@ -56,18 +56,3 @@ returns-clause-rows g c clean inside store =
     let came = c.in_ok-leaf_put.ensures.rows was inside store in
     let more = c.in_ok-new_leaves_add.ensures.rows clean put.on.mode (put.rows store).layout in
     (length c.args.leaves.now, refl, omega (arith, came, more))
-
-pub returns-in_err-leaf_put-clause-call : goal.returns-in_err-leaf_put-clause-call
-returns-in_err-leaf_put-clause-call g c = record { same = search rules; does = failed_inside _ _ _ _ c.from_residual.result _ _ c.in_err-leaf_put.ensures.call.does c.from_residual.ensures.1 }
-
-pub returns-in_err-leaf_put-clause-put : goal.returns-in_err-leaf_put-clause-put
-returns-in_err-leaf_put-clause-put g c clean inside store = shows_none _ c.from_residual.result _ c.from_residual.ensures.1
-
-pub returns-in_err-leaf_put-clause-rows : goal.returns-in_err-leaf_put-clause-rows
-returns-in_err-leaf_put-clause-rows g c clean inside store = shows_none _ c.from_residual.result _ c.from_residual.ensures.1
-
-pub returns-in_err-new_leaves_add-clause-put : goal.returns-in_err-new_leaves_add-clause-put
-returns-in_err-new_leaves_add-clause-put g c clean inside store = shows_none _ c.from_residual-in_err-new_leaves_add.result _ c.from_residual-in_err-new_leaves_add.ensures.1
-
-pub returns-in_err-new_leaves_add-clause-rows : goal.returns-in_err-new_leaves_add-clause-rows
-returns-in_err-new_leaves_add-clause-rows g c clean inside store = shows_none _ c.from_residual-in_err-new_leaves_add.result _ c.from_residual-in_err-new_leaves_add.ensures.1

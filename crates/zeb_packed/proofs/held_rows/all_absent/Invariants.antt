@@ -1,15 +1,9 @@
--- Nothing is changed so far.
-use Rattle.zeb_packed.proofs.Cited.{◌≡◌, IsTrue, state, HasCleanDisk, Survives, KeepsCommit}
+-- None was looked for, or the looks so far are one look.
+use Rattle.zeb_packed.proofs.Cited.{◌≡◌, ◌⊎◌, Ok, RegFault, IfDamaged, SomeStands}
+use Rattle.zeb_register.specs.Connections.{LooksInsideOf}
 use Rattle.zeb_packed.proofs.held_rows.all_absent.Given as goal
 
 abbrev pub invariant-loop-one : goal.invariant-loop-one
 invariant-loop-one g l =
-    let old = state g.S.Store l.fn.tx.conn.now in
-    let now = state g.S.Store l.tx.conn.now in
-    record {
-      same : l.tx.conn.ghost_name ≡ l.fn.tx.conn.ghost_name;
-      crash : Survives old now (λ _. ⊥);
-      kept : HasCleanDisk now → IsTrue old.in_transaction → KeepsCommit old now;
-      still : HasCleanDisk now → IsTrue old.in_transaction → now.now ≡ old.now;
-      inside : HasCleanDisk now → IsTrue old.in_transaction → IsTrue now.in_transaction;
-    }
+    ((l.one-index ≡ 0) × (l.tx.conn ≡ l.fn.tx.conn))
+    ⊎ LooksInsideOf {A = Unit {0}} {E = RegFault} g.S.Store l.fn.tx.conn l.tx.conn (Ok tt) (λ trees. IfDamaged (SomeStands l.db.0 l.blocks trees)) (λ _ _. Unit {0})

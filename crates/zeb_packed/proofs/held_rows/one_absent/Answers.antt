@@ -1,8 +1,9 @@
-use Rattle.zeb_packed.proofs.Cited.{KeyOf, refl, state, column_is}
-use Rattle.zeb_packed.proofs.HeldPuts.{lacks_stored}
+use Rattle.zeb_packed.proofs.Cited.{ℤ, pos, false, subst, Trees, register_code, IsNumberedRow, IsTold, blocks_tree, IfDamaged, column_is}
+use Rattle.zeb_register.specs.Connections.{LooksInsideOf}
 use Rattle.zeb_packed.proofs.held_rows.one_absent.Goals as goal
 
-pub returns-clause-honest : goal.returns-clause-honest
-returns-clause-honest g c clean inside store is lacks =
-    let at : KeyOf = record { db = c.args.db; key = c.args.one.now.key } in
-    c.block_absent.ensures.honest clean inside store is (lacks_stored c.args.db.0 at c.args.one.now.block _ (state g.S.Store c.args.tx.now.conn.now).now.trees refl (column_is c.in_ok-number.ensures.ok.1 c.in_ok-number.ensures.ok.0) lacks)
+pub returns : goal.returns
+returns g c =
+    let key = c.args.one.now.key.now in
+    let Lacks = λ (n : ℤ) (trees : Trees). IsTold false (IsNumberedRow c.args.db.0 (pos key.index) (pos (register_code key.register)) key.term n) blocks_tree trees in
+    subst (λ n. LooksInsideOf g.S.Store c.args.tx.now.conn c.block_absent.new.tx.conn c.block_absent.result (λ trees. IfDamaged (¬ Lacks n trees)) (λ trees _. Lacks n trees)) (column_is c.in_ok-number.ensures.ok.1 c.in_ok-number.ensures.ok.0) c.block_absent.ensures

@@ -1,43 +1,31 @@
-use Rattle.zeb_packed.proofs.Cited.{◌≡◌, ◌∙◌, [], IsTrue, Err, Some, None, ap, refl, slice_get, subst, sym, option_copied, state, HasCleanDisk, IsListOf, IsRest, IsStore, blocks_tree, LiesIn, first_is, BlockReads, column_is, numbered_rows, refused_rows}
-use Rattle.zeb_packed.proofs.KeyRows.{none_told}
-use Rattle.zeb_packed.proofs.PackedReads.{block_front, empty_lies}
-use Rattle.zeb_packed.proofs.UnitLists.{none_reads, shown_malformed, shown_reads}
-use Rattle.zeb_packed.proofs.packed_changes.block_list.Given as given
-use Rattle.zeb_packed.proofs.packed_changes.block_list.Goals.{In_ok-rows}
+use Rattle.zeb_packed.proofs.Cited.{pos, Err, ap, subst, sym, option_copied, state, blocks_tree, LiesIn, first_is, first_got, BlockReads, column_is, numbered_rows, refused_rows}
+use Rattle.zeb_packed.proofs.KeyRows.{absent_shown}
+use Rattle.zeb_packed.proofs.OpenLooks.{rows_tell}
+use Rattle.zeb_packed.proofs.PackedReads.{empty_lies, lacks_reads}
+use Rattle.zeb_packed.proofs.UnitLists.{shown_malformed, shown_reads}
 use Rattle.zeb_packed.proofs.packed_changes.block_list.Goals as goal
 
--- the rows that were read are those of the key and the block
-rows_read : (g : given.Over) (c : In_ok-rows g) → HasCleanDisk (state g.S.Store c.block_bytes.new.tx.conn.now) → IsTrue (state g.S.Store c.args.tx.now.conn.now).in_transaction → IsStore (state g.S.Store c.args.tx.now.conn.now)
-    → IsListOf (IsRest blocks_tree (block_front c.args.db.0 c.args.key.now c.args.block) (state g.S.Store c.args.tx.now.conn.now).now.trees) c.in_ok-rows.rows.items
-rows_read g c clean inside store =
-    numbered_rows (state g.S.Store c.args.tx.now.conn.now).now.trees blocks_tree c.args.db.0 c.args.key.now _ c.args.block (column_is c.in_ok-number.ensures.ok.1 c.in_ok-number.ensures.ok.0) c.in_ok-rows.rows.items
-    ((c.in_ok-rows.ensures.call.does.ok clean inside).1 store)
-
-pub returns-in-Some-clause-reads : goal.returns-in-Some-clause-reads
-returns-in-Some-clause-reads g c clean inside store =
+pub returns-in-Some-clause-found : goal.returns-in-Some-clause-found
+returns-in-Some-clause-found g c = rows_tell c.in_ok-rows.ensures.call (λ store held.
+    let first = state g.S.Store c.args.tx.now.conn.now in
     let items = c.in_ok-rows.rows.items in
-    let got : slice_get items 0 ≡ Some c.in-Some.row.now = sym (c.first.ensures.value ∙ ap (λ l. slice_get l 0) c.deref.ensures.value) ∙ ap option_copied c.in-Some.is in
-    let held = rows_read g (goal.at.returns-in-Some-clause-reads g c).In_ok-rows clean inside store in
-    shown_reads (state g.S.Store c.args.tx.now.conn.now) store c.args.db.0 c.args.key.now c.args.block c.in-Some.row.now (first_is _ items c.in-Some.row.now held got)
-    c.in_ok-spelled_list-in-Some.field-0.items c.in_ok-spelled_list-in-Some.ensures.ok
+    let rows = numbered_rows first.now.trees blocks_tree c.args.db.0 c.args.key.now _ c.args.block (column_is c.in_ok-number.ensures.ok.1 c.in_ok-number.ensures.ok.0) items held in
+    shown_reads first store c.args.db.0 c.args.key.now c.args.block c.in-Some.row.now (first_is _ items c.in-Some.row.now rows (first_got c.first.ensures.value c.deref.ensures.value (ap option_copied c.in-Some.is))) c.in_ok-spelled_list-in-Some.field-0.items c.in_ok-spelled_list-in-Some.ensures.ok)
 
-pub returns-in_err-spelled_list-in-Some-clause-reads : goal.returns-in_err-spelled_list-in-Some-clause-reads
-returns-in_err-spelled_list-in-Some-clause-reads g c clean inside store =
+pub returns-in_err-spelled_list-in-Some-clause-found : goal.returns-in_err-spelled_list-in-Some-clause-found
+returns-in_err-spelled_list-in-Some-clause-found g c = rows_tell c.in_ok-rows.ensures.call (λ store held.
+    let first = state g.S.Store c.args.tx.now.conn.now in
     let items = c.in_ok-rows.rows.items in
-    let got : slice_get items 0 ≡ Some c.in-Some.row.now = sym (c.first.ensures.value ∙ ap (λ l. slice_get l 0) c.deref.ensures.value) ∙ ap option_copied c.in-Some.is in
-    let held = rows_read g (goal.at.returns-in_err-spelled_list-in-Some-clause-reads g c).In_ok-rows clean inside store in
+    let rows = numbered_rows first.now.trees blocks_tree c.args.db.0 c.args.key.now _ c.args.block (column_is c.in_ok-number.ensures.ok.1 c.in_ok-number.ensures.ok.0) items held in
     refused_rows c.in_err-spelled_list-in-Some.field-0.0 c.from_residual-in_err-spelled_list-in-Some.result c.from_residual-in_err-spelled_list-in-Some.ensures.1 _ _
-    (λ told. shown_malformed (state g.S.Store c.args.tx.now.conn.now) store c.args.db.0 c.args.key.now c.args.block c.in-Some.row.now (first_is _ items c.in-Some.row.now held got) (c.in_err-spelled_list-in-Some.ensures.honest (ap Err told)))
+    (λ told. shown_malformed first store c.args.db.0 c.args.key.now c.args.block c.in-Some.row.now (first_is _ items c.in-Some.row.now rows (first_got c.first.ensures.value c.deref.ensures.value (ap option_copied c.in-Some.is))) (c.in_err-spelled_list-in-Some.ensures.honest (ap Err told))))
 
-pub returns-clause-reads : goal.returns-clause-reads
-returns-clause-reads g c clean inside store =
-    let old = state g.S.Store c.args.tx.now.conn.now in
+pub returns-clause-found : goal.returns-clause-found
+returns-clause-found g c = rows_tell c.in_ok-rows.ensures.call (λ store held.
+    let trees = (state g.S.Store c.args.tx.now.conn.now).now.trees in
     let items = c.in_ok-rows.rows.items in
-    let key = c.args.key.now in
-    let none : slice_get items 0 ≡ None = sym (c.first.ensures.value ∙ ap (λ l. slice_get l 0) c.deref.ensures.value) ∙ ap option_copied c.in-None.is in
-    let held = rows_read g (goal.at.returns-clause-reads g c).In_ok-rows clean inside store in
-    subst (BlockReads old.now.trees c.args.db.0 key c.args.block) (sym c.new.ensures.items)
-    (none_reads old store c.args.db.0 key c.args.block (none_told c.args.db.0 key c.args.block items [] old.now.trees refl held none))
+    let lacks = absent_shown trees (record { db = c.args.db; key = c.args.key }) _ (pos c.args.block) (column_is c.in_ok-number.ensures.ok.1 c.in_ok-number.ensures.ok.0) items held (first_got c.first.ensures.value c.deref.ensures.value (ap option_copied c.in-None.is)) in
+    subst (BlockReads trees c.args.db.0 c.args.key.now c.args.block) (sym c.new.ensures.items) (lacks_reads trees c.args.db.0 c.args.key.now c.args.block lacks))
 
 pub returns-clause-lies : goal.returns-clause-lies
 returns-clause-lies g c = subst (LiesIn c.args.block) (sym c.new.ensures.items) (empty_lies c.args.block)

@@ -23,7 +23,7 @@ pub returns-in_err-block_begin : goal.returns-in_err-block_begin
 returns-in_err-block_begin g c = record {
   same = search rules;
   does = search rules;
-  honest = λ clean inside store is lacks allows. c.in_err-block_begin.ensures.honest clean inside store (search rules) (lacks tt);
+  honest = λ clean inside store is lacks allows. c.in_err-block_begin.ensures.told clean inside store (search rules) (lacks tt);
   few = search rules;
 }
 
@@ -42,7 +42,7 @@ returns g c = record {
         record {
           on = put.on;
           rows = λ store.
-              let told = c.in_ok-block_begin.ensures.absent clean inside store in
+              let told = c.in_ok-block_begin.ensures.told clean inside store in
               let puts = subst (λ l. Changes blocks_tree (IfTold false (IsBlockIn db key block) (PutsBlock db key block l)) first second) c.deref.ensures.value (put.rows store) in
               changes_so blocks_tree Writes (λ tree a b. TurnsBlock db key block c.args.run.now c.args.records c.in_ok-after.after.records a b × (Unit {0} → LacksBlock db key block a)) first second (λ writes. (
                 record {

@@ -11,7 +11,7 @@ returns g c = record {
         let second = state g.S.Store c.block_list.new.tx.conn.now in
         let third = state g.S.Store c.block_write.new.tx.conn.now in
         let clean1 : HasCleanDisk second = omega (arith, c.block_write.ensures.call.does.crash.clean) in
-        let reads = c.in_ok-list.ensures.call.does.ok clean1 inside in
+        let reads = c.in_ok-list.ensures.found.looks.call.ok clean1 inside in
         let put = c.in_ok-block_write.ensures.call.does.ok clean reads.mode in
         let db = c.args.db.0 in
         let key = c.args.key.now in
@@ -24,7 +24,7 @@ returns g c = record {
         record {
           on = goes_then first second third (reads_goes first second reads) put.on;
           rows = λ store.
-              let was = c.in_ok-list.ensures.reads clean1 inside store in
+              let was = c.in_ok-list.ensures.found.looks.finds clean1 inside store in
               let told = subst (λ b. IsTold (not b) (IsBlockIn db key block) blocks_tree first.now.trees) empty (reads_told first.now.trees db key block held was) in
               let puts = subst (λ l. Changes blocks_tree (IfTold (not is_empty) (IsBlockIn db key block) (PutsBlock db key block l)) second third) c.deref.ensures.value (put.rows (store_same first second reads.now_is store)) in
               changes_so blocks_tree Writes (λ tree a b. TurnsBlock db key block c.args.run.now c.args.records c.in_ok-after.after.records a b × (⊥ → LacksBlock db key block a)) first third (λ writes. (
@@ -52,7 +52,7 @@ returns-in_err-list g c = record {
   does = search rules;
   honest = λ clean inside store is lacks allows.
       let trees = (state g.S.Store c.args.tx.now.conn.now).now.trees in
-      malformed_block trees c.args.db.0 c.args.key.now c.args.block allows.0 (c.in_err-list.ensures.reads clean inside store (search rules)) allows.2;
+      malformed_block trees c.args.db.0 c.args.key.now c.args.block allows.0 (c.in_err-list.ensures.found.looks.finds clean inside store (search rules)) allows.2;
   few = search rules;
 }
 
@@ -62,7 +62,7 @@ returns-in_err-after g c = record {
   does = search rules;
   honest = λ clean inside store is lacks allows.
       let first = state g.S.Store c.args.tx.now.conn.now in
-      let reads = c.in_ok-list.ensures.reads clean inside store in
+      let reads = c.in_ok-list.ensures.found.looks.finds clean inside store in
       let same = one_block_read first.now.trees c.args.db.0 c.args.key.now c.args.block allows.0 c.in_ok-list.list.items allows.2 reads in
       c.in_err-after.ensures.turned (search rules) allows.1 (subst (λ l. TurnsUnits packed_blocks c.args.run.now (units_of l c.args.records) allows.1) same allows.3);
   few = search rules;

@@ -1,7 +1,7 @@
 -- Each example by the definitions.
-use Rattle.zeb_register.proofs.Cited.{refl, inl}
-use Rattle.zeb_register.proofs.WorkedRegisters.{counts_a, counts_b, counts_c, counts_d, cut_lacks_b, cut_lacks_c, first_covers_a, first_covers_b, miscounted_a, no_text_lacks, reads_a, reads_b, reads_b_first, reads_c, reads_d, second_covers_b, second_covers_c, stray_beside, uncovered_a}
-use Rattle.zeb_register.specs.Worked.{cut_leaf, first_leaf, second_leaf, stray_leaf}
+use Rattle.zeb_register.proofs.Cited.{refl}
+use Rattle.zeb_register.proofs.WorkedRegisters.{counts_a, counts_b, counts_c, counts_d, first_covers_a, first_covers_b, reads_a, reads_b, reads_c, reads_d, second_covers_b, second_covers_c, stray_beside}
+use Rattle.zeb_register.specs.Worked.{first_leaf, second_leaf, stray_leaf}
 use Rattle.zeb_register.proofs.leaf_laws.worked_registers.Goals as goal
 
 pub returns-clause-covered : goal.returns-clause-covered
@@ -18,15 +18,3 @@ returns-clause-counted c = (counts_a second_leaf refl, counts_b, counts_c first_
 
 pub returns-clause-stray : goal.returns-clause-stray
 returns-clause-stray c = (reads_c stray_leaf refl 0, counts_c stray_leaf refl, stray_beside)
-
-pub returns-clause-cut : goal.returns-clause-cut
-returns-clause-cut c = (inl cut_lacks_b, inl cut_lacks_c, (1, cut_lacks_b), reads_b_first cut_leaf refl, counts_a cut_leaf refl)
-
-pub returns-clause-no_text : goal.returns-clause-no_text
-returns-clause-no_text c = inl no_text_lacks
-
-pub returns-clause-uncovered : goal.returns-clause-uncovered
-returns-clause-uncovered c = inl uncovered_a
-
-pub returns-clause-miscounted : goal.returns-clause-miscounted
-returns-clause-miscounted c = miscounted_a

@@ -1,17 +1,17 @@
-use Rattle.zeb_search.proofs.Cited.{◌≡◌, ◌≤◌, ◌*◌, ◌-◌, ◌^◌, length, string_bytes, state, OnStore, CountsByContent, NoRows}
+use Rattle.zeb_search.proofs.Cited.{◌≤◌, ◌-◌, ◌^◌, Vec, Ok, length, string_bytes, state, Global, Trees, TermCount, HidesSome, Searches}
+use Rattle.zeb_search.proofs.DictCounts.{CountsTerms}
 use Rattle.zeb_search.proofs.MetPages.{MetUpTo}
-use Rattle.zeb_search.proofs.ReadLemmas.{IsRead}
 use Rattle.zeb_search.proofs.keys.terms_wanted.Given as goal
 
 abbrev pub invariant-pages : goal.invariant-pages
 invariant-pages g l =
-    let old = state g.S.Store l.fn.connection in
-    let now = state g.S.Store l.connection in
+    let format = g.L.Layout.format in
+    let row_work = g.L.Layout.row_work in
+    let of = l.fn.of in
     record {
-      read : IsRead old now;
-      met : OnStore old now (λ trees. MetUpTo g.L.Layout.format trees l.fn.of.db.0 l.of.index l.of.register l.wanted l.terms.items (string_bytes l.start));
-      counted : CountsByContent g.L.Layout.format (λ content n. n ≡ g.L.Layout.row_work * length l.terms.items) NoRows old now l.fn.work l.work;
-      no_work : g.L.Layout.row_work ≡ 0 → l.work ≡ l.fn.work;
+      searched : Searches format row_work (λ trees. HidesSome format trees of.db.0 of.index of.register)
+          (λ (trees : Trees) (terms : Vec TermCount Global). MetUpTo format trees of.db.0 of.index of.register l.wanted terms.items (string_bytes l.start))
+          (λ _. CountsTerms row_work l.terms.items) (state g.S.Store l.fn.connection) (state g.S.Store l.connection) l.fn.work l.work (Ok l.terms);
       some : 1 ≤ l.page_terms;
     }
 

@@ -1,24 +1,26 @@
-use Rattle.zeb_search.proofs.Cited.{rules, ◌≡◌, ℕ, Err, Vec, Global, Option, String, arith, pos, subst, state, Trees, AreNumbers, AreReadableIdents, IsIdentOf, is_kept_in}
-use Rattle.zeb_search.proofs.PlanLemmas.{kept_one, kept_none}
-use Rattle.zeb_search.proofs.ToldLemmas.{told_refused}
+use Rattle.zeb_search.proofs.Cited.{arith, pos, subst, state, IsIdentOf}
+use Rattle.zeb_register.specs.declared.faults.RowFault.TheVariants.{Memory as NoMemory}
+use Rattle.zeb_register.proofs.LooksInTurn.{found_refused, looks_handed, looks_so}
+use Rattle.zeb_search.proofs.PlanLemmas.{kept_none, kept_one}
 use Rattle.zeb_search.proofs.plans.record_hits.Goals as goal
 
-pub returns-in_err-_ident-clause-units : goal.returns-in_err-_ident-clause-units
-returns-in_err-_ident-clause-units g c =
-    let db = c.args.database.0 in
-    let cause = c.in_err-_ident.field-0.0 in
-    let told : c.from_residual.result ≡ Err cause = search rules in
-    told_refused {A = Option (String Global)} (λ trees. ¬ AreReadableIdents trees db (pos c.args.number)) (λ (trees : Trees) (hits : Vec ℕ Global). AreNumbers (λ n. (n ≡ c.args.number) × is_kept_in trees db n) hits.items)
-    (state g.S.Store c.args.connection.now) (state g.S.Store c.ident_of.new.conn) cause c.from_residual.result told c.in_err-_ident.ensures.honest c.in_err-_ident.ensures.refused.reasoned
+pub returns-in_err-_ident : goal.returns-in_err-_ident
+returns-in_err-_ident g c =
+    looks_handed _ _ _ c.from_residual.result _ _ _ _ c.in_err-_ident.ensures c.from_residual.ensures.1 (λ store hidden. hidden)
 
-pub returns-in_default-clause-units : goal.returns-in_default-clause-units
-returns-in_default-clause-units g c clean store =
+pub returns-in_default : goal.returns-in_default
+returns-in_default g c =
     let trees = (state g.S.Store c.args.connection.now).now.trees in
-    kept_none trees c.args.database.0 c.args.number c.new.result.items
-    (subst (IsIdentOf trees c.args.database.0 (pos c.args.number)) c.in_default.is (c.in_ok-_ident.ensures.value.small clean store (omega arith))) c.new.ensures.items
+    looks_so _ _ _ _ _ _ _ _ c.in_ok-_ident.ensures (λ store found.
+    kept_none trees c.args.database.0 c.args.number c.new.result.items (subst (IsIdentOf trees c.args.database.0 (pos c.args.number)) c.in_default.is (found.small (omega arith))) c.new.ensures.items)
 
-pub returns-clause-units : goal.returns-clause-units
-returns-clause-units g c clean store =
+pub returns-in_err-from_slice : goal.returns-in_err-from_slice
+returns-in_err-from_slice g c =
+    found_refused _ _ _ NoMemory c.from_residual-in_err-from_slice.result _ _ _ _ c.in_ok-_ident.ensures
+    c.from_residual-in_err-from_slice.ensures.1 (λ store found told. cc)
+
+pub returns : goal.returns
+returns g c =
     let trees = (state g.S.Store c.args.connection.now).now.trees in
-    kept_one trees c.args.database.0 c.args.number c.in-Some._ident c.in_ok-from_slice.field-0.items
-    (subst (IsIdentOf trees c.args.database.0 (pos c.args.number)) c.in-Some.is (c.in_ok-_ident.ensures.value.small clean store (omega arith))) c.in_ok-from_slice.ensures.items
+    looks_so _ _ _ _ _ _ _ _ c.in_ok-_ident.ensures (λ store found.
+    kept_one trees c.args.database.0 c.args.number c.in-Some._ident c.in_ok-from_slice.field-0.items (subst (IsIdentOf trees c.args.database.0 (pos c.args.number)) c.in-Some.is (found.small (omega arith))) c.in_ok-from_slice.ensures.items)

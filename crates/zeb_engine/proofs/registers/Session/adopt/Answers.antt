@@ -8,8 +8,8 @@ returns-clause-taken g c clean =
     let old = state g.S.Store c.args.connection in
     let now = c.make_absent_tables.new.connection in
     let new = state g.S.Store now in
-    let idle : IsTrue c.is_autocommit-settled.result = c.is_autocommit-settled.ensures.value ∙ ap not c.make_absent_tables.ensures.idle in
-    let opened : StaysOpen old new = c.in_default.ensures.call.accepted clean in
+    let idle : IsTrue c.is_autocommit-settled.result = c.is_autocommit-settled.ensures.value ∙ ap not c.make_absent_tables.ensures.commanded.idle in
+    let opened : StaysOpen old new = c.in_default.ensures.commanded.call.accepted clean in
     let makes : MakesTables old new = c.in_default.ensures.makes clean in
     let keeps = bears_keeps old new opened makes in
     record {
@@ -40,7 +40,7 @@ pub returns-in-Err-clause-refused : goal.returns-in-Err-clause-refused
 returns-in-Err-clause-refused g c =
     let old = state g.S.Store c.args.connection in
     let new = state g.S.Store c.make_absent_tables.new.connection in (
-      c.make_absent_tables.ensures.idle,
+      c.make_absent_tables.ensures.commanded.idle,
       search rules,
       λ clean.
           let nothing : ChangesNothing old new = search rules in

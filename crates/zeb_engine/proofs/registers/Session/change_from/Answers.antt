@@ -38,7 +38,7 @@ returns-clause-done g c =
     let fresh : c.default-self.result ≡ no_work = search rules in
     let first : HasCleanDisk new → HasCleanDisk mid = λ clean. omega (arith, did.transacts.survives.clean) in
     record {
-      call = commanded_after looked end first answer did.call;
+      call = commanded_after looked end first answer did.commanded.call;
       survives = survives_after old mid new _ _ looked.reads.crash did.transacts.survives (λ clean db made texts told fine before keeps.
           let outcome = turned k (changed_by_files k c.args.kind name (splits_of texts)) in
           let at = held_behind looked end first held.limits clean before keeps in
@@ -46,7 +46,7 @@ returns-clause-done g c =
           ((outcome before).0, (outcome before).1, (refl, refl), done.0, done.1));
       step = λ clean texts told fine. ends_serve (turned k (changed_by_files k c.args.kind name (splits_of texts))) old new answer (λ before fits keeps.
           let at = held_behind looked end first held.limits clean before keeps in
-          law.serves _ _ _ mid _ sound at.2.1 texts told new answer did.call did.transacts fine clean before (λ _. (at.0, at.1)) at.3);
+          law.serves _ _ _ mid _ sound at.2.1 texts told new answer did.commanded.call did.transacts fine clean before (λ _. (at.0, at.1)) at.3);
       does = λ clean.
           let nothing = looked.reads.same (first clean) in
           let opened = looked.reads.opened (first clean) in

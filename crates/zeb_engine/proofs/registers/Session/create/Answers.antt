@@ -33,10 +33,10 @@ returns-clause-done g c =
     let leads : LeadsOn (CreatesDatabase name) (IsReady k) step mid =
     λ before store image known next told does. subst (λ (r : Reply). Leads (showing mid next) r (step before)) (sym does.1) (create_leads k mid name before image known.0 known.1 c.args.name.now.named next does.0 does.2) in
     record {
-      call = commanded_after looked end first answer did.call;
+      call = commanded_after looked end first answer did.commanded.call;
       survives = turn_commits looked end first held.limits (created name) _ (rows_commit (CreatesDatabase name) (IsReady k) step mid leads) did.transacts.survives;
       step = turn_serves looked end first held.limits (created name) answer (λ clean opened. rows_serve (CreatesDatabase name) (IsReady k) step mid leads opened
-          (λ before image known next refusal does. create_refuses k mid name before image known.0 known.1 next refusal does) new answer did.call did.transacts clean);
+          (λ before image known next refusal does. create_refuses k mid name before image known.0 known.1 next refusal does) new answer did.commanded.call did.transacts clean);
       does = λ clean settled. let rows = rows_behind looked end first (CreatesDatabase name) answer did.transacts clean in record {
         ready = texts_after looked end first answer (asked_never answer did.few) clean;
         told = λ store texts. creates_told name old new answer (rows store);

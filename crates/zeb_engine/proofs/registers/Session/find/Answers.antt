@@ -12,5 +12,5 @@ returns-in_err-check_ready-clause-done g c query same =
 pub returns-clause-done : goal.returns-clause-done
 returns-clause-done g c query same =
     let held = c.args.self.now in
-    find_behind g.L.Layout.format g.L.Layout.row_work g.L.Layout.block_rows held.limits c.is_of_some_text.ensures c.in_ok-check_ready.ensures.looks c.find.new.connection c.find.result c.find.ensures.reads c.find.ensures.few
-    c.args.database.now query c.args.question.query.now same held.work c.find.new.work c.requires.fresh c.args.question.first c.args.question.count c.find.ensures.tables c.find.ensures.work
+    find_behind g.L.Layout.format g.L.Layout.row_work g.L.Layout.block_rows held.limits c.is_of_some_text.ensures c.in_ok-check_ready.ensures.looks c.find.new.connection c.find.result c.find.ensures.asks.reads c.find.ensures.asks.few
+    c.args.database.now query c.args.question.query.now same held.work c.find.new.work c.requires.fresh c.args.question.first c.args.question.count c.find.ensures.asks.tables c.find.ensures.work

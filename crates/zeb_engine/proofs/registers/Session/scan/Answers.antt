@@ -12,5 +12,5 @@ returns-in_err-check_ready-clause-done g c query same =
 pub returns-clause-done : goal.returns-clause-done
 returns-clause-done g c query same =
     let held = c.args.self.now in
-    scan_behind g.L.Layout.format g.L.Layout.row_work g.L.Layout.block_rows held.limits c.is_of_some_text.ensures c.in_ok-check_ready.ensures.looks c.scan.new.connection c.scan.result c.scan.ensures.reads c.scan.ensures.few
-    c.args.database.now query c.args.around.query.now same held.work c.scan.new.work c.requires.fresh c.args.around.number c.args.around.position c.scan.ensures.tables c.scan.ensures.work
+    scan_behind g.L.Layout.format g.L.Layout.row_work g.L.Layout.block_rows held.limits c.is_of_some_text.ensures c.in_ok-check_ready.ensures.looks c.scan.new.connection c.scan.result c.scan.ensures.asks.reads c.scan.ensures.asks.few
+    c.args.database.now query c.args.around.query.now same held.work c.scan.new.work c.requires.fresh c.args.around.number c.args.around.position c.scan.ensures.asks.tables c.scan.ensures.work

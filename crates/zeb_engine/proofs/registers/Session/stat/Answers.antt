@@ -12,5 +12,5 @@ returns-in_err-check_ready-clause-done g c =
 pub returns-clause-done : goal.returns-clause-done
 returns-clause-done g c =
     let held = c.args.self.now in
-    stat_behind g.L.Layout.format g.L.Layout.row_work g.L.Layout.block_rows held.limits c.is_of_some_text.ensures c.in_ok-check_ready.ensures.looks c.stat.new.connection c.stat.result c.stat.ensures.reads c.stat.ensures.few
-    c.args.name.now c.stat.ensures.tables held.work c.stat.new.work c.requires.fresh c.stat.ensures.no_work
+    stat_behind g.L.Layout.format g.L.Layout.row_work g.L.Layout.block_rows held.limits c.is_of_some_text.ensures c.in_ok-check_ready.ensures.looks c.stat.new.connection c.stat.result c.stat.ensures.asks.reads c.stat.ensures.asks.few
+    c.args.name.now c.stat.ensures.asks.tables held.work c.stat.new.work c.requires.fresh c.stat.ensures.no_work

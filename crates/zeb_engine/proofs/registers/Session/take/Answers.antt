@@ -33,10 +33,10 @@ returns-clause-done g c =
     let leads : LeadsOn (DropsNamed format name) (IsReady k) step mid =
     λ before store image known next told does. subst (λ (r : Reply). Leads (showing mid next) r (step before)) (sym does.2) (drop_leads k mid name before image known.0 known.1 format refl does.0 does.1 next does.3) in
     record {
-      call = commanded_after looked end first answer did.call;
+      call = commanded_after looked end first answer did.commanded.call;
       survives = turn_commits looked end first held.limits (dropped name) _ (rows_commit (DropsNamed format name) (IsReady k) step mid leads) did.transacts.survives;
       step = turn_serves looked end first held.limits (dropped name) answer (λ clean opened. rows_serve (DropsNamed format name) (IsReady k) step mid leads opened
-          (λ before image known next refusal does. drop_refuses k mid name before image known.0 known.1 refusal does) new answer did.call did.transacts clean);
+          (λ before image known next refusal does. drop_refuses k mid name before image known.0 known.1 refusal does) new answer did.commanded.call did.transacts clean);
       does = λ clean settled. let rows = rows_behind looked end first (DropsNamed format name) answer did.transacts clean in record {
         ready = texts_after looked end first answer (asked_never answer did.few) clean;
         told = λ store texts. drops_told name old new format answer (rows store);
